@@ -1,22 +1,14 @@
 -- The line around a place, and patterns that hold no newline.
-use Rattle.acgrep.proofs.Words.{HoldNoEnding, IsAnswer, IsBefore, IsEnding, IsFirstWith, IsLine, LeftmostFirst, LeftmostLongest, List, MatchKind, Nowhere, Occurrence, OccursIn, Patterns, Some, Span, Standard, ap, arith, cases_lt, drop, eqb-true, folded, get_or, get_or-drop, get_or-take, inl, inr, length, length-drop, length-take-le, pattern_at, plain_search, slice_index, subst, sym, take, true, ℕ, ◌+◌, ◌-◌, ◌<◌, ◌==◌, ◌∙◌, ◌≡◌, ◌≤◌, ◌⊎◌}
+use Rattle.acgrep.proofs.Words.{HoldNoEnding, IsAnswer, IsBefore, IsEnding, IsFirstWith, IsLine, LeftmostFirst, LeftmostLongest, List, MatchKind, Nowhere, Occurrence, OccursIn, Patterns, Some, Span, Standard, ap, arith, cases_lt, common_steps, drop, eqb-true, folded, get_or, get_or-drop, get_or-take, inl, inr, length, length-drop, length-take-le, pattern_at, plain_search, slice_index, subst, sym, take, true, ℕ, ◌+◌, ◌-◌, ◌<◌, ◌==◌, ◌∙◌, ◌≡◌, ◌≤◌, ◌⊎◌}
 use Rattle.std.proofs.Math.ListN.{get_or-map}
 
 -- of the others none ends before the best begins
 best_first : (kind : MatchKind) (m other : Occurrence) → m.start ≤ m.end → other.start ≤ other.end → (other ≡ m) ⊎ IsBefore kind m other → m.start ≤ other.end
-best_first kind m other ordered turned (inl same) = omega (arith, ordered, ap (λ (o : Occurrence). o.end) same)
-best_first Standard m other ordered turned (inr (inl less)) = omega (arith, ordered, less)
-best_first Standard m other ordered turned (inr (inr (same, rest))) = omega (arith, ordered, same)
-best_first LeftmostFirst m other ordered turned (inr (inl less)) = omega (arith, turned, less)
-best_first LeftmostFirst m other ordered turned (inr (inr (same, rest))) = omega (arith, turned, same)
-best_first LeftmostLongest m other ordered turned (inr (inl less)) = omega (arith, turned, less)
-best_first LeftmostLongest m other ordered turned (inr (inr (same, rest))) = omega (arith, turned, same)
+best_first kind m other ordered turned is = grind (arith, common_steps)
 
 -- what an answer starts at lies in the text
 pub starts_within : (p : Patterns) (text : List ℕ) (m : Occurrence) → IsAnswer p (plain_search text) (Some m) → m.start ≤ length text
-starts_within p text m best =
-    let occurs : OccursIn p (plain_search text) m = best.0 in
-    omega (arith, occurs.sized, occurs.before_end)
+starts_within p text m best = grind (arith, common_steps)
 
 module _ (ending : ℕ) where
   -- a newline of the front is one of the text
@@ -40,8 +32,7 @@ module _ (ending : ℕ) where
       elim (cases_lt k at) [
         | inl before ↦ front k low (subst (λ n. k < n) (sym (length-take-le at text within)) before) (front_newline text at k before is)
         | inr behind ↦
-            let same : at + (k - at) ≡ k = omega (arith, behind) in
-            rest (k - at) (omega arith) (omega (arith, high, behind)) (behind_newline text at (k - at) (subst (IsEnding ending text) (sym same) is))
+            rest (k - at) (omega arith) (omega (arith, high, behind)) (behind_newline text at (k - at) (subst (IsEnding ending text) (sym (omega (arith, behind))) is))
       ]
 
   module _ (p : Patterns) (plain : HoldNoEnding ending p) where

@@ -132,8 +132,7 @@ some_text P [] some = absurd some
 some_text P (line ∷ rest) some =
     elim (cases_Bool (is_text line)) [
       | inl is ↦
-          let here : SomeLine P (line ∷ text_lines rest) = subst (λ (b : Bool). SomeLine P (if b then line ∷ text_lines rest else [])) is some in
-          elim here [ inl one ↦ inl one | inr later ↦ inr (some_text P rest later) ]
+          elim (subst (λ (b : Bool). SomeLine P (if b then line ∷ text_lines rest else [])) is some) [ inl one ↦ inl one | inr later ↦ inr (some_text P rest later) ]
       | inr other ↦ absurd (subst (λ (b : Bool). SomeLine P (if b then line ∷ text_lines rest else [])) other some)
     ]
 

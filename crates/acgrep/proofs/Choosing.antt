@@ -1,5 +1,5 @@
 -- Which of the operands are searched.
-use Rattle.acgrep.proofs.Words.{AreChosen, AreReached, Bool, Bor, Chooses, Device, File, Folder, Found, IfSome, IsKept, IsUnknown, Kind, Link, List, None, Option, RuleSaid, Said, Some, Tree, Ways, [], ap, append-nil, append_assoc, arith, cases_Bool, chooses, drop, false, get_or, has_rules, inl, inr, is_folder, is_input, is_left_out, is_passed, kept_of, length, listed_bytes, missed_of, name_bytes, not, or_input, or_parts, passes, refl, subst, sym, take, true, unwrap_or, ways_by, ℕ, ◌++◌, ◌-◌, ◌<◌, ◌||◌, ◌∙◌, ◌∷◌, ◌≡◌, ◌⊎◌}
+use Rattle.acgrep.proofs.Words.{AreChosen, AreReached, Bool, Bor, Chooses, Device, File, Folder, Found, IfSome, IsKept, IsUnknown, Kind, Link, List, None, Option, RuleSaid, Said, Some, Tree, Ways, [], ap, append-nil, append_assoc, arith, cases_Bool, chooses, common_steps, drop, false, get_or, has_rules, inl, inr, is_folder, is_input, is_left_out, is_passed, kept_of, length, listed_bytes, missed_of, name_bytes, not, or_input, or_parts, passes, refl, subst, sym, take, true, unwrap_or, ways_by, ℕ, ◌++◌, ◌-◌, ◌<◌, ◌||◌, ◌∙◌, ◌∷◌, ◌≡◌, ◌⊎◌}
 use Rattle.std.proofs.Common.{take_all}
 
 -- those of the names so far were put down: whichever of the others are searched, those behind them are
@@ -28,29 +28,17 @@ module _ (tree : Tree) (rules : List RuleSaid) (ways : Ways) (all : List (List �
 
 -- where there are no rules, and none is passed over for what it is, all are searched
 kinds_free : (ways : Ways) (kind : Kind) → passes ways ≡ false → is_passed ways kind ≡ false
-kinds_free ways File none = refl
-kinds_free ways Folder none = (or_parts ways.skips_folders (not (unwrap_or ways.devices true)) none).0
-kinds_free ways Link none = refl
-kinds_free ways Device none = (or_parts ways.skips_folders (not (unwrap_or ways.devices true)) none).1
+kinds_free ways kind none = grind (arith, common_steps)
 
 rules_free : (rules : List RuleSaid) (is_folder : Bool) (name : List ℕ) → has_rules rules ≡ false → is_left_out rules is_folder true name ≡ false
-rules_free [] true name none = refl
-rules_free [] false name none = refl
-rules_free (rule ∷ rules) is_folder name none = absurd (cc)
+rules_free rules is_folder name none = grind (arith, common_steps)
 
 module _ (tree : Tree) (rules : List RuleSaid) (ways : Ways) (none : chooses rules ways ≡ false) where
   none_left : (kind : Kind) (name : List ℕ) → not (is_passed ways kind || is_left_out rules (is_folder kind) true name) ≡ true
-  none_left kind name =
-      let (ruleless, wayless) = or_parts (has_rules rules) (passes ways) none in
-      rw (kinds_free ways kind wayless) (rw (rules_free rules (is_folder kind) name ruleless) refl)
+  none_left kind name = grind (arith, common_steps)
 
   is_chosen : (name : List ℕ) (kept : Bool) → IsKept tree rules ways name kept → kept ≡ true
-  is_chosen name kept is = elim (cases_Bool (is_input name)) [
-    | inl input ↦ rw input at is
-    | inr other ↦
-        let looked = rw other at is in
-        elim looked [ inl lost ↦ lost.1 | inr (kind, known, same) ↦ same ∙ none_left kind name ]
-  ]
+  is_chosen name kept is = grind (arith, common_steps)
 
   -- so none has to be looked at
   pub all_kept : (name : List ℕ) → IsKept tree rules ways name true

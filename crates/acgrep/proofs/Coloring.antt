@@ -1,5 +1,5 @@
 -- Matches that are written one after another.
-use Rattle.acgrep.proofs.Words.{Appends, Appends-nil, Appends-trans, AsFields, Bool, Colored, List, Occurrence, OnLines, Option, Place, Style, [], ap, append-nil, append_assoc, behind_by, colored_by, found_by, if◌then◌else◌, match_code, ne_eqb, painted, part_of, refl, rest_behind, shown_from, subst, sym, ℕ, ◌++◌, ◌∙◌, ◌∷◌, ◌≡◌}
+use Rattle.acgrep.proofs.Words.{Appends, Appends-nil, Appends-trans, AsFields, Bool, Colored, List, Occurrence, OnLines, Option, Place, Style, [], ap, append-nil, append_assoc, arith, behind_by, colored_by, common_steps, found_by, if◌then◌else◌, match_code, ne_eqb, painted, part_of, refl, rest_behind, shown_from, subst, sym, ℕ, ◌++◌, ◌∙◌, ◌∷◌, ◌≡◌}
 use Rattle.acgrep.specs.declared.matches.Shape.{Shape}
 
 -- what stands before a match that is not empty, and then the match
@@ -23,14 +23,10 @@ pub record PutSoFar (shape : Shape) (style : Style) (place : Place) (line : List
 
 shown_more : (shape : Shape) (style : Style) (place : Place) (line : List ℕ) (at : ℕ) (m : Occurrence) (rest : List Occurrence)
     → shown_from shape style place line at (m ∷ rest) ≡ found_by shape style place line at m ++ shown_from shape style place line (behind_by shape at m) rest
-shown_more Colored style place line at m rest = refl
-shown_more OnLines style place line at m rest = refl
-shown_more AsFields style place line at m rest = refl
+shown_more shape style place line at m rest = grind (arith, common_steps)
 
 shown_last : (shape : Shape) (style : Style) (place : Place) (line : List ℕ) (at : ℕ) → shown_from shape style place line at [] ≡ rest_behind shape line at
-shown_last Colored style place line at = refl
-shown_last OnLines style place line at = refl
-shown_last AsFields style place line at = refl
+shown_last shape style place line at = grind (arith, common_steps)
 
 module _ (shape : Shape) (style : Style) (place : Place) (line : List ℕ) where
   -- before the first

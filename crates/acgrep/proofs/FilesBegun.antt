@@ -1,5 +1,5 @@
 -- What is written of a file that is not searched to its end.
-use Rattle.acgrep.proofs.Words.{Appends, Appends-trans, AppendsBeginning, BeginsBehind, BeginsFile, BeginsTotal, Bool, Context, Count, IfSome, IsBegin, IsTail, Job, Keeps, Lacking, Lines, List, MatchBool, Matches, Names, None, Nothing, Objects, Option, Patterns, Place, SearchesFile, SearchesFront, Shown, ShowsBy, Some, State, Style, TellsBinary, TellsFirst, TellsFrom, TellsIn, [], and_parts, ap, append-nil, arith, around_by, around_of, binary_by, course, drop, false, inl, inr, is_guarded, lines_by, not, refl, subst, sym, take, take-append-drop, takes_text, total_if, true, walk_of, writes_lines, ℕ, ◌&&◌, ◌++◌, ◌==◌, ◌||◌, ◌∙◌, ◌≡◌, ◌⊎◌}
+use Rattle.acgrep.proofs.Words.{Appends, Appends-trans, AppendsBeginning, BeginsBehind, BeginsFile, BeginsTotal, Bool, Context, Count, IfSome, IsBegin, IsTail, Job, Keeps, Lacking, Lines, List, MatchBool, Matches, Names, None, Nothing, Objects, Option, Patterns, Place, SearchesFile, SearchesFront, Shown, ShowsBy, Some, State, Style, TellsBinary, TellsFirst, TellsFrom, TellsIn, [], and_parts, ap, append-nil, arith, around_by, around_of, binary_by, common_steps, course, drop, false, inl, inr, is_guarded, lines_by, not, refl, subst, sym, take, take-append-drop, takes_text, total_if, true, walk_of, writes_lines, ℕ, ◌&&◌, ◌++◌, ◌==◌, ◌||◌, ◌∙◌, ◌≡◌, ◌⊎◌}
 use Rattle.acgrep.proofs.Begun.{begins_both, begins_nothing, begins_on, nil_front}
 use Rattle.acgrep.proofs.FileTellings.{from_begin, tells_none}
 use Rattle.acgrep.proofs.Grouped.{told_around}
@@ -30,9 +30,7 @@ total_begins job count x y before after bytes none same is (n, within, written) 
 
 -- what follows from lines or matches being written
 pub lines_total : (shown : Shown) (style : Style) (count : ℕ) → writes_lines shown ≡ true → total_if shown style count ≡ []
-lines_total Lines style count is = refl
-lines_total Matches style count is = refl
-lines_total _ style count is = absurd (cc)
+lines_total shown style count is = grind (arith, common_steps)
 
 pub shows_lines : (job : Job) → is_guarded job ≡ true → writes_lines job.shown ≡ true
 shows_lines job guarded = (and_parts (writes_lines job.shown) (job.guards && not (job.style.ending == 0)) guarded).0
@@ -48,9 +46,7 @@ one_none p _ = inr (λ alone invert style place line bytes none. none)
 module _ (p : Patterns) (job : Job) where
   -- nothing is asked of a file as a whole where lines around selected ones are written
   no_total : (shown : Shown) (asked : Option Context) (context : Context) (style : Style) (count : ℕ) → around_by shown asked ≡ Some context → total_if shown style count ≡ []
-  no_total Lines asked context style count is = refl
-  no_total Matches asked context style count is = refl
-  no_total _ asked context style count is = absurd (cc)
+  no_total shown asked context style count is = grind (arith, common_steps)
 
   -- what was told of first lines from the begin of their file on, or what is asked of it as a whole, is nothing
   told_in : (around : Option Context) → around_of job ≡ around → (before : State) (count : ℕ) (first : List (List ℕ)) (told : List ℕ) → IsBegin job before → TellsFrom p job around before count first told
@@ -139,9 +135,7 @@ module _ (p : Patterns) (job : Job) where
       record { text = text; of = of; begins = begins_nothing Tells (lines_by (is_guarded job || takes_text job) job.style.ending text) held held' total told (keeps_nil held held' keeps) }
 
 pub of_kept : (known known' : Option (List ℕ)) (text : List ℕ) → Keeps known known' → IfSome known' (λ (bytes : List ℕ). text ≡ bytes) → IfSome known (λ (bytes : List ℕ). text ≡ bytes)
-of_kept None known' text keeps of = tt
-of_kept (Some xs) None text keeps of = absurd keeps
-of_kept (Some xs) (Some ys) text keeps of = of ∙ keeps
+of_kept known known' text keeps of = grind (arith, common_steps)
 
 -- the bytes of the file are those of its reader
 pub file_known : (p : Patterns) (job : Job) (known known' held held' : Option (List ℕ)) → Keeps known known' → BeginsFile p job known' held held' → BeginsFile p job known held held'

@@ -1,5 +1,5 @@
 -- What was read of a reader so far, up to its end.
-use Rattle.acgrep.proofs.Words.{Consumes, Consumes-nil, Consumes-trans, Consumes-whole, IfSome, IsAtEnd, List, Option, [], append-nil, subst, sym, take, ℕ, ◌++◌, ◌≡◌}
+use Rattle.acgrep.proofs.Words.{Consumes, Consumes-nil, Consumes-trans, Consumes-whole, IfSome, IsAtEnd, List, Option, [], append-nil, arith, common_steps, subst, sym, take, ℕ, ◌++◌, ◌≡◌}
 
 -- nothing
 pub text_begun : (left : Option (List ℕ)) (text : List ℕ) → text ≡ [] → Consumes left left text
@@ -12,6 +12,4 @@ module _ (begin left left' : Option (List ℕ)) (text room : List ℕ) (count : 
 
   -- where that is nothing, it is all
   pub text_whole : count ≡ 0 → Consumes begin left text → Consumes left left' (take count room) → IsAtEnd left' → IfSome begin (λ known. text ≡ known)
-  text_whole none read more ended =
-      Consumes-whole begin left' (text ++ take count room) (λ known. text ≡ known) (Consumes-trans begin left left' text (take count room) read more) ended
-      (subst (λ (n : ℕ). text ≡ text ++ take n room) (sym none) (sym (append-nil text)))
+  text_whole none read more ended = grind (arith, common_steps)

@@ -1,5 +1,5 @@
 -- A walk from line to line writes the lines that are near selected ones.
-use Rattle.acgrep.proofs.Words.{Bool, Context, IsNearChosen, IsNotChosen, IsSelected, Job, List, PassesBy, Patterns, Place, ShowsEach, ShowsGroup, ShowsLine, TellsAround, TellsWritten, Walk, WalksOver, [], after_line, after_lines, and-false, ap, append-nil, append_assoc, arith, behind_passed, beside, cases_Bool, cases_lt, eqb-true, false, first_in, get_or, inl, inr, is_full, leb-false, leb-true, length, length-append, length-map, lt-leb, ltb-false, ltb-true, map, nat_le, nat_lt, one_more, refl, separator_if, subst, suc, sym, true, true≢false, zero, ℕ, ◌&&◌, ◌++◌, ◌+◌, ◌-◌, ◌<◌, ◌==◌, ◌∙◌, ◌∷◌, ◌≡◌, ◌≤◌, ◌⊎◌}
+use Rattle.acgrep.proofs.Words.{Bool, Context, IsNearChosen, IsNotChosen, IsSelected, Job, List, PassesBy, Patterns, Place, ShowsEach, ShowsGroup, ShowsLine, TellsAround, TellsWritten, Walk, WalksOver, [], after_line, after_lines, and-false, ap, append-nil, append_assoc, arith, behind_passed, beside, cases_Bool, cases_lt, common_steps, eqb-true, false, first_in, get_or, inl, inr, is_full, leb-false, leb-true, length, length-append, length-map, lt-leb, ltb-false, ltb-true, map, nat_le, nat_lt, one_more, refl, separator_if, subst, suc, sym, true, true≢false, zero, ℕ, ◌&&◌, ◌++◌, ◌+◌, ◌-◌, ◌<◌, ◌==◌, ◌∙◌, ◌∷◌, ◌≡◌, ◌≤◌, ◌⊎◌}
 use Rattle.acgrep.specs.Contexts.{AreChosen}
 use Rattle.std.proofs.lemmas.List.{get_or-append_right}
 use Rattle.acgrep.proofs.Tellings.{after_append}
@@ -32,9 +32,8 @@ unmarked (line ∷ rest) more zero within = refl
 unmarked (line ∷ rest) more (suc i) within = unmarked rest more i (omega (arith, within))
 
 unmarked_all : (ls : List (List ℕ)) (i : ℕ) → get_or (marks false ls ++ []) i false ≡ false
-unmarked_all [] i = refl
-unmarked_all (line ∷ rest) zero = refl
 unmarked_all (line ∷ rest) (suc i) = unmarked_all rest i
+unmarked_all _ _ = refl
 
 first_more : (place first : Place) (ls : List (List ℕ)) (line : List ℕ) → first_in place first (ls ++ (line ∷ [])) ≡ first
 first_more place first [] line = refl
@@ -45,12 +44,10 @@ first_same place first [] is = sym is
 first_same place first (line ∷ rest) is = refl
 
 no_room : (n : ℕ) → (n == 0) ≡ false → nat_le n 0 ≡ false
-no_room zero some = absurd (true≢false some)
-no_room (suc n) some = lt-leb (suc n) 0 (omega arith)
+no_room n some = grind (arith, common_steps)
 
 some_more : (n : ℕ) → (n == 0) ≡ false → 0 < n
-some_more zero some = absurd (true≢false some)
-some_more (suc n) some = omega arith
+some_more n some = grind (arith, common_steps)
 
 -- where so many lines are due, a line is near too where it is among the first of them
 pub record AreWrittenFrom (context : Context) (due : ℕ) (chosen written : List Bool) : Type 0 where
@@ -204,8 +201,7 @@ module _ (p : Patterns) (job : Job) (context : Context) where
         one,
         next ++ (shown ++ more),
         is_shown,
-        subst (TellsWritten p job context (after_line place first) true false (others ++ (line ∷ rest)) (marks false others ++ (true ∷ chosen)) (marks true others ++ (true ∷ written)))
-            (ap (λ (l : List ℕ). l ++ (next ++ (shown ++ more))) unparted) IH,
+        rw (ap (λ (l : List ℕ). l ++ (next ++ (shown ++ more))) unparted) at IH,
         ap (λ (l : List ℕ). separator_if (context.parted && (some && apart)) job.style ++ l) (ap (λ (l : List ℕ). l ++ (shown ++ more)) is ∙ append_assoc one next (shown ++ more)),
       )
 
@@ -214,14 +210,7 @@ walk place selected due some apart first held = record { place = place; selected
 
 -- two walks are the same where their parts are
 pub walk_same : (a b : Walk) → a.place ≡ b.place → a.selected ≡ b.selected → a.due ≡ b.due → a.some ≡ b.some → a.apart ≡ b.apart → a.first ≡ b.first → a.held ≡ b.held → a ≡ b
-walk_same a b place selected due some apart first held =
-    ap (λ (at : Place). walk at a.selected a.due a.some a.apart a.first a.held) place
-    ∙ ap (λ (n : ℕ). walk b.place n a.due a.some a.apart a.first a.held) selected
-    ∙ ap (λ (n : ℕ). walk b.place b.selected n a.some a.apart a.first a.held) due
-    ∙ ap (λ (t : Bool). walk b.place b.selected b.due t a.apart a.first a.held) some
-    ∙ ap (λ (t : Bool). walk b.place b.selected b.due b.some t a.first a.held) apart
-    ∙ ap (λ (at : Place). walk b.place b.selected b.due b.some b.apart at a.held) first
-    ∙ ap (λ (h : List (List ℕ)). walk b.place b.selected b.due b.some b.apart b.first h) held
+walk_same a b place selected due some apart first held = grind (arith, common_steps)
 
 -- what a walk keeps: held lines stand before its place, and none is held while some are due
 pub record IsKept (context : Context) (w : Walk) : Type 0 where
@@ -313,9 +302,8 @@ module _ (p : Patterns) (job : Job) (context : Context) where
     chosen = false ∷ IH.chosen;
     written = false ∷ IH.written;
     are_chosen = (passed, IH.are_chosen);
-    are_written = subst (λ (n : ℕ). AreWrittenFrom context n (false ∷ IH.chosen) (false ∷ IH.written)) (sym past)
-        (written_far context IH.chosen IH.written (λ at low. let here : at ≡ 0 = omega (arith, low, none) in ap (λ (n : ℕ). get_or (false ∷ IH.chosen) n false) here)
-        (subst (λ (n : ℕ). AreWrittenFrom context n IH.chosen IH.written) past IH.are_written));
+    are_written = rw past (written_far context IH.chosen IH.written (λ at low. let here : at ≡ 0 = omega (arith, low, none) in ap (λ (n : ℕ). get_or (false ∷ IH.chosen) n false) here)
+        (rw past at IH.are_written));
     tells = IH.tells;
   }
 
@@ -325,17 +313,12 @@ module _ (p : Patterns) (job : Job) (context : Context) where
       → Grouped p job context (walk (after_line place line) selected due some apart (first_in place first held) (held ++ (line ∷ []))) rest more total
       → Grouped p job context (walk place selected due some apart first held) (line ∷ rest) more total
   group_held place selected due some apart first held line rest more total passed IH =
-      let start = first_in place first held in
       record {
         chosen = false ∷ IH.chosen;
         written = IH.written;
         are_chosen = (passed, IH.are_chosen);
-        are_written = subst (λ (l : List Bool). AreWrittenFrom context due l IH.written) (marks_more held line IH.chosen) IH.are_written;
-        tells = subst (λ (at : Place). TellsWritten p job context at some apart (held ++ (line ∷ rest)) (marks false held ++ (false ∷ IH.chosen)) IH.written more)
-            (first_more (after_line place line) start held line)
-            (subst (λ (l : List Bool). TellsWritten p job context (first_in (after_line place line) start (held ++ (line ∷ []))) some apart (held ++ (line ∷ rest)) l IH.written more) (marks_more held line IH.chosen)
-            (subst (λ (l : List (List ℕ)). TellsWritten p job context (first_in (after_line place line) start (held ++ (line ∷ []))) some apart l (marks false (held ++ (line ∷ [])) ++ IH.chosen) IH.written more)
-            (append_assoc held (line ∷ []) rest) IH.tells));
+        are_written = rw (marks_more held line IH.chosen) at IH.are_written;
+        tells = rw (first_more (after_line place line) (first_in place first held) held line) at (rw (marks_more held line IH.chosen) at (rw (append_assoc held (line ∷ []) rest) at IH.tells));
       }
 
   -- and the first held one is not near
@@ -351,12 +334,9 @@ module _ (p : Patterns) (job : Job) (context : Context) where
         chosen = IH'.chosen;
         written = false ∷ IH'.written;
         are_chosen = IH'.are_chosen;
-        are_written = subst (λ (n : ℕ). AreWrittenFrom context n (false ∷ (marks false held ++ (false ∷ IH.chosen))) (false ∷ IH'.written)) (sym past)
-            (written_far context (marks false held ++ (false ∷ IH.chosen)) IH'.written
-            (λ at low. unmarked (other ∷ held) IH.chosen at (omega (arith, low, long)))
-            (subst (λ (n : ℕ). AreWrittenFrom context n (marks false held ++ (false ∷ IH.chosen)) IH'.written) past IH'.are_written));
-        tells = subst (λ (at : Place). TellsWritten p job context at some true (held ++ (line ∷ rest)) (marks false held ++ (false ∷ IH.chosen)) IH'.written more)
-            (first_same place second held placed) IH'.tells;
+        are_written = rw past (written_far context (marks false held ++ (false ∷ IH.chosen)) IH'.written
+            (λ at low. unmarked (other ∷ held) IH.chosen at (omega (arith, low, long))) (rw past at IH'.are_written));
+        tells = rw (first_same place second held placed) at IH'.tells;
       }
 
   held_short : (held : List (List ℕ)) (line : List ℕ) (n : ℕ) → length held < n → length (held ++ (line ∷ [])) ≤ n

@@ -20,10 +20,9 @@ starts_behind (byte ∷ front) all first is = ap (λ l. byte ∷ l) (starts_behi
 runs_front : (covering : Covering) (before : List (List ℕ)) (first : List Line) (line : Line) (more : List (List Occurrence)) (own : List Occurrence) → AreLineRuns covering before (first ++ line ∷ []) (more ++ own ∷ [])
     → length first ≡ length more → AreLineRuns covering before first more
 runs_front covering before [] line [] own are same = tt
-runs_front covering before [] line (runs ∷ more) own are same = absurd (omega (arith, same))
-runs_front covering before (one ∷ first) line [] own are same = absurd (omega (arith, same))
 runs_front covering before (one ∷ first) line (runs ∷ more) own are same =
     (are.0, runs_front covering (before ++ seen_line covering.most one.bytes ∷ []) first line more own are.1 (omega (arith, same)))
+runs_front covering before _ line _ own are same = absurd (omega (arith, same))
 
 -- lines without the last are first lines too
 first_front : (first : List Line) (line : Line) (all : List Line) → AreFirstLines (first ++ line ∷ []) all → AreFirstLines first all
@@ -37,19 +36,17 @@ lines_append most (one ∷ first) line = ap (λ l. seen_line most one.bytes ∷ 
 marked_append : (asked : FileAsked) (pass : Pass) (first : List (List ℕ)) (line : List ℕ) (more : List (List Occurrence)) (own : List Occurrence) → length first ≡ length more
     → marked_lines asked pass (first ++ line ∷ []) (more ++ own ∷ []) ≡ marked_lines asked pass first more ++ marked_line asked (pass_after pass first more).place line own
 marked_append asked pass [] line [] own same = append-nil (marked_line asked pass.place line own)
-marked_append asked pass [] line (runs ∷ more) own same = absurd (omega (arith, same))
-marked_append asked pass (one ∷ first) line [] own same = absurd (omega (arith, same))
 marked_append asked pass (one ∷ first) line (runs ∷ more) own same =
     let next = pass_behind pass one runs in
     ap (λ l. marked_line asked pass.place one runs ++ l) (marked_append asked next first line more own (omega (arith, same)))
     ∙ sym (append_assoc (marked_line asked pass.place one runs) (marked_lines asked next first more) (marked_line asked (pass_after next first more).place line own))
+marked_append asked pass _ line _ own same = absurd (omega (arith, same))
 
 after_append : (pass : Pass) (first : List (List ℕ)) (line : List ℕ) (more : List (List Occurrence)) (own : List Occurrence) → length first ≡ length more
     → pass_after pass (first ++ line ∷ []) (more ++ own ∷ []) ≡ pass_behind (pass_after pass first more) line own
 after_append pass [] line [] own same = refl
-after_append pass [] line (runs ∷ more) own same = absurd (omega (arith, same))
-after_append pass (one ∷ first) line [] own same = absurd (omega (arith, same))
 after_append pass (one ∷ first) line (runs ∷ more) own same = after_append (pass_behind pass one runs) first line more own (omega (arith, same))
+after_append pass _ line _ own same = absurd (omega (arith, same))
 
 seen_length : (most : ℕ) (lines : List Line) → length (seen_lines most lines) ≡ length lines
 seen_length most [] = refl
@@ -75,8 +72,6 @@ module _ {V W : Type 0} (L : VisitorGhosts V) (K : SinkGhosts W) (most : ℕ) (o
     written = subst (λ (v : V). Appends (K.taken (output_of visitor).now) (K.taken (output_of v).now) []) (sym is) (Appends-nil (K.taken (output_of visitor).now));
     comes = ap pass_in is;
   }
-  each_written visitor visitor' [] (own ∷ runs) is = absurd is
-  each_written visitor visitor' (line ∷ lines) [] is = absurd is
   each_written visitor visitor' (line ∷ lines) (own ∷ runs) (next, visits, rest) =
       let one = writes visitor next (taken_line most line) own visits in
       let later = each_written next visitor' lines runs rest in
@@ -93,6 +88,7 @@ module _ {V W : Type 0} (L : VisitorGhosts V) (K : SinkGhosts W) (most : ℕ) (o
             (marked_line asked (pass_in visitor).place (seen_line most line.bytes) own) (marked_lines asked behind seen runs) one.written more;
         comes = later.comes ∙ ap (λ (p : Pass). pass_after p seen runs) one.behind;
       }
+  each_written visitor visitor' _ _ is = absurd is
 
   -- some lines were taken whole, and a beginning of what is asked of some was written
   record StopsEach (covering : Covering) (visitor visitor' : V) (lines : List Line) (runs : List (List Occurrence)) : Type 0 where
@@ -155,8 +151,8 @@ module _ {V W : Type 0} (L : VisitorGhosts V) (K : SinkGhosts W) (most : ℕ) (o
           | inl kept ↦ record {
             same = stop_last.same ∙ each_first.same;
             part = front ++ take count rest;
-            begins = subst (λ l. StartsWith l (front ++ take count rest)) (sym all_is) (starts_behind front rest (take count rest) (starts_taken rest count));
-            written = Appends-trans (K.taken (output_of visitor).now) (K.taken (output_of between).now) (K.taken (output_of visitor').now) front (take count rest) each_first.written stop_last.begun.2;
+            begins = subst (λ l. StartsWith l (front ++ take count rest)) (sym all_is) (starts_behind _ rest (take count rest) (starts_taken rest _));
+            written = Appends-trans _ _ _ _ (take count rest) each_first.written stop_last.begun.2;
             passed = first;
             own = more;
             are = λ are. runs_front covering [] first line more own are each_first.as_many;
@@ -166,14 +162,13 @@ module _ {V W : Type 0} (L : VisitorGhosts V) (K : SinkGhosts W) (most : ℕ) (o
           | inr moved ↦ record {
             same = stop_last.same ∙ each_first.same;
             part = front ++ take count rest;
-            begins = subst (λ l. StartsWith l (front ++ take count rest)) (sym all_is) (starts_behind front rest (take count rest) (starts_taken rest count));
-            written = Appends-trans (K.taken (output_of visitor).now) (K.taken (output_of between).now) (K.taken (output_of visitor').now) front (take count rest) each_first.written stop_last.begun.2;
+            begins = subst (λ l. StartsWith l (front ++ take count rest)) (sym all_is) (starts_behind _ rest (take count rest) (starts_taken rest _));
+            written = Appends-trans _ _ _ _ (take count rest) each_first.written stop_last.begun.2;
             passed = first ++ line ∷ [];
             own = more ++ own ∷ [];
             are = λ are. are;
             first = λ all is. is;
-            comes = moved.0 ∙ ap (λ (p : Pass). pass_behind p seen_last own) each_first.comes
-                ∙ sym (after_append (pass_in visitor) (seen_lines most first) seen_last more own as_many)
+            comes = moved.0 ∙ ap (λ (p : Pass). pass_behind p seen_last own) each_first.comes ∙ sym (after_append _ _ seen_last more own as_many)
                 ∙ ap (λ (l : List (List ℕ)). pass_after (pass_in visitor) l (more ++ own ∷ [])) (sym (lines_append most first line));
           }
         ]
@@ -181,9 +176,7 @@ module _ {V W : Type 0} (L : VisitorGhosts V) (K : SinkGhosts W) (most : ℕ) (o
   stops_within : (covering : Covering) (visitor visitor' : V) (lines : List Line) (runs : List (List Occurrence)) (error : LineError) → StopsWithin L most visitor visitor' lines runs error → StopsEach covering visitor visitor' lines runs
   stops_within covering visitor visitor' lines runs error (inl is) = stops_whole covering visitor visitor' lines runs is.0
   stops_within covering visitor visitor' lines runs error (inr last) =
-      subst (λ (r : List (List Occurrence)). StopsEach covering visitor visitor' lines r) (sym last.runs_are)
-      (subst (λ (l : List Line). StopsEach covering visitor visitor' l (last.more ++ last.own ∷ [])) (sym last.lines_are)
-      (stops_at_last covering visitor visitor' last.first last.line last.more last.own last.between last.cause last.visits last.stops))
+      rw last.runs_are (rw last.lines_are (stops_at_last covering visitor visitor' last.first last.line last.more last.own last.between last.cause last.visits last.stops))
 
   module _ {R : Type 0} (S : SourceGhosts R) (Searched : Patterns → Type 0) (words : Bool) (rules : List Rule) (p : Patterns) (sought : Searched p) (source source' : R) (visitor visitor' : V) where
     lines_ended : VisitsLines S L Searched words rules most source source' visitor visitor'

@@ -8,10 +8,9 @@ module _ {E : Type 0} (K : SinkGhosts E) where
   some-told names old new told = some-weaker K (IsMessage names) IsMarkTold old new (λ line is. inl (names, is)) told
 
   outcome-by : (names : List (List ℕ)) (hushed : Bool) (outcome : Outcome) (old new : Errors E) → TellsOutcome K (IsMessage names) hushed outcome old new → TellsOutcome K IsMarkTold hushed outcome old new
-  outcome-by names hushed (Searched any) old new told = told
-  outcome-by names true Unread old new told = told
   outcome-by names false Unread old new told = some-told names old new told
   outcome-by names hushed Stopped old new told = some-told names old new told
+  outcome-by names _ _ old new told = told
 
   pub outcome-told : (hushed : Bool) (name : List ℕ) (outcome : Outcome) (old new : Errors E) → TellsOfOutcome K hushed name outcome old new → TellsOutcome K IsMarkTold hushed outcome old new
   outcome-told hushed name outcome old new told = outcome-by (name ∷ []) hushed outcome old new (told (name ∷ []) (λ asked. inl refl))

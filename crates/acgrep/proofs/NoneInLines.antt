@@ -1,18 +1,14 @@
 -- What occurs in no line of a text does not occur in it.
-use Rattle.acgrep.proofs.Words.{EachLine, HasNone, HoldNoEnding, IsEnding, IsSameWord, List, No, Nowhere, Occurrence, Occurs, Occurs-in, Occurs-moved_back, OccursIn, Patterns, [], ap, arith, cases_Bool, cases_lt, drop, false, inl, inr, length, length-drop, length-take-le, lines, moved_back, pattern_at, plain_search, slice_range, subst, suc, sym, take, take_all, true≢false, zero, ℕ, ◌+◌, ◌-◌, ◌<◌, ◌==◌, ◌∙◌, ◌∷◌, ◌≡◌, ◌≤◌}
+use Rattle.acgrep.proofs.Words.{EachLine, HasNone, HoldNoEnding, IsEnding, IsSameWord, List, No, Nowhere, Occurrence, Occurs, Occurs-in, Occurs-moved_back, OccursIn, Patterns, [], ap, arith, cases_Bool, cases_lt, common_steps, drop, false, inl, inr, length, length-drop, length-take-le, lines, moved_back, pattern_at, plain_search, slice_range, subst, suc, sym, take, take_all, true≢false, zero, ℕ, ◌+◌, ◌-◌, ◌<◌, ◌==◌, ◌∙◌, ◌∷◌, ◌≡◌, ◌≤◌}
 use Rattle.acgrep.proofs.Around.{ends_before}
 use Rattle.acgrep.proofs.FirstLines.{lines_first}
 use Rattle.acgrep.proofs.LineLists.{drop_zero, take_zero}
 
 slice_front : (text : List ℕ) (end : ℕ) → slice_range text 0 end ≡ take end text
-slice_front text end =
-    let count : end - 0 ≡ end = omega arith in
-    ap (λ (n : ℕ). take n (drop 0 text)) count ∙ ap (take end) (drop_zero text)
+slice_front text end = grind (arith, common_steps)
 
 pub slice_back : (text : List ℕ) (at : ℕ) → slice_range text at (length text) ≡ drop at text
-slice_back text at =
-    let short : length (drop at text) ≤ length text - at = omega (arith, length-drop at text) in
-    take_all (length text - at) (drop at text) short
+slice_back text at = grind (arith, common_steps)
 
 module _ (ending : ℕ) where
   -- where the first line of a text ends
@@ -69,8 +65,7 @@ module _ (ending : ℕ) where
           | inr low ↦ none (moved_back 0 m) (in_front text first.end m first.within (ends_before ending p plain text first.end m occurs low first.newline) occurs)
           | inl high ↦
               let at = suc first.end in
-              let within : at ≤ length text = omega (arith, high, full, occurs.before_end) in
-              none_full n (drop at text) (omega (arith, length-drop at text, short, some)) rest (moved_back at m) (in_back text at m within (omega (arith, high)) occurs)
+              none_full n (drop at text) (omega (arith, length-drop at text, short, some)) rest (moved_back at m) (in_back text at m (omega (arith, high, full, occurs.before_end)) (omega (arith, high)) occurs)
               (omega (arith, full, high))
         ]
 

@@ -1,5 +1,5 @@
 -- What may be told of the files that operands name.
-use Rattle.acgrep.proofs.Words.{AreReached, Bool, Errors, Flags, IsMessage, IsOneOf, List, MaySay, Nothing, Origin, Said, SinkGhosts, Tells, TellsMissed, TellsOfFile, TellsSome, TellsStatus, Tree, [], and_parts, ap, arith, cases_Bool, false, files_told, if◌then◌else◌, inl, inr, length, names_told, or_input, refl, shown_by, shown_names, some-tells, some-then, some-weaker, source_names, status_reached, subst, sym, tells-none, tells-then, tells-weaker, then-some, true, ℕ, ◌&&◌, ◌++◌, ◌<◌, ◌==◌, ◌∷◌, ◌≡◌, ◌≤◌}
+use Rattle.acgrep.proofs.Words.{AreReached, Bool, Errors, Flags, IsMessage, IsOneOf, List, MaySay, Nothing, Origin, Said, SinkGhosts, Tells, TellsMissed, TellsOfFile, TellsSome, TellsStatus, Tree, [], and_parts, ap, arith, cases_Bool, common_steps, false, files_told, if◌then◌else◌, inl, inr, length, names_told, or_input, refl, shown_by, shown_names, some-tells, some-then, some-weaker, source_names, status_reached, subst, sym, tells-none, tells-then, tells-weaker, then-some, true, ℕ, ◌&&◌, ◌++◌, ◌<◌, ◌==◌, ◌∷◌, ◌≡◌, ◌≤◌}
 use Rattle.acgrep.proofs.Told.{AreWithin, among-first, among-later, message-more, status-some, status-weaker, within-cut}
 
 -- a message of sources of patterns may be told of a search
@@ -14,9 +14,8 @@ some-sources K tree given sources names old new told = some-weaker K (IsMessage 
 
 pub sources-told : {E : Type 0} (K : SinkGhosts E) (tree : Tree) (given : Said) (sources : List Origin) (names : List (List ℕ)) (old mid new : Errors E) → mid ≡ old
     → TellsSome K (IsMessage (source_names sources)) mid new → TellsStatus K (MaySay tree given sources names) given.flags.no_messages (shown_by given.flags) 2 old new
-sources-told K tree given sources names old mid new silent told =
-    status-some K (MaySay tree given sources names) given.flags.no_messages (shown_by given.flags) old new
-    (subst (λ (e : Errors _). TellsSome K (MaySay tree given sources names) e new) silent (some-sources K tree given sources names mid new told))
+sources-told K tree given sources names old mid new silent told = status-some K (MaySay tree given sources names) given.flags.no_messages (shown_by given.flags) old new
+    (rw silent at (some-sources K tree given sources names mid new told))
 
 -- and what may be told of its files
 pub may-behind : (tree : Tree) (given : Said) (sources : List Origin) (names : List (List ℕ)) (line : List ℕ) → MaySay tree given [] names line → MaySay tree given sources names line
@@ -27,25 +26,14 @@ may-behind tree given sources names line (inr reached) = inr reached
 
 -- a status that tells of no error is that of the search
 pub reached-low : (flags : Flags) (unread : List (List ℕ)) (found : ℕ) → status_reached flags unread found < 2 → found < 2
-reached-low flags [] found low = low
-reached-low flags (name ∷ names) found low = elim (cases_Bool (flags.quiet && (found == 0))) [
-  | inl enough ↦ rw enough at low
-  | inr not ↦ let two = rw not at low in absurd (omega (arith, two))
-]
+reached-low flags unread found low = grind (arith, common_steps)
 
 pub reached-bound : (flags : Flags) (unread : List (List ℕ)) (found : ℕ) → found ≤ 2 → status_reached flags unread found ≤ 2
-reached-bound flags [] found bound = bound
-reached-bound flags (name ∷ names) found bound = elim (cases_Bool (flags.quiet && (found == 0))) [
-  | inl enough ↦ rw enough bound
-  | inr not ↦ rw not (omega arith)
-]
+reached-bound flags unread found bound = grind (arith, common_steps)
 
 -- where something cannot be read it is one under `-q` alone
 pub reached-quiet : (flags : Flags) (name : List ℕ) (names : List (List ℕ)) (found : ℕ) → status_reached flags (name ∷ names) found < 2 → flags.quiet ≡ true
-reached-quiet flags name names found low = elim (cases_Bool (flags.quiet && (found == 0))) [
-  | inl enough ↦ (and_parts flags.quiet (found == 0) enough).0
-  | inr not ↦ let two = rw not at low in absurd (omega (arith, two))
-]
+reached-quiet flags name names found low = grind (arith, common_steps)
 
 pub shown-quiet : (flags : Flags) → flags.quiet ≡ true → shown_by flags ≡ Nothing
 shown-quiet flags quiet = rw quiet refl
@@ -137,8 +125,4 @@ module _ {E : Type 0} (K : SinkGhosts E) (all : List (List ℕ)) where
   }
 
   pub told-hushed : (e : Errors E) → TellsMissed K true all e e
-  told-hushed e = record {
-    tells = tells-none K (IsMessage all) e;
-    none = λ which. refl;
-    some = λ asked. absurd (cc);
-  }
+  told-hushed e = record { tells = tells-none _ _ _; none = λ which. refl; some = λ asked. absurd (cc) }

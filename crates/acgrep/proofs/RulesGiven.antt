@@ -26,8 +26,7 @@ all_next holds names left name rest now next rules rules' so_far added left' lat
 
 pub all_end : (holds : List ℕ → Option (List ℕ)) (names : List (List ℕ)) (left : Option (List ℕ)) (rest : List (List ℕ)) (now : Option (List ℕ)) (rules : List Rule) → rest ≡ [] → AllSoFar holds names left rest now rules
     → AreAllRules holds names left now rules
-all_end holds names left rest now rules none so_far =
-    subst (λ (l : List Rule). AreAllRules holds names left now l) (append-nil rules) (so_far now [] (subst (λ (l : List (List ℕ)). AreAllRules holds l now now []) (sym none) (refl, refl)))
+all_end holds names left rest now rules none so_far = rw (append-nil rules) at (so_far now [] (rw none (refl, refl)))
 
 -- where no name is left
 pub names_end : (names : List (Bor (List ℕ))) → length names ≡ 0 → name_bytes names ≡ []

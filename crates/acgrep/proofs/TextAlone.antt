@@ -15,8 +15,7 @@ module _ (p : Patterns) (job : Job) (alone : Bool) (is_alone : takes_text job �
       ∙ ap (lines_by alone job.style.ending) (append_assoc searched rest more) ∙ by_behind alone job.style.ending searched (rest ++ more) whole text
 
   sought_same : (text searched : List ℕ) → text ≡ searched → TextIf alone searched → lines_sought job text ≡ lines job.style.ending searched
-  sought_same text searched same is =
-      ap (λ (b : Bool). lines_by b job.style.ending text) is_alone ∙ ap (lines_by alone job.style.ending) same ∙ by_same alone job.style.ending searched is
+  sought_same text searched same is = ap (λ (b : Bool). lines_by b job.style.ending text) is_alone ∙ ap (lines_by alone job.style.ending) same ∙ by_same _ _ _ is
 
   -- no line with a zero byte came, or none that is to be told of
   past_searched : (before state : State) (left left' held meanwhile held' : Option (List ℕ)) → IsBegin job before → SearchesPast p job alone (course before state held meanwhile left left') [] → (any : Bool)

@@ -86,9 +86,8 @@ module _ {E : Type 0} (K : SinkGhosts E) (P : List ℕ → Type 0) where
       → TellsIf K P hushed (seen_after shown seen outcome).failed old new
   if-more hushed old mid new (Searched any) shown seen before now = subst (λ (e : Errors E). TellsIf K P hushed seen.failed old e) (sym now) before
   if-more true old mid new Unread shown seen before now = subst (Tells K P old) (sym now) (if-tells true seen.failed old mid before)
-  if-more false old mid new Unread shown seen before now = then-some K P old mid new (if-tells false seen.failed old mid before) now
   if-more true old mid new Stopped shown seen before now = some-tells K P old new (then-some K P old mid new (if-tells true seen.failed old mid before) now)
-  if-more false old mid new Stopped shown seen before now = then-some K P old mid new (if-tells false seen.failed old mid before) now
+  if-more false old mid new _ shown seen before now = then-some K P old mid new (if-tells false seen.failed old mid before) now
 
   -- nothing is told, and the status tells of no error
   pub status-none : (hushed : Bool) (shown : Shown) (status : ℕ) (e : Errors E) → status < 2 → TellsStatus K P hushed shown status e e
@@ -175,13 +174,7 @@ within-cut first rest names all cut within =
 pub not-quiet : (quiet names lacking count json only : Bool)
     → (if quiet then Nothing else if names then Names else if lacking then Lacking else if count then Count else if json then Objects else if only then Matches else Lines) ≡ Nothing
     → quiet ≡ false → ⊥
-not-quiet true names lacking count json only is loud = absurd (cc)
-not-quiet false true lacking count json only is loud = absurd (cc)
-not-quiet false false true count json only is loud = absurd (cc)
-not-quiet false false false true json only is loud = absurd (cc)
-not-quiet false false false false true only is loud = absurd (cc)
-not-quiet false false false false false true is loud = absurd (cc)
-not-quiet false false false false false false is loud = absurd (cc)
+not-quiet quiet names lacking count json only is loud = grind (arith, common_steps)
 
 module _ {E : Type 0} (K : SinkGhosts E) (names : List (List ℕ)) (P : List ℕ → Type 0) (may : (line : List ℕ) → IsMessage names line → P line) where
   -- what was told before a last flush, and of it
@@ -215,9 +208,7 @@ pub sources-cut : (sources : List Source) (other : Source) (all : List (List ℕ
     → IsOneOf (origin_of (get_or sources 0 other)).bytes all × AreWithin (source_names (origins_of (take (length sources - 1) (drop 1 sources)))) all
 sources-cut [] other all some within = absurd (omega (arith, some))
 sources-cut (source ∷ sources) other all some within =
-    let rest : take (length (source ∷ sources) - 1) sources ≡ sources = take_all (length (source ∷ sources) - 1) sources (omega arith) in
-    within-cut (origin_of source).bytes (source_names (origins_of (take (length (source ∷ sources) - 1) sources))) (source_names (origins_of (source ∷ sources))) all
-    (ap (λ (l : List Source). (origin_of source).bytes ∷ source_names (origins_of l)) (sym rest)) within
+    within-cut _ _ _ _ (ap (λ (l : List Source). (origin_of source).bytes ∷ source_names (origins_of l)) (sym (take_all (length (source ∷ sources) - 1) sources (omega arith)))) within
 
 -- what may be told of a call may be where its arguments say this
 pub told-said : (known : Known) (left : Option (List ℕ)) (given : Option Said) (line : List ℕ) → MayTell (names_said given) line → MaySaid known left given line

@@ -1,5 +1,5 @@
 -- What a walk through folders finds.
-use Rattle.acgrep.proofs.Words.{AreBelow, AreFiles, Begins, Bool, Bor, Device, Enters, File, FindsFiles, Folder, Found, HoldsNames, IfSome, IsKind, IsLost, IsPermutation-trans, Kind, Link, List, Loses, MatchBool, None, Option, PutsInside, RuleSaid, Some, Spot, Tree, Ways, [], ap, arith, codes, drop, entered, false, files_by, get_or, get_or-map, inl, input, inr, inside, is_folder, is_lost_left, is_spot_left, is_standard, left, length, length-map, listed_bytes, looked, lost, map, map-append, missed, missed_of, name_bytes, nat_cmp, none, operand, refl, slice_cmp, subst, sym, take, take_all, true, unlisted, ℕ, ◌++◌, ◌+◌, ◌-◌, ◌<◌, ◌∙◌, ◌∷◌, ◌≡◌}
+use Rattle.acgrep.proofs.Words.{AreBelow, AreFiles, Begins, Bool, Bor, Device, Enters, File, FindsFiles, Folder, Found, HoldsNames, IfSome, IsKind, IsLost, IsPermutation-trans, Kind, Link, List, Loses, MatchBool, None, Option, PutsInside, RuleSaid, Some, Spot, Tree, Ways, [], ap, arith, codes, common_steps, drop, entered, false, files_by, get_or, get_or-map, inl, input, inr, inside, is_folder, is_lost_left, is_spot_left, is_standard, left, length, length-map, listed_bytes, looked, lost, map, map-append, missed, missed_of, name_bytes, nat_cmp, none, operand, refl, slice_cmp, subst, sym, take, take_all, true, unlisted, ℕ, ◌++◌, ◌+◌, ◌-◌, ◌<◌, ◌∙◌, ◌∷◌, ◌≡◌}
 use Rattle.std.specs.List.Sorted.{IsPermutation, IsSorted, IsSortedBy}
 use Rattle.std.proofs.lemmas.List.{append-nil, append_assoc}
 
@@ -37,22 +37,17 @@ module _ (tree : Tree) (rules : List RuleSaid) (ways : Ways) (operands : List (L
         let all = so_far.leads (step.files ++ files) (step.unread ++ unread) (step.leads files unread are) in
         let names : listed_bytes old.names.items ++ (step.files ++ files) ≡ listed_bytes new.names.items ++ files = sym (append_assoc (listed_bytes old.names.items) step.files files) ∙ ap (λ l. l ++ files) (sym step.names) in
         let others : missed_of old.unread.items ++ (step.unread ++ unread) ≡ missed_of new.unread.items ++ unread = sym (append_assoc (missed_of old.unread.items) step.unread unread) ∙ ap (λ l. l ++ unread) (sym step.missed) in
-        subst (λ (l : List (List ℕ)). AreBelow tree rules ways operands (listed_bytes new.names.items ++ files) l) others
-        (subst (λ (l : List (List ℕ)). AreBelow tree rules ways operands l (missed_of old.unread.items ++ (step.unread ++ unread))) names all);
+        rw others at (rw names at all);
   }
 
   -- and ends where nothing is left
   pub begins-end : (found : Found) → Begins tree rules ways operands [] found → AreBelow tree rules ways operands (listed_bytes found.names.items) (missed_of found.unread.items)
-  begins-end found so_far =
-      subst (λ (l : List (List ℕ)). AreBelow tree rules ways operands (listed_bytes found.names.items) l) (append-nil (missed_of found.unread.items))
-      (subst (λ (l : List (List ℕ)). AreBelow tree rules ways operands l (missed_of found.unread.items ++ [])) (append-nil (listed_bytes found.names.items)) (so_far.leads [] [] none))
+  begins-end found so_far = rw (append-nil (missed_of found.unread.items)) at (rw (append-nil (listed_bytes found.names.items)) at (so_far.leads [] [] none))
 
   -- it begins at operands, if there are some
   pub begins-given : (found : Found) → 0 < length operands → listed_bytes found.names.items ≡ [] → missed_of found.unread.items ≡ [] → Begins tree rules ways operands (map operand operands) found
   begins-given found some clean empty = record {
-    leads = λ files unread are.
-        subst (λ (l : List (List ℕ)). AreBelow tree rules ways operands (l ++ files) (missed_of found.unread.items ++ unread)) (sym clean)
-        (subst (λ (l : List (List ℕ)). AreBelow tree rules ways operands files (l ++ unread)) (sym empty) (given operands some files unread are));
+    leads = λ files unread are. rw clean (rw empty (given operands some files unread are));
   }
     where
       given : (names : List (List ℕ)) → 0 < length names → (files unread : List (List ℕ)) → AreFiles tree rules ways (map operand names) files unread → AreBelow tree rules ways names files unread
@@ -65,9 +60,7 @@ module _ (tree : Tree) (rules : List RuleSaid) (ways : Ways) (found : Found) whe
       → listed_bytes found.names.items ≡ [] → missed_of found.unread.items ≡ [] → Begins tree rules ways [] spots found
   begins-here names spots listed puts clean empty = record {
     leads = λ files unread are.
-        let all : AreFiles tree rules ways (map (inside []) puts.ordered) files unread = subst (λ (l : List Spot). AreFiles tree rules ways l files unread) (puts.put ∙ append-nil (map (inside []) puts.ordered)) are in
-        subst (λ (l : List (List ℕ)). AreBelow tree rules ways [] (l ++ files) (missed_of found.unread.items ++ unread)) (sym clean)
-        (subst (λ (l : List (List ℕ)). AreBelow tree rules ways [] files (l ++ unread)) (sym empty) (inl (puts.ordered, holds-put tree (codes ".") names puts.ordered listed puts.permuted puts.sorted, all)));
+        rw clean (rw empty (inl (puts.ordered, holds-put tree (codes ".") names puts.ordered listed puts.permuted puts.sorted, (rw (puts.put ∙ append-nil (map (inside []) puts.ordered)) at are))));
   }
 
   -- which may be unreadable
@@ -165,7 +158,4 @@ folder-alone tree ways spot _ is known = absurd (cc)
 -- an operand more is put down
 pub put-more : (spots : List Spot) (rest : List (Bor (List ℕ))) (d : Bor (List ℕ)) → 0 < length rest
     → (spots ++ (operand (get_or rest 0 d).now ∷ [])) ++ map operand (name_bytes (take (length rest - 1) (drop 1 rest))) ≡ spots ++ map operand (name_bytes rest)
-put-more spots [] d some = absurd (omega (arith, some))
-put-more spots (name ∷ names) d some =
-    append_assoc spots (operand name.now ∷ []) (map operand (name_bytes (take (length (name ∷ names) - 1) names)))
-    ∙ ap (λ (l : List (Bor (List ℕ))). spots ++ (operand name.now ∷ map operand (name_bytes l))) (take_all (length (name ∷ names) - 1) names (omega arith))
+put-more spots rest d some = grind (arith, common_steps)
