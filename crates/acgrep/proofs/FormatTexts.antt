@@ -1,5 +1,5 @@
 -- The pieces of a format, written one after another, are the format.
-use Rattle.acgrep.proofs.Words.{Bool, Decides-eqb, Front, List, None, Option, Piece, Some, [], ap, arith, cases_Bool, codes, common_steps, drop, false, format_pieces, format_text, front_at, front_by, if◌then◌else◌, inl, inr, length, nat_eq, option_and_then, option_map, piece_text, pieces_behind, plain_front, refl, starts_with, subst, suc, sym, true, zero, ℕ, ◌++◌, ◌-◌, ◌<◌, ◌==◌, ◌||◌, ◌∙◌, ◌∷◌, ◌≡◌}
+use Rattle.acgrep.proofs.Words.{Bool, Decides-eqb, Front, List, None, Option, Piece, Some, [], ap, arith, cases_Bool, codes, drop, false, format_pieces, format_text, front_at, front_by, if◌then◌else◌, inl, inr, length, nat_eq, option_and_then, option_map, piece_text, pieces_behind, plain_front, refl, starts_with, subst, suc, sym, true, zero, ℕ, ◌++◌, ◌-◌, ◌<◌, ◌==◌, ◌||◌, ◌∙◌, ◌∷◌, ◌≡◌}
 use Rattle.std.proofs.lemmas.Slice.Eq.{starts_is}
 use Rattle.acgrep.specs.declared.format.Piece.TheVariants.{Byte, Path, LineNumber, Start, End, PatternNumber, Found}
 use Rattle.acgrep.proofs.Formatted.{drop_piece}
@@ -15,7 +15,9 @@ of piece len = record { piece = piece; len = len }
 -- where a test chooses a piece that then stands there
 chosen : (test : Bool) (piece : Piece) (len : ℕ) (others : Option Front) (format : List ℕ) (front : Front) → (if test then front_at piece len else others) ≡ Some front
     → (test ≡ true → IsTaken format (of piece len)) → (others ≡ Some front → IsTaken format front) → IsTaken format front
-chosen true piece len others format front is here other = subst (λ (f : Front). IsTaken format f) cc (here refl)
+chosen true piece len others format front is here other =
+    let same : of piece len ≡ front = cc in
+    subst (λ (f : Front). IsTaken format f) same (here refl)
 chosen false piece len others format front is here other = other is
 
 -- a text with which a format starts
@@ -26,9 +28,13 @@ plain_taken : (byte : ℕ) (rest : List ℕ) (front : Front) → plain_front byt
 plain_taken byte rest front is =
     elim (cases_Bool ((byte == 123) || (byte == 125))) [
       | inl brace ↦
+          let none : None ≡ Some front = subst (λ (b : Bool). (if b then None else front_at (Byte byte) 1) ≡ Some front) brace is in
           absurd (cc)
       | inr plain ↦
-          subst (λ (f : Front). IsTaken (byte ∷ rest) f) cc (ap (λ (l : List ℕ). l ++ drop 1 (byte ∷ rest)) (rw plain refl) ∙ ap (λ (l : List ℕ). byte ∷ l) (drop_zero rest), omega arith)
+          let some : front_at (Byte byte) 1 ≡ Some front = subst (λ (b : Bool). (if b then None else front_at (Byte byte) 1) ≡ Some front) plain is in
+          let same : of (Byte byte) 1 ≡ front = cc in
+          let text : piece_text (Byte byte) ≡ byte ∷ [] = rw plain refl in
+          subst (λ (f : Front). IsTaken (byte ∷ rest) f) same (ap (λ (l : List ℕ). l ++ drop 1 (byte ∷ rest)) text ∙ ap (λ (l : List ℕ). byte ∷ l) (drop_zero rest), omega arith)
     ]
 
 front_taken : (byte : ℕ) (rest : List ℕ) (front : Front) → front_by (byte ∷ rest) ≡ Some front → IsTaken (byte ∷ rest) front
@@ -47,15 +53,23 @@ front_taken byte rest front is =
 text_of_pieces : (byte : ℕ) (rest : List ℕ) (front : Front) (pieces : List Piece) (others : Option (List Piece)) → IsTaken (byte ∷ rest) front
     → ((more : List Piece) → others ≡ Some more → format_text more ≡ drop (front.len - 1) rest) → option_map (λ pieces. front.piece ∷ pieces) others ≡ Some pieces
     → format_text pieces ≡ byte ∷ rest
-text_of_pieces byte rest front pieces others taken behind is = grind (arith, common_steps)
+text_of_pieces byte rest front pieces None taken behind is = absurd (cc)
+text_of_pieces byte rest front pieces (Some more) taken behind is =
+    let same : front.piece ∷ more ≡ pieces = cc in
+    ap format_text (sym same) ∙ ap (λ (l : List ℕ). piece_text front.piece ++ l) (behind more refl ∙ sym (drop_piece front.len byte rest taken.1)) ∙ taken.0
 
 text_of_front : (byte : ℕ) (rest : List ℕ) (pieces : List Piece) (front : Option Front)
     → ((skipped : ℕ) (more : List Piece) → pieces_behind skipped rest ≡ Some more → format_text more ≡ drop skipped rest) → front_by (byte ∷ rest) ≡ front
     → option_and_then (λ front. option_map (λ pieces. front.piece ∷ pieces) (pieces_behind (front.len - 1) rest)) front ≡ Some pieces → format_text pieces ≡ byte ∷ rest
-text_of_front byte rest pieces front behind which is = grind (arith, common_steps)
+text_of_front byte rest pieces None behind which is = absurd (cc)
+text_of_front byte rest pieces (Some front) behind which is =
+    text_of_pieces byte rest front pieces (pieces_behind (front.len - 1) rest) (front_taken byte rest front which) (λ more. behind (front.len - 1) more) is
 
 text_behind : (format : List ℕ) (skipped : ℕ) (pieces : List Piece) → pieces_behind skipped format ≡ Some pieces → format_text pieces ≡ drop skipped format
-text_behind format skipped pieces is = grind (arith, common_steps)
+text_behind [] zero pieces is = let none : [] ≡ pieces = cc in ap format_text (sym none)
+text_behind [] (suc skipped) pieces is = let none : [] ≡ pieces = cc in ap format_text (sym none)
+text_behind (byte ∷ rest) zero pieces is = text_of_front byte rest pieces (front_by (byte ∷ rest)) (λ skipped more. text_behind rest skipped more) refl is
+text_behind (byte ∷ rest) (suc skipped) pieces is = text_behind rest skipped pieces is
 
 -- the pieces of a format, one after another, are the format
 pub whole_text : (format : List ℕ) (pieces : List Piece) → format_pieces format ≡ Some pieces → format_text pieces ≡ format
