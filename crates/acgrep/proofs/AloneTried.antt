@@ -1,5 +1,5 @@
 -- What stands alone in a line: the longest of what begins together is tried first, and then the shorter ones.
-use Rattle.acgrep.proofs.Words.{AreAloneFrom, IsAloneAt, IsAloneFrom, IsAnswer, IsBefore, IsBestOrNone, IsLongestThere, IsNextAlone, IsShorter, LeftmostLongest, List, None, Occurrence, Occurs-in, OccursIn, Patterns, Some, [], ap, append-nil, append_assoc, arith, begins_alone, behind_alone, cases_lt, common_steps, ends_alone, false, inl, inr, length, plain_search, span_search, subst, sym, true, true≢false, ℕ, ◌++◌, ◌+◌, ◌<◌, ◌∙◌, ◌∷◌, ◌≡◌, ◌≤◌, ◌⊎◌}
+use Rattle.acgrep.proofs.Words.{AreAloneFrom, IsAloneAt, IsAloneFrom, IsAnswer, IsBefore, IsBestOrNone, IsLongestThere, IsNextAlone, IsShorter, LeftmostLongest, List, MatchKind, None, Occurrence, Occurs-in, OccursIn, Patterns, Some, [], ap, append-nil, append_assoc, arith, begins_alone, behind_alone, cases_lt, common_steps, ends_alone, false, inl, inr, length, plain_search, span_search, subst, sym, true, true≢false, ℕ, ◌++◌, ◌+◌, ◌<◌, ◌∙◌, ◌∷◌, ◌≡◌, ◌≤◌, ◌⊎◌}
 
 -- what a search of a range of a line finds lies in it
 pub record LiesIn (start end : ℕ) (m : Occurrence) : Type 0 where

@@ -1,5 +1,5 @@
 -- The line around a place, and patterns that hold no newline.
-use Rattle.acgrep.proofs.Words.{HoldNoEnding, IsAnswer, IsBefore, IsEnding, IsFirstWith, IsLine, List, MatchKind, Nowhere, Occurrence, OccursIn, Patterns, Some, Span, ap, arith, cases_lt, common_steps, drop, eqb-true, folded, get_or, get_or-drop, get_or-take, inl, inr, length, length-drop, length-take-le, pattern_at, plain_search, slice_index, subst, sym, take, true, ℕ, ◌+◌, ◌-◌, ◌<◌, ◌==◌, ◌∙◌, ◌≡◌, ◌≤◌, ◌⊎◌}
+use Rattle.acgrep.proofs.Words.{HoldNoEnding, IsAnswer, IsBefore, IsEnding, IsFirstWith, IsLine, LeftmostFirst, LeftmostLongest, List, MatchKind, Nowhere, Occurrence, OccursIn, Patterns, Some, Span, Standard, ap, arith, cases_lt, common_steps, drop, eqb-true, folded, get_or, get_or-drop, get_or-take, inl, inr, length, length-drop, length-take-le, pattern_at, plain_search, slice_index, subst, sym, take, true, ℕ, ◌+◌, ◌-◌, ◌<◌, ◌==◌, ◌∙◌, ◌≡◌, ◌≤◌, ◌⊎◌}
 use Rattle.std.proofs.Math.ListN.{get_or-map}
 
 -- of the others none ends before the best begins

@@ -1,5 +1,5 @@
 -- What is told where lines from the first on that holds a zero byte are kept from the output.
-use Rattle.acgrep.proofs.Words.{Appends, Appends-trans, AppendsBeginning, BeginsBehind, BeginsBinary, BeginsFile, BeginsOf, Bool, Consumes, Consumes-trans, Context, Course, EndsFront, EndsLine, FindsSelected, IfSome, IsAny, IsBegin, IsFirstBinary, IsSelected, IsSettled, Job, Keeps-refl, Lines, List, MatchBool, None, Nothing, Option, Patterns, SearchesBehind, SearchesFile, SearchesFront, SearchesPast, SearchesReader, SearchesText, Shown, Some, SomeLine, State, TellsBinary, TellsFile, TellsFrom, TellsGuarded, TellsOfLines, TellsSearched, [], and_parts, ap, append-nil, append_assoc, arith, around_of, binary_by, binary_lines, common_steps, course, drop, false, if◌then◌else◌, inl, inr, is_full, is_guarded, is_text, lines, lines_by, lines_sought, lt-ltb, nat_lt, needs_one, not, not-true, or-false, or_right, refl, seeking, subst, sym, take, take-append-drop, takes_text, text_lines, total_if, true, true≢false, writes_lines, ℕ, ◌&&◌, ◌++◌, ◌<◌, ◌==◌, ◌||◌, ◌∙◌, ◌∷◌, ◌≡◌, ◌⊎◌}
+use Rattle.acgrep.proofs.Words.{Appends, Appends-trans, AppendsBeginning, BeginsBehind, BeginsBinary, BeginsFile, BeginsOf, Bool, Consumes, Consumes-trans, Context, Count, Course, EndsFront, EndsLine, FindsSelected, IfSome, IsAny, IsBegin, IsFirstBinary, IsSelected, IsSettled, Job, Keeps-refl, Lacking, Lines, List, MatchBool, Matches, Names, None, Nothing, Objects, Option, Patterns, SearchesBehind, SearchesFile, SearchesFront, SearchesPast, SearchesReader, SearchesText, Shown, Some, SomeLine, State, TellsBinary, TellsFile, TellsFrom, TellsGuarded, TellsOfLines, TellsSearched, [], and_parts, ap, append-nil, append_assoc, arith, around_of, binary_by, binary_lines, common_steps, course, drop, false, if◌then◌else◌, inl, inr, is_full, is_guarded, is_text, lines, lines_by, lines_sought, lt-ltb, nat_lt, needs_one, not, not-true, or-false, or_right, refl, seeking, subst, sym, take, take-append-drop, takes_text, text_lines, total_if, true, true≢false, writes_lines, ℕ, ◌&&◌, ◌++◌, ◌<◌, ◌==◌, ◌||◌, ◌∙◌, ◌∷◌, ◌≡◌, ◌⊎◌}
 use Rattle.acgrep.proofs.BinaryLines.{binary_behind, first_binary, first_some, first_text, some_binary, some_text, text_behind}
 use Rattle.acgrep.proofs.Begun.{nil_front}
 use Rattle.acgrep.proofs.FileTellings.{TextTold, shows_nothing, some_front, sought_all, tells_any, tells_none, text_behind as text_read, text_told}

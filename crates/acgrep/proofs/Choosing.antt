@@ -1,5 +1,5 @@
 -- Which of the operands are searched.
-use Rattle.acgrep.proofs.Words.{AreChosen, AreReached, Bool, Bor, Chooses, Found, IfSome, IsKept, IsUnknown, Kind, List, None, Option, RuleSaid, Said, Some, Tree, Ways, [], ap, append-nil, append_assoc, arith, cases_Bool, chooses, common_steps, drop, false, get_or, has_rules, inl, inr, is_folder, is_input, is_left_out, is_passed, kept_of, length, listed_bytes, missed_of, name_bytes, not, or_input, passes, refl, subst, sym, take, true, ways_by, ℕ, ◌++◌, ◌-◌, ◌<◌, ◌||◌, ◌∙◌, ◌∷◌, ◌≡◌, ◌⊎◌}
+use Rattle.acgrep.proofs.Words.{AreChosen, AreReached, Bool, Bor, Chooses, Device, File, Folder, Found, IfSome, IsKept, IsUnknown, Kind, Link, List, None, Option, RuleSaid, Said, Some, Tree, Ways, [], ap, append-nil, append_assoc, arith, cases_Bool, chooses, common_steps, drop, false, get_or, has_rules, inl, inr, is_folder, is_input, is_left_out, is_passed, kept_of, length, listed_bytes, missed_of, name_bytes, not, or_input, or_parts, passes, refl, subst, sym, take, true, unwrap_or, ways_by, ℕ, ◌++◌, ◌-◌, ◌<◌, ◌||◌, ◌∙◌, ◌∷◌, ◌≡◌, ◌⊎◌}
 use Rattle.std.proofs.Common.{take_all}
 
 -- those of the names so far were put down: whichever of the others are searched, those behind them are

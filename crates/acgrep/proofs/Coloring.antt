@@ -1,5 +1,5 @@
 -- Matches that are written one after another.
-use Rattle.acgrep.proofs.Words.{Appends, Appends-nil, Appends-trans, Bool, List, Occurrence, Option, Place, Style, [], ap, append-nil, append_assoc, arith, behind_by, colored_by, common_steps, found_by, if◌then◌else◌, match_code, ne_eqb, painted, part_of, refl, rest_behind, shown_from, subst, sym, ℕ, ◌++◌, ◌∙◌, ◌∷◌, ◌≡◌}
+use Rattle.acgrep.proofs.Words.{Appends, Appends-nil, Appends-trans, AsFields, Bool, Colored, List, Occurrence, OnLines, Option, Place, Style, [], ap, append-nil, append_assoc, arith, behind_by, colored_by, common_steps, found_by, if◌then◌else◌, match_code, ne_eqb, painted, part_of, refl, rest_behind, shown_from, subst, sym, ℕ, ◌++◌, ◌∙◌, ◌∷◌, ◌≡◌}
 use Rattle.acgrep.specs.declared.matches.Shape.{Shape}
 
 -- what stands before a match that is not empty, and then the match

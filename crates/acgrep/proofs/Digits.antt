@@ -1,5 +1,5 @@
 -- Digits among joined letters.
-use Rattle.acgrep.proofs.Words.{AreDigits, AreRefused, Around, IsTold, List, None, Option, OutOfMemory, ReadSoFar, Refusal, Said, Some, Wrong, [], ap, append-nil, append_assoc, arith, common_steps, digits_value_of, drop, eqb-true, false, false_from_ne_true, if_none, is_ascii_digit, length, letter_by, letters_by, letters_from, number_by, number_parts, option_and_then, option_map, refl, said_so, suc, switch_by, switched, sym, take, true, valued_letter, valued_name, with_digits, with_number, wrong_digits, wrong_from_digits, wrong_letter, wrong_letters, zero, ℕ, ◌++◌, ◌<◌, ◌==◌, ◌∙◌, ◌∷◌, ◌≡◌, ◌≤◌}
+use Rattle.acgrep.proofs.Words.{AreDigits, AreRefused, Around, IsTold, List, None, Option, OutOfMemory, ReadSoFar, Refusal, Said, Some, Wrong, [], ap, append-nil, append_assoc, arith, cases_Bool, common_steps, digits_value_of, drop, eqb-true, false, false_from_ne_true, if_none, inl, inr, is_ascii_digit, length, letter_by, letters_by, letters_from, number_by, number_parts, option_and_then, option_map, refl, said_so, suc, switch_by, switched, sym, take, true, valued_letter, valued_name, with_digits, with_number, wrong_digits, wrong_from_digits, wrong_letter, wrong_letters, zero, ℕ, ◌++◌, ◌<◌, ◌==◌, ◌∙◌, ◌∷◌, ◌≡◌, ◌≤◌}
 use Rattle.acgrep.specs.declared.options.Switch.{Switch}
 
 abbrev then_letters : List ℕ → Option Said → Option ReadSoFar

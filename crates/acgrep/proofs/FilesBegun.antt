@@ -1,5 +1,5 @@
 -- What is written of a file that is not searched to its end.
-use Rattle.acgrep.proofs.Words.{Appends, Appends-trans, AppendsBeginning, BeginsBehind, BeginsFile, BeginsTotal, Bool, Context, IfSome, IsBegin, IsTail, Job, Keeps, Lines, List, MatchBool, Matches, None, Objects, Option, Patterns, Place, SearchesFile, SearchesFront, Shown, ShowsBy, Some, State, Style, TellsBinary, TellsFirst, TellsFrom, TellsIn, [], and_parts, ap, append-nil, arith, around_by, around_of, binary_by, common_steps, course, drop, false, inl, inr, is_guarded, lines_by, not, refl, subst, sym, take, take-append-drop, takes_text, total_if, true, walk_of, writes_lines, ℕ, ◌&&◌, ◌++◌, ◌==◌, ◌||◌, ◌∙◌, ◌≡◌, ◌⊎◌}
+use Rattle.acgrep.proofs.Words.{Appends, Appends-trans, AppendsBeginning, BeginsBehind, BeginsFile, BeginsTotal, Bool, Context, Count, IfSome, IsBegin, IsTail, Job, Keeps, Lacking, Lines, List, MatchBool, Matches, Names, None, Nothing, Objects, Option, Patterns, Place, SearchesFile, SearchesFront, Shown, ShowsBy, Some, State, Style, TellsBinary, TellsFirst, TellsFrom, TellsIn, [], and_parts, ap, append-nil, arith, around_by, around_of, binary_by, common_steps, course, drop, false, inl, inr, is_guarded, lines_by, not, refl, subst, sym, take, take-append-drop, takes_text, total_if, true, walk_of, writes_lines, ℕ, ◌&&◌, ◌++◌, ◌==◌, ◌||◌, ◌∙◌, ◌≡◌, ◌⊎◌}
 use Rattle.acgrep.proofs.Begun.{begins_both, begins_nothing, begins_on, nil_front}
 use Rattle.acgrep.proofs.FileTellings.{from_begin, tells_none}
 use Rattle.acgrep.proofs.Grouped.{told_around}

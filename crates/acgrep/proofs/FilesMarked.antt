@@ -1,7 +1,8 @@
 -- What is written of files whose lines rules mark.
-use Rattle.acgrep.proofs.Words.{Appends, Appends-trans, AreFirstGiven, BeginsInput, BeginsMarks, BeginsTotal, BeginsWalk, Bool, ComesInput, ComesMarked, ComesName, Consumes, Consumes-whole, Covering, EndsFile, Err, FileAsked, HasFirst, HasToldAll, IfBroken, IfSearched, IsAtEnd, IsNamed, Job, Keeps, Line, LineError, Lines, List, MarksBy, MarksFile, MarksInput, MarksText, None, Occurrence, Ok, Option, Outcome, Pass, Place, Result, Rule, Shown, SinkGhosts, Some, SourceGhosts, StartsWith, Style, TellsAll, Unread, WalksGiven, WalksLines, [], and-false, and-true, ap, append-nil, arith, begins_with, common_steps, counted, covering_by, false, file_asked, file_marked, file_selected, if◌then◌else◌, inl, inr, is_input, known_of, marked_line, marked_lines, marked_shown, nat_lt, needs_one, pass_behind, pass_from, refl, seen_lines, shown_name, stream_lines, subst, sym, take, total_if, true, ℕ, ◌&&◌, ◌++◌, ◌∙◌, ◌∷◌, ◌≡◌, ◌≢◌, ◌⊎◌}
+use Rattle.acgrep.proofs.Words.{Appends, Appends-trans, AreFirstGiven, BeginsInput, BeginsMarks, BeginsTotal, BeginsWalk, Bool, ComesInput, ComesMarked, ComesName, Consumes, Consumes-whole, Count, Covering, EndsFile, Err, FileAsked, HasFirst, HasToldAll, IfBroken, IfSearched, IsAtEnd, IsNamed, Job, Keeps, Lacking, Line, LineError, Lines, List, MarksBy, MarksFile, MarksInput, MarksText, Matches, Names, None, Nothing, Objects, Occurrence, Ok, Option, Outcome, Pass, Place, Result, Rule, Shown, SinkGhosts, Some, SourceGhosts, StartsWith, Style, TellsAll, Unread, WalksGiven, WalksLines, [], and-false, and-true, ap, append-nil, arith, begins_with, common_steps, counted, covering_by, false, file_asked, file_marked, file_selected, if◌then◌else◌, inl, inr, is_input, known_of, length, marked_line, marked_lines, marked_shown, nat_lt, needs_one, pass_behind, pass_from, refl, seen_lines, shown_name, stream_lines, subst, sym, take, total_if, true, ℕ, ◌&&◌, ◌++◌, ◌==◌, ◌||◌, ◌∙◌, ◌∷◌, ◌≡◌, ◌≢◌, ◌⊎◌}
 use Rattle.aho_automaton.specs.declared.automaton.Automaton.{Ghosts as Automata}
 use Rattle.aho_stream.specs.After.{MayFollow}
+use Rattle.secret_rules.specs.LineCovers.{AreSearchedFor}
 use Rattle.secret_rules.specs.Ready.{CanCoverLines, CoversTheSame, most_of, rules_of, words_of}
 use Rattle.secret_rules.specs.declared.line_cover.LineCover.{LineCover}
 use Rattle.acgrep.proofs.InTurn.{if_broken, if_searched}

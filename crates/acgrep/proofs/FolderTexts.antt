@@ -1,5 +1,5 @@
 -- What was read of a reader so far, up to its end.
-use Rattle.acgrep.proofs.Words.{Consumes, Consumes-nil, Consumes-trans, IfSome, IsAtEnd, List, Option, [], arith, common_steps, subst, sym, take, ℕ, ◌++◌, ◌≡◌}
+use Rattle.acgrep.proofs.Words.{Consumes, Consumes-nil, Consumes-trans, Consumes-whole, IfSome, IsAtEnd, List, Option, [], append-nil, arith, common_steps, subst, sym, take, ℕ, ◌++◌, ◌≡◌}
 
 -- nothing
 pub text_begun : (left : Option (List ℕ)) (text : List ℕ) → text ≡ [] → Consumes left left text

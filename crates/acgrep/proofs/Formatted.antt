@@ -1,5 +1,5 @@
 -- A format, one piece after another; and base64, one group after another.
-use Rattle.acgrep.proofs.Words.{Front, List, None, Nowhere, Option, Passes, Piece, Some, [], ap, append-nil, append_assoc, arith, common_steps, drop, false, format_pieces, front_by, is_byte, length, length-drop, option_map, pieces_behind, refl, subst, suc, sym, take, take_all, unknown_behind, unknown_in, up_to_brace, zero, ℕ, ◌++◌, ◌+◌, ◌-◌, ◌<◌, ◌==◌, ◌∙◌, ◌∷◌, ◌≡◌}
+use Rattle.acgrep.proofs.Words.{Front, List, None, Nowhere, Option, Passes, Piece, Some, [], ap, append-nil, append_assoc, arith, cases_Bool, common_steps, drop, false, format_pieces, front_by, inl, inr, is_byte, length, length-drop, option_map, pieces_behind, refl, subst, suc, sym, take, take_all, unknown_behind, unknown_in, up_to_brace, zero, ℕ, ◌++◌, ◌+◌, ◌-◌, ◌<◌, ◌==◌, ◌∙◌, ◌∷◌, ◌≡◌}
 
 -- what belongs to a piece before is passed over
 pub pieces_skip : (skipped : ℕ) (format : List ℕ) → pieces_behind skipped format ≡ format_pieces (drop skipped format)

@@ -1,8 +1,9 @@
 -- The lines before the first that holds a zero byte, put together from reads.
-use Rattle.acgrep.proofs.Words.{Bool, FillsBehind, IsEnding, IsFirstBinary, IsSettled, IsZeroLine, Job, Keeps, List, Option, Patterns, ReadsFront, SearchesFront, SearchesPast, SearchesText, SearchesWhole, Some, State, TextIf, [], arith, common_steps, course, drop, is_text, length, lines, refl, subst, sym, take, true, ℕ, ◌++◌, ◌-◌, ◌<◌, ◌∷◌, ◌≡◌, ◌≤◌}
+use Rattle.acgrep.proofs.Words.{Bool, FillsBehind, IsEnding, IsFirstBinary, IsSettled, IsZeroLine, Job, Keeps, List, Option, Patterns, ReadsFront, SearchesFront, SearchesPast, SearchesText, SearchesWhole, Some, State, TextIf, [], ap, arith, common_steps, course, drop, is_text, length, length-append, lines, refl, subst, sym, take, true, ℕ, ◌++◌, ◌-◌, ◌<◌, ◌∙◌, ◌∷◌, ◌≡◌, ◌≤◌}
 use Rattle.acgrep.specs.declared.stream.Came.{Came}
 use Rattle.acgrep.specs.declared.stream.Came.TheVariants.{Text, Binary, End}
 use Rattle.acgrep.proofs.BinaryLines.{text_back, text_front, text_joined}
+use Rattle.std.proofs.Math.Seq.{take-append_seam}
 use Rattle.acgrep.proofs.Streams.{reads_none, reads_some, stream_done, stream_end, stream_step, stream_stop, stream_whole_lines, whole_searched}
 
 take_back : (xs ys : List ℕ) → take (length (xs ++ ys) - length ys) (xs ++ ys) ≡ xs

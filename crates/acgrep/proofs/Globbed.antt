@@ -1,5 +1,6 @@
 -- How a name is read along a glob.
-use Rattle.acgrep.proofs.Words.{Bool, IsCut, List, [], and_parts, any_suffix, ap, arith, closes_at, closing, common_steps, drop, drop-drop, false, fits, inl, inr, item_len, length, length-drop, ne_eqb, one_fits, or_right, part_len, refl, stands_for, subst, suc, sym, take, true, zero, ℕ, ◌+◌, ◌-◌, ◌||◌, ◌∙◌, ◌∷◌, ◌≡◌, ◌≤◌, ◌⊎◌}
+use Rattle.acgrep.proofs.Words.{Bool, IsCut, List, [], and_parts, any_suffix, ap, arith, closes_at, closing, common_steps, drop, drop-drop, drop-nil, false, fits, inl, inr, item_len, length, length-drop, ne_eqb, one_fits, or_right, part_len, refl, stands_for, subst, suc, sym, take, true, zero, ℕ, ◌+◌, ◌-◌, ◌||◌, ◌∙◌, ◌∷◌, ◌≡◌, ◌≤◌, ◌⊎◌}
+use Rattle.std.proofs.Common.{take_all}
 use Rattle.acgrep.proofs.LineLists.{drop_zero}
 
 -- what belongs to a part before is passed

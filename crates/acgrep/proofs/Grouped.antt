@@ -1,5 +1,5 @@
 -- A walk from line to line writes the lines that are near selected ones.
-use Rattle.acgrep.proofs.Words.{Bool, Context, IsNearChosen, IsNotChosen, IsSelected, Job, List, PassesBy, Patterns, Place, ShowsEach, ShowsGroup, ShowsLine, TellsAround, TellsWritten, Walk, WalksOver, [], after_line, after_lines, and-false, ap, append-nil, append_assoc, arith, behind_passed, beside, cases_Bool, cases_lt, common_steps, eqb-true, false, first_in, get_or, inl, inr, is_full, leb-false, leb-true, length, length-append, length-map, ltb-false, ltb-true, map, nat_le, nat_lt, one_more, refl, separator_if, subst, suc, sym, true, true≢false, zero, ℕ, ◌&&◌, ◌++◌, ◌+◌, ◌-◌, ◌<◌, ◌==◌, ◌∙◌, ◌∷◌, ◌≡◌, ◌≤◌, ◌⊎◌}
+use Rattle.acgrep.proofs.Words.{Bool, Context, IsNearChosen, IsNotChosen, IsSelected, Job, List, PassesBy, Patterns, Place, ShowsEach, ShowsGroup, ShowsLine, TellsAround, TellsWritten, Walk, WalksOver, [], after_line, after_lines, and-false, ap, append-nil, append_assoc, arith, behind_passed, beside, cases_Bool, cases_lt, common_steps, eqb-true, false, first_in, get_or, inl, inr, is_full, leb-false, leb-true, length, length-append, length-map, lt-leb, ltb-false, ltb-true, map, nat_le, nat_lt, one_more, refl, separator_if, subst, suc, sym, true, true≢false, zero, ℕ, ◌&&◌, ◌++◌, ◌+◌, ◌-◌, ◌<◌, ◌==◌, ◌∙◌, ◌∷◌, ◌≡◌, ◌≤◌, ◌⊎◌}
 use Rattle.acgrep.specs.Contexts.{AreChosen}
 use Rattle.std.proofs.lemmas.List.{get_or-append_right}
 use Rattle.acgrep.proofs.Tellings.{after_append}

@@ -1,5 +1,5 @@
 -- Lines that are held, and one more or one less of them.
-use Rattle.acgrep.proofs.Words.{List, [], ap, arith, common_steps, cut_by, drop, drop-append-le, length, length-drop, slice_index_or, sum, sum_by-cons, sym, take, take-append-le, take_all, ℕ, ◌++◌, ◌+◌, ◌<◌, ◌∙◌, ◌∷◌, ◌≡◌, ◌≤◌}
+use Rattle.acgrep.proofs.Words.{List, [], ap, arith, at_drop_more, common_steps, cut_by, drop, drop-append-le, length, length-drop, slice_index_or, sum, sum_by-cons, sum_by-drop_more, sym, take, take-append-le, take_all, ℕ, ◌++◌, ◌+◌, ◌<◌, ◌∙◌, ◌∷◌, ◌≡◌, ◌≤◌}
 
 -- bytes of so many lines, and those of one more behind them
 pub cut_more : (sizes : List ℕ) (bytes line : List ℕ) → sum sizes ≡ length bytes → cut_by (sizes ++ (length line ∷ [])) (bytes ++ line) ≡ cut_by sizes bytes ++ (line ∷ [])

@@ -1,5 +1,5 @@
 -- Files that are searched one after another.
-use Rattle.acgrep.proofs.Words.{AreBegun, AreDone, AreDoneOr, AreSeen, Bool, FileWork, HasOne, IfBroken, IfSearched, Keeps, Keeps-refl, Keeps-trans, List, Nothing, Option, Outcome, Searched, Seen, Shown, Vec, [], ap, arith, cases_Bool, common_steps, drop, false, get_or, if◌then◌else◌, inl, inr, is_enough, length, listed_bytes, map, nothing_seen, or-false, or-true, or_assoc, refl, seen_after, status_by, subst, sym, take, true, ℕ, ◌-◌, ◌<◌, ◌||◌, ◌∙◌, ◌∷◌, ◌≡◌, ◌⊎◌}
+use Rattle.acgrep.proofs.Words.{AreBegun, AreDone, AreDoneOr, AreSeen, Bool, Count, FileWork, HasOne, IfBroken, IfSearched, Keeps, Keeps-refl, Keeps-trans, Lacking, Lines, List, Matches, Names, Nothing, Objects, Option, Outcome, Searched, Seen, Shown, Stopped, Unread, Vec, [], ap, arith, cases_Bool, common_steps, drop, false, get_or, if◌then◌else◌, inl, inr, is_enough, length, listed_bytes, map, nothing_seen, or-false, or-true, or_assoc, refl, seen_after, status_by, subst, sym, take, take_all, true, ℕ, ◌-◌, ◌<◌, ◌||◌, ◌∙◌, ◌∷◌, ◌≡◌, ◌⊎◌}
 use Rattle.tool_parts.specs.Answers.{status_of}
 use Rattle.acgrep.proofs.Bools.{either_way}
 

@@ -1,5 +1,5 @@
 -- What was done is as it was where the output keeps its bytes.
-use Rattle.acgrep.proofs.Words.{AreSought, BeginsByRules, BeginsFor, BeginsOrKeeps, BeginsSearch, Job, Keeps, Keeps-trans, Known, List, MarksAsked, MayBeginAsked, Option, Origin, Patterns, Reached, Said, SearchesByRules, SearchesFor, SearchesRuled, Some, false, inl, inr, kind_sought, knows_none, mark_work, marking_by, names_by, patterns_by_kind, ruled, search_work, sources_by, subst, words_sought, ℕ, ◌≡◌, ◌⊎◌}
+use Rattle.acgrep.proofs.Words.{AreSought, BeginsByRules, BeginsFor, BeginsOrKeeps, BeginsSearch, Job, Keeps, Keeps-trans, Known, List, MarksAsked, MayBeginAsked, Option, Origin, Patterns, Reached, Said, SearchesByRules, SearchesFor, SearchesRuled, Some, false, inl, inr, kind_sought, knows_none, mark_work, marking_by, names_by, patterns_by_kind, ruled, search_work, sources_by, subst, sym, words_sought, ℕ, ◌∙◌, ◌≡◌, ◌⊎◌}
 use Rattle.acgrep.specs.Runs.{After}
 use Rattle.acgrep.specs.declared.colors.Screen.{Screen}
 use Rattle.acgrep.proofs.Bools.{either_way}

@@ -1,5 +1,5 @@
 -- What is written of lines, one after another, by what a visitor of them leaves.
-use Rattle.acgrep.proofs.Words.{Appends, Appends-nil, Appends-trans, AreFirstGiven, AreLineRuns, Bool, Covering, Err, FileAsked, Line, LineError, List, MutBor, Occurrence, Ok, Pass, Patterns, Result, Rule, SinkGhosts, SourceGhosts, Standard, StartsWith, StopsMarked, WalksLines, WritesMarked, [], ap, append-nil, append_assoc, arith, asked_of, begins_with, covering_by, drop, false, inl, inr, length, marked_line, marked_lines, pass_after, pass_behind, refl, seen_line, seen_lines, stream_lines, subst, suc, sym, take, take-append-drop, true, ℕ, ◌++◌, ◌∙◌, ◌∷◌, ◌≡◌}
+use Rattle.acgrep.proofs.Words.{Appends, Appends-nil, Appends-trans, AreFirstGiven, AreLineRuns, Bool, Covering, Err, FileAsked, Line, LineError, List, MutBor, Occurrence, Ok, Pass, Patterns, Result, Rule, SinkGhosts, SourceGhosts, Standard, StartsWith, StopsMarked, WalksLines, WritesMarked, [], ap, append-nil, append_assoc, arith, asked_of, begins_with, covering_by, drop, false, inl, inr, length, marked_line, marked_lines, pass_after, pass_behind, refl, seen_line, seen_lines, stream_lines, subst, suc, sym, take, take-append-drop, true, zero, ℕ, ◌++◌, ◌∙◌, ◌∷◌, ◌≡◌}
 use Rattle.aho_core.specs.declared.error.stream.StreamError.{StreamError}
 use Rattle.secret_rules.specs.Visits.{AreFirstLines, BeginsVisiting, LeavesVisited, StopsWithin, VisitsEach, VisitsLines, taken_line}
 use Rattle.secret_rules.specs.declared.visitor.LineVisitor.{Ghosts as VisitorGhosts}

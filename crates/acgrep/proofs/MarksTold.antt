@@ -1,5 +1,5 @@
 -- What is told of files whose lines rules mark.
-use Rattle.acgrep.proofs.Words.{All-nil, Bool, Errors, Flags, IsMarkTold, IsMessage, List, Nothing, Outcome, Shown, SinkGhosts, Stopped, Tells, TellsBytes, TellsMissed, TellsOfEnd, TellsOfOutcome, TellsOutcome, TellsSome, TellsStatus, Unread, [], ap, arith, false, if◌then◌else◌, inl, inr, length, long_message, refl, shown_by, some-one, some-tells, some-then, some-weaker, status_reached, subst, sym, tells-then, tells-weaker, true, unwritten_line, ℕ, ◌<◌, ◌==◌, ◌∷◌, ◌≡◌}
+use Rattle.acgrep.proofs.Words.{All-nil, Bool, Errors, Flags, IsMarkTold, IsMessage, List, Nothing, Outcome, Searched, Shown, SinkGhosts, Stopped, Tells, TellsBytes, TellsMissed, TellsOfEnd, TellsOfOutcome, TellsOutcome, TellsSome, TellsStatus, Unread, [], ap, arith, false, if◌then◌else◌, inl, inr, length, long_message, refl, shown_by, some-one, some-tells, some-then, some-weaker, status_reached, subst, sym, tells-then, tells-weaker, true, unwritten_line, ℕ, ◌<◌, ◌==◌, ◌∷◌, ◌≡◌}
 use Rattle.acgrep.proofs.Reaching.{reached-quiet, shown-quiet}
 
 module _ {E : Type 0} (K : SinkGhosts E) where

@@ -1,8 +1,8 @@
 -- What occurs in no line of a text does not occur in it.
-use Rattle.acgrep.proofs.Words.{EachLine, HasNone, HoldNoEnding, IsEnding, IsSameWord, List, No, Nowhere, Occurrence, Occurs, Occurs-in, Occurs-moved_back, OccursIn, Patterns, [], ap, arith, cases_Bool, cases_lt, common_steps, drop, false, inl, inr, length, length-drop, length-take-le, lines, moved_back, pattern_at, plain_search, slice_range, subst, suc, sym, take, true≢false, zero, ℕ, ◌+◌, ◌-◌, ◌<◌, ◌==◌, ◌∙◌, ◌∷◌, ◌≡◌, ◌≤◌}
+use Rattle.acgrep.proofs.Words.{EachLine, HasNone, HoldNoEnding, IsEnding, IsSameWord, List, No, Nowhere, Occurrence, Occurs, Occurs-in, Occurs-moved_back, OccursIn, Patterns, [], ap, arith, cases_Bool, cases_lt, common_steps, drop, false, inl, inr, length, length-drop, length-take-le, lines, moved_back, pattern_at, plain_search, slice_range, subst, suc, sym, take, take_all, true≢false, zero, ℕ, ◌+◌, ◌-◌, ◌<◌, ◌==◌, ◌∙◌, ◌∷◌, ◌≡◌, ◌≤◌}
 use Rattle.acgrep.proofs.Around.{ends_before}
 use Rattle.acgrep.proofs.FirstLines.{lines_first}
-use Rattle.acgrep.proofs.LineLists.{take_zero}
+use Rattle.acgrep.proofs.LineLists.{drop_zero, take_zero}
 
 slice_front : (text : List ℕ) (end : ℕ) → slice_range text 0 end ≡ take end text
 slice_front text end = grind (arith, common_steps)

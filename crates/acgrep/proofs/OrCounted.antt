@@ -1,5 +1,5 @@
 -- A search that is written, or whose matches are counted.
-use Rattle.acgrep.proofs.Words.{Appends-kept, Appends-nil, AppendsBeginning, BeginsNoMatch, Bool, Errors, Flags, Keeps, Keeps-refl, List, Option, OrBeginsCounts, OrCounts, Shown, SinkGhosts, Some, TellsSome, TellsStatus, WritesNoMatch, [], arith, asks_counts, beginning-kept, inl, inr, subst, sym, ℕ, ◌<◌, ◌≡◌, ◌⊎◌}
+use Rattle.acgrep.proofs.Words.{Appends-kept, Appends-nil, AppendsBeginning, BeginsNoMatch, Bool, Errors, Flags, Keeps, Keeps-refl, List, Option, OrBeginsCounts, OrCounts, Shown, SinkGhosts, Some, TellsSome, TellsStatus, WritesNoMatch, [], ap, arith, asks_counts, beginning-kept, inl, inr, subst, sym, ℕ, ◌++◌, ◌<◌, ◌∙◌, ◌≡◌, ◌⊎◌}
 use Rattle.acgrep.proofs.Bools.{either_way}
 use Rattle.acgrep.proofs.Told.{status-none, status-some}
 

@@ -1,5 +1,5 @@
 -- The place behind a text of whole lines.
-use Rattle.acgrep.proofs.Words.{EndsLine, Job, List, NumbersLines, Place, SamePlace, [], after_line, after_lines, ap, arith, cases_Bool, inl, inr, is_byte, joined_to, length, lines, places, refl, slice_index, suc, sym, zero, ℕ, ◌%◌, ◌+◌, ◌-◌, ◌<◌, ◌==◌, ◌^◌, ◌∙◌, ◌∷◌, ◌≡◌}
+use Rattle.acgrep.proofs.Words.{EndsLine, Job, List, NumbersLines, Place, SamePlace, [], after_line, after_lines, ap, arith, cases_Bool, inl, inr, is_byte, joined_to, length, lines, places, refl, slice_index, suc, sym, take, zero, ℕ, ◌%◌, ◌+◌, ◌-◌, ◌<◌, ◌==◌, ◌^◌, ◌∙◌, ◌∷◌, ◌≡◌}
 use Rattle.std.proofs.Math.Nat.{mod-add-mod, mod-eq_of_lt, mod-lt}
 use Rattle.memchr.specs.Find.{places_from}
 use Rattle.acgrep.proofs.FirstLines.{lines_joined}

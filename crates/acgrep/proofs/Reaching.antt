@@ -1,5 +1,5 @@
 -- What may be told of the files that operands name.
-use Rattle.acgrep.proofs.Words.{AreReached, Bool, Errors, Flags, IsMessage, IsOneOf, List, MaySay, Nothing, Origin, Said, SinkGhosts, Tells, TellsMissed, TellsOfFile, TellsSome, TellsStatus, Tree, [], ap, arith, cases_Bool, common_steps, false, files_told, if◌then◌else◌, inl, inr, length, names_told, or_input, refl, shown_by, shown_names, some-tells, some-then, some-weaker, source_names, status_reached, subst, sym, tells-none, tells-then, tells-weaker, then-some, true, ℕ, ◌++◌, ◌<◌, ◌∷◌, ◌≡◌, ◌≤◌}
+use Rattle.acgrep.proofs.Words.{AreReached, Bool, Errors, Flags, IsMessage, IsOneOf, List, MaySay, Nothing, Origin, Said, SinkGhosts, Tells, TellsMissed, TellsOfFile, TellsSome, TellsStatus, Tree, [], and_parts, ap, arith, cases_Bool, common_steps, false, files_told, if◌then◌else◌, inl, inr, length, names_told, or_input, refl, shown_by, shown_names, some-tells, some-then, some-weaker, source_names, status_reached, subst, sym, tells-none, tells-then, tells-weaker, then-some, true, ℕ, ◌&&◌, ◌++◌, ◌<◌, ◌==◌, ◌∷◌, ◌≡◌, ◌≤◌}
 use Rattle.acgrep.proofs.Told.{AreWithin, among-first, among-later, message-more, status-some, status-weaker, within-cut}
 
 -- a message of sources of patterns may be told of a search

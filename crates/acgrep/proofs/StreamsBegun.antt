@@ -1,5 +1,5 @@
 -- A search of a stream that is broken off, put together from its reads.
-use Rattle.acgrep.proofs.Words.{BeginsBehind, BeginsOf, BeginsSearched, BeginsWhole, Bool, Consumes, Context, EndsLine, FillsBehind, IfSome, IsAtEnd, IsEnding, IsSettled, Job, Keeps, List, None, Option, Patterns, ReadsSome, SearchesBehind, SearchesIn, SearchesText, Some, State, TellsFrom, TextIf, [], ap, append-nil, append_assoc, around_of, course, drop, false, inl, inr, length, lines, lines_by, refl, subst, sym, take, take-append-drop, text_lines, true, walk_of, ℕ, ◌++◌, ◌-◌, ◌<◌, ◌∙◌, ◌≡◌, ◌≤◌}
+use Rattle.acgrep.proofs.Words.{BeginsBehind, BeginsOf, BeginsSearched, BeginsWhole, Bool, Consumes, Context, EndsLine, FillsBehind, IfSome, IsAtEnd, IsEnding, IsSettled, Job, Keeps, List, None, Option, Patterns, ReadsSome, SearchesBehind, SearchesIn, SearchesText, Some, State, TellsFrom, TextIf, [], ap, append-nil, append_assoc, around_of, course, drop, false, inl, inr, is_text, length, lines, lines_by, refl, subst, sym, take, take-append-drop, text_lines, true, walk_of, ℕ, ◌++◌, ◌-◌, ◌<◌, ◌∙◌, ◌≡◌, ◌≤◌}
 use Rattle.acgrep.proofs.Beginnings.{begins_join}
 use Rattle.acgrep.proofs.Begun.{begins_all, begins_kept, begins_more, begins_nothing}
 use Rattle.acgrep.proofs.BinaryLines.{text_behind, text_front}

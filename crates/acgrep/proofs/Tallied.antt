@@ -1,5 +1,5 @@
 -- Lines that are counted, some after others, and what is told of their counts.
-use Rattle.acgrep.proofs.Words.{CountsLines, List, [], ap, append-nil, append_assoc, arith, common_steps, count_of, counts_table, length, length-map, lines, min, refl, rows_counted, rows_from, slice_index, subst, suc, sym, zero, zeros_of, ℕ, ◌++◌, ◌+◌, ◌-◌, ◌<◌, ◌^◌, ◌∙◌, ◌∷◌, ◌≡◌}
+use Rattle.acgrep.proofs.Words.{Bool, CountsLines, List, [], ap, append-nil, append_assoc, arith, common_steps, count_of, counts_table, false, filter, if◌then◌else◌, length, length-map, lines, min, refl, rows_counted, rows_from, slice_index, subst, suc, sym, true, writes, zero, zeros_of, ℕ, ◌++◌, ◌+◌, ◌-◌, ◌<◌, ◌^◌, ◌∙◌, ◌∷◌, ◌≡◌}
 
 -- the lines of two lists, one after the other
 count-both : (number : ℕ) (some more : List (List ℕ)) → count_of number (some ++ more) ≡ count_of number some + count_of number more

@@ -1,5 +1,5 @@
 -- What is told of lines, put together from parts.
-use Rattle.acgrep.proofs.Words.{Appends, Appends-nil, Appends-trans, AsFields, Bool, DoesMatch, DoesNotMatch, EachLine, EndsLine, Fit, HasNone, IsMatched, IsPassedOver, IsSelected, IsSettled, Job, LineOf, Lines, List, MatchBool, Matches, None, Objects, Occurrence, OnLines, Option, Patterns, Place, SamePlace, SearchesTo, Shown, ShowsBy, ShowsLine, Some, State, Style, TellsLines, TellsOfLines, WritesColored, WritesLine, WritesMatches, WritesNext, [], after_line, after_lines, and_parts, ap, append-nil, append_assoc, arith, asks_alone, cases_Bool, cases_lt, colored_from, colored_line_by, common_steps, drop, drop-drop, drop_all, false, head_of, if◌then◌else◌, inl, inr, is_full, is_numbered, length, length-drop, line_number_at, lines, ltb-true, match_by, match_code, matches_by, nat_le, nat_lt, next_count, not, objects_by, offset_at, one_more, painted, part_of, place_behind, refl, selects, subst, sym, true, true≢false, ℕ, ◌%◌, ◌&&◌, ◌++◌, ◌+◌, ◌-◌, ◌<◌, ◌==◌, ◌^◌, ◌∙◌, ◌∷◌, ◌≡◌, ◌≤◌}
+use Rattle.acgrep.proofs.Words.{AnyPart, Appends, Appends-nil, Appends-trans, AsFields, Bool, Count, DoesMatch, DoesNotMatch, EachLine, EndsLine, Fit, HasNone, IsMatched, IsPassedOver, IsSelected, IsSettled, Job, Lacking, LineOf, Lines, List, MatchBool, Matches, Names, None, Nothing, Objects, Occurrence, OnLines, Option, Patterns, Place, SamePlace, SearchesTo, Shown, ShowsBy, ShowsLine, Some, State, Style, TellsLines, TellsOfLines, WholeLine, WholeWord, WritesColored, WritesLine, WritesMatches, WritesNext, [], after_line, after_lines, and_parts, ap, append-nil, append_assoc, arith, asks_alone, cases_Bool, cases_lt, colored_from, colored_line_by, common_steps, drop, drop-drop, drop_all, false, head_of, if◌then◌else◌, inl, inr, is_full, is_numbered, length, length-drop, line_number_at, lines, ltb-true, match_by, match_code, matches_by, nat_le, nat_lt, next_count, not, objects_by, offset_at, one_more, painted, part_of, place_behind, refl, selects, subst, sym, true, true≢false, ℕ, ◌%◌, ◌&&◌, ◌++◌, ◌+◌, ◌-◌, ◌<◌, ◌==◌, ◌^◌, ◌∙◌, ◌∷◌, ◌≡◌, ◌≤◌}
 use Rattle.acgrep.proofs.Bools.{where_false, where_true}
 use Rattle.acgrep.proofs.LineLists.{ends_drop}
 

@@ -1,6 +1,8 @@
 -- What a message tells is one that may be told.
-use Rattle.acgrep.proofs.Words.{Bool, Bor, Count, Errors, IfSome, IsMessage, IsNamed, IsOneOf, IsToldCause, IsUnopened, Job, Known, Lacking, Lines, List, MatchBool, Matches, MayName, MaySaid, MayTell, Names, None, Nothing, Objects, Option, Outcome, Said, Searched, Seen, Shown, SinkGhosts, Some, Source, Stopped, Tells, TellsBytes, TellsIf, TellsOfOutcome, TellsOutcome, TellsSome, TellsStatus, Unread, [], ap, arith, cases_Bool, cases_lt, codes, common_steps, drop, false, files_told, get_or, if◌then◌else◌, inl, inr, is_enough, is_utf8, length, map, message_of, names_said, nat_lt, no_text_text, origin_of, origins_of, reason_text, refl, seen_after, shown_name, shown_names, slice_index_or, some-one, some-tells, some-then, some-weaker, source_names, status_by, subst, sym, take, take_all, tells-none, tells-weaker, then-some, true, unopened_line, ℕ, ◌++◌, ◌-◌, ◌<◌, ◌∙◌, ◌∷◌, ◌≡◌, ◌≤◌, ◌⊎◌}
+use Rattle.acgrep.proofs.Words.{Bool, Bor, Count, Errors, IfSome, IsMessage, IsNamed, IsOneOf, IsToldCause, IsUnopened, Job, Known, Lacking, Lines, List, MatchBool, Matches, MayName, MaySaid, MayTell, Names, None, Nothing, Objects, Option, Outcome, Said, Searched, Seen, Shown, SinkGhosts, Some, Source, Stopped, Tells, TellsBytes, TellsIf, TellsOfOutcome, TellsOutcome, TellsSome, TellsStatus, Unread, [], ap, arith, build_error_text, cases_Bool, cases_lt, codes, common_steps, drop, false, files_told, get_or, if◌then◌else◌, inl, inr, is_enough, is_utf8, length, loop_text, map, match_error_text, message_of, names_said, nat_lt, no_text_text, origin_of, origins_of, output_text, reason_text, refl, seen_after, shown_name, shown_names, slice_index_or, some-one, some-tells, some-then, some-weaker, source_names, status_by, subst, sym, take, take_all, tells-none, tells-weaker, then-some, true, unopened_line, unusable_text, zero_text, ℕ, ◌++◌, ◌-◌, ◌<◌, ◌∙◌, ◌∷◌, ◌≡◌, ◌≤◌, ◌⊎◌}
 use Prim.Native.Nat.{zero, suc}
+use Rattle.aho_core.specs.declared.error.BuildError.{BuildError}
+use Rattle.aho_core.specs.declared.error.MatchErrorKind.{MatchErrorKind}
 use Rattle.tool_parts.specs.declared.reason.Reason.{Reason}
 use Rattle.acgrep.specs.declared.arguments.Source.TheVariants.{File}
 use Rattle.acgrep.proofs.InTurn.{enough_only}

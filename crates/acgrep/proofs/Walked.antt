@@ -1,5 +1,5 @@
 -- Walks from line to line, one behind another.
-use Rattle.acgrep.proofs.Words.{Appends, Appends-trans, Bool, Context, EndsLine, IsPassedOver, IsSettled, Job, List, Option, PassesBy, PassesLine, Patterns, Place, State, Steps, TellsOfLines, Walk, WalksBegun, WalksOver, WalksText, [], after_line, ap, append-nil, append_assoc, arith, behind_chosen, behind_passed, cases_Bool, common_steps, false, inl, inr, is_full, lines, nat_lt, refl, subst, sym, true, true≢false, walk_of, ℕ, ◌++◌, ◌∙◌, ◌∷◌, ◌≡◌}
+use Rattle.acgrep.proofs.Words.{Appends, Appends-trans, Bool, Context, EndsLine, IsPassedOver, IsSettled, Job, List, Option, PassesBy, PassesLine, Patterns, Place, State, Steps, TellsOfLines, Walk, WalksBegun, WalksOver, WalksSome, WalksText, [], after_line, ap, append-nil, append_assoc, arith, behind_chosen, behind_passed, cases_Bool, common_steps, false, inl, inr, is_full, lines, nat_lt, refl, subst, sym, true, true≢false, walk_of, ℕ, ◌++◌, ◌∙◌, ◌∷◌, ◌≡◌}
 use Rattle.acgrep.specs.Contexts.{WalksLines}
 use Rattle.acgrep.proofs.Begun.{begins_behind}
 use Rattle.acgrep.proofs.LineLists.{lines_append}

@@ -1,5 +1,5 @@
 -- What a walk through folders finds.
-use Rattle.acgrep.proofs.Words.{AreBelow, AreFiles, Begins, Bool, Bor, Enters, File, FindsFiles, Folder, Found, HoldsNames, IfSome, IsKind, IsLost, IsPermutation-trans, Kind, List, Loses, MatchBool, None, Option, PutsInside, RuleSaid, Some, Spot, Tree, Ways, [], ap, arith, codes, common_steps, drop, entered, false, files_by, get_or, get_or-map, inl, input, inr, inside, is_folder, is_lost_left, is_spot_left, is_standard, left, length, length-map, listed_bytes, looked, lost, map, map-append, missed, missed_of, name_bytes, nat_cmp, none, operand, refl, slice_cmp, subst, sym, take, true, unlisted, ℕ, ◌++◌, ◌+◌, ◌-◌, ◌<◌, ◌∙◌, ◌∷◌, ◌≡◌}
+use Rattle.acgrep.proofs.Words.{AreBelow, AreFiles, Begins, Bool, Bor, Device, Enters, File, FindsFiles, Folder, Found, HoldsNames, IfSome, IsKind, IsLost, IsPermutation-trans, Kind, Link, List, Loses, MatchBool, None, Option, PutsInside, RuleSaid, Some, Spot, Tree, Ways, [], ap, arith, codes, common_steps, drop, entered, false, files_by, get_or, get_or-map, inl, input, inr, inside, is_folder, is_lost_left, is_spot_left, is_standard, left, length, length-map, listed_bytes, looked, lost, map, map-append, missed, missed_of, name_bytes, nat_cmp, none, operand, refl, slice_cmp, subst, sym, take, take_all, true, unlisted, ℕ, ◌++◌, ◌+◌, ◌-◌, ◌<◌, ◌∙◌, ◌∷◌, ◌≡◌}
 use Rattle.std.specs.List.Sorted.{IsPermutation, IsSorted, IsSortedBy}
 use Rattle.std.proofs.lemmas.List.{append-nil, append_assoc}
 

@@ -1,5 +1,5 @@
 -- The patterns of sources, one after another, as the lines of one text.
-use Rattle.acgrep.proofs.Words.{AddsText, AddsWords, AreWords, Consumes, EndsLine, IfSome, IsAtEnd, IsEnding, Keeps, List, Nowhere, Option, Origin, Some, Source, StartsWith, [], ap, append-nil, append_assoc, arith, cases_Bool, codes, common_steps, drop, false, get_or, inl, inr, is_input, joined_to, length, lines, origin_of, origins_of, refl, starts_with_rest, subst, suc, sym, take, take_all, true, ℕ, ◌++◌, ◌-◌, ◌<◌, ◌==◌, ◌∙◌, ◌∷◌, ◌≡◌, ◌≤◌}
+use Rattle.acgrep.proofs.Words.{AddsText, AddsWords, AreWords, Consumes, EndsLine, IfSome, IsAtEnd, IsEnding, Keeps, List, None, Nowhere, Option, Origin, Some, Source, StartsWith, [], ap, append-nil, append_assoc, arith, cases_Bool, codes, common_steps, drop, false, get_or, inl, inr, is_input, joined_to, length, lines, origin_of, origins_of, refl, starts_with_rest, subst, suc, sym, take, take_all, true, ℕ, ◌++◌, ◌-◌, ◌<◌, ◌==◌, ◌∙◌, ◌∷◌, ◌≡◌, ◌≤◌}
 use Rattle.acgrep.proofs.FirstLines.{lines_joined}
 use Rattle.acgrep.proofs.LineLists.{lines_append}
 

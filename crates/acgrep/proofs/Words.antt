@@ -28,7 +28,7 @@ pub use Rattle.acgrep.specs.Runs.{AreReached, AreRules, AreRulesOf, AreSought, A
 pub use Rattle.acgrep.specs.RunsByRules.{AddsRules, AreAllRules, AreNamedRules, BeginsByRules, MarksAsked, MayBeginAsked, SearchesByRules, is_own, long_message, marking_by, unwritten_line}
 pub use Rattle.acgrep.specs.Selected.{HoldNoEnding, IsFirstWith, IsLine, IsNoneSelected}
 pub use Rattle.acgrep.specs.Streamed.{BeginsBehind, BeginsWhole, Course, ReadsSome, SearchesBehind, SearchesWhole, TextIf, course}
-pub use Rattle.acgrep.specs.Tallies.{CountsLines, count_of, counts_table, rows_counted, rows_from, zeros_of}
+pub use Rattle.acgrep.specs.Tallies.{CountsLines, count_of, counts_table, rows_counted, rows_from, writes, zeros_of}
 pub use Rattle.acgrep.specs.Told.{IsMessage, IsToldCause, IsUnopened, MayName, MaySaid, MaySay, MayTell, TellsIf, TellsOfCall, TellsOfEnd, TellsOfFile, TellsOfOutcome, TellsOfSaid, TellsOfSearch, TellsOutcome, TellsStatus, files_told, is_hushed, loop_text, names_said, names_told, no_text_text, number_parts, output_text, rule_files, shown_names, source_names, stopped_if, unopened_line, unusable_text, valued_name, wrong_parts, zero_text}
 pub use Rattle.acgrep.specs.ToldByRules.{IsMarkTold}
 pub use Rattle.acgrep.specs.Written.{DoesMatch, DoesNotMatch, EachLine, HasMatch, HasNone, IsAny, IsMatched, IsPassedOver, IsSelected, IsSettled, LineOf, NumbersLines, SamePlace, SearchesPlain, SearchesTo, ShowsBy, ShowsLine, SomeLine, TellsLines, TellsOfLines, WritesLine, WritesNext, after_line, after_lines, is_full, is_numbered, needs_one, next_count, one_more, place_behind, selects}
@@ -40,12 +40,12 @@ pub use Rattle.acgrep.specs.declared.files.Outcome.{Outcome}
 pub use Rattle.acgrep.specs.declared.files.Outcome.TheVariants.{Searched, Stopped, Unread}
 pub use Rattle.acgrep.specs.declared.files.Seen.{Seen}
 pub use Rattle.acgrep.specs.declared.folders.Kind.{Kind}
-pub use Rattle.acgrep.specs.declared.folders.Kind.TheVariants.{File, Folder}
+pub use Rattle.acgrep.specs.declared.folders.Kind.TheVariants.{Device, File, Folder, Link}
 pub use Rattle.acgrep.specs.declared.format.Front.{Front}
 pub use Rattle.acgrep.specs.declared.format.Piece.{Piece}
 pub use Rattle.acgrep.specs.declared.long.Valued.TheVariants.{After, Around, Before, BinaryFiles, Devices, Excluded, ExcludedFolder, ExcludedFrom, FirstLine, Folders, Format, Included, Label, LineLimit, MaxCount, Offset, PatternFile, Regexp, RuleFile, Separator}
 pub use Rattle.acgrep.specs.declared.marked.Pass.{Pass}
-pub use Rattle.acgrep.specs.declared.matches.Shape.TheVariants.{AsFields, OnLines}
+pub use Rattle.acgrep.specs.declared.matches.Shape.TheVariants.{AsFields, Colored, OnLines}
 pub use Rattle.acgrep.specs.declared.options.Context.{Context}
 pub use Rattle.acgrep.specs.declared.options.Fit.{Fit}
 pub use Rattle.acgrep.specs.declared.options.Fit.TheVariants.{AnyPart, WholeLine, WholeWord}
@@ -70,7 +70,7 @@ pub use Rattle.aho_core.specs.Search.{plain_search}
 pub use Rattle.aho_core.specs.Texts.{build_error_text, match_error_text}
 pub use Rattle.aho_core.specs.declared.search.Anchored.TheVariants.{No}
 pub use Rattle.aho_core.specs.declared.search.MatchKind.{MatchKind}
-pub use Rattle.aho_core.specs.declared.search.MatchKind.TheVariants.{LeftmostLongest, Standard}
+pub use Rattle.aho_core.specs.declared.search.MatchKind.TheVariants.{LeftmostFirst, LeftmostLongest, Standard}
 pub use Rattle.aho_core.specs.declared.search.Span.{Span}
 pub use Rattle.aho_cover.proofs.Copied.{begins_with}
 pub use Rattle.aho_devices.specs.Counts.{AppendsBeginning, counted}
@@ -90,15 +90,15 @@ pub use Rattle.std.proofs.Common.{Bool, Bor, List, None, Option, Some, [], add-o
 pub use Rattle.std.proofs.KnownBytes.{Appends-kept, Appends-nil, Appends-trans, Consumes-nil, Consumes-trans, Consumes-whole, Keeps-refl, Keeps-trans, starts_with_rest}
 pub use Rattle.std.proofs.Math.Bool.{and-false, and-true, or-false, or-true, or_assoc}
 pub use Rattle.std.proofs.Math.ListN.{get_or}
-pub use Rattle.std.proofs.Math.Seq.{drop-append-add, drop-append_seam, take-append-add}
-pub use Rattle.std.proofs.lemmas.Bool.{and_from, and_parts, and_right, cases_Bool, cases_lt, eq-eqb, eqb-true, false_from_ne_true, leb-false, leb-true, lt-ltb, ltb-false, ltb-true, ne_eqb, not-true, not_from_false, or_parts, or_right, true≢false}
+pub use Rattle.std.proofs.Math.Seq.{drop-append-add, drop-append_seam, drop-nil, take-append-add}
+pub use Rattle.std.proofs.lemmas.Bool.{and_from, and_parts, and_right, cases_Bool, cases_lt, eq-eqb, eqb-true, false_from_ne_true, leb-false, leb-true, lt-leb, lt-ltb, ltb-false, ltb-true, ne_eqb, not-true, not_from_false, or_parts, or_right, true≢false}
 pub use Rattle.std.proofs.lemmas.Bool.Decides.{Decides-eqb, not_from_Decides}
 pub use Rattle.std.proofs.lemmas.Fmt.{IsAscii-from_digits, length-decimal-le}
 pub use Rattle.std.proofs.lemmas.Grind.{common_steps, flat_map-append}
-pub use Rattle.std.proofs.lemmas.List.{drop-append-le, drop-drop, drop_all, get_or-append-add, get_or-drop, get_or-map, get_or-take, length-drop, length-map, length-take-le, map-append, nil_from_length, take-append-le, take-take, take_all, take_more}
+pub use Rattle.std.proofs.lemmas.List.{at_drop_more, drop-append-le, drop-drop, drop_all, get_or-append-add, get_or-drop, get_or-map, get_or-take, length-drop, length-map, length-take-le, map-append, nil_from_length, take-append-le, take-take, take_all, take_more}
 pub use Rattle.std.proofs.lemmas.List.Elements.{All-from_get_or, All-nil}
 pub use Rattle.std.proofs.lemmas.List.Sorted.{IsPermutation-map, IsPermutation-trans}
-pub use Rattle.std.proofs.lemmas.List.Sums.{fails_before_first, position_or_len_is, sum_by-cons}
+pub use Rattle.std.proofs.lemmas.List.Sums.{fails_before_first, position_or_len_is, sum_by-cons, sum_by-drop_more}
 pub use Rattle.std.proofs.lemmas.Result.{on_ok_weaker}
 pub use Rattle.std.proofs.lemmas.Str.{IsUtf8-from_ascii, IsUtf8-from_is_utf8, is_utf8-from_IsUtf8}
 pub use Rattle.std.specs.Borrow.{MutBor}
@@ -108,7 +108,7 @@ pub use Rattle.std.specs.Io.{StartsWith}
 pub use Rattle.std.specs.Io.KnownBytes.{Appends, Consumes, IsAtEnd, Keeps}
 pub use Rattle.std.specs.List.{concat, flat_map, position_or_len, slice_split, starts_with, sum}
 pub use Rattle.std.specs.Ordering.{is_lt, nat_cmp}
-pub use Rattle.std.specs.Prelude.{Err, IfOk, IfSome, MatchBool, Ok, OnErr, OnOk, Result, Vec, decimal, if◌then◌else◌, map, nat_eq, nat_le, nat_lt, not, option_and_then, option_map, slice_index, slice_index_or, slice_range, ⊤, ◌&&◌, ◌||◌, ◌≢◌}
+pub use Rattle.std.specs.Prelude.{Err, IfOk, IfSome, MatchBool, Ok, OnErr, OnOk, Result, Vec, decimal, filter, if◌then◌else◌, map, nat_eq, nat_le, nat_lt, not, option_and_then, option_map, slice_index, slice_index_or, slice_range, unwrap_or, ⊤, ◌&&◌, ◌||◌, ◌≢◌}
 pub use Rattle.std.specs.Str.{IsUtf8, all_ascii_digits, is_utf8}
 pub use Rattle.tool_parts.proofs.Beginnings.{beginning-kept, beginning-whole}
 pub use Rattle.tool_parts.proofs.Lines.{some-one, some-tells, some-then, some-weaker, tells-none, tells-then, tells-weaker, then-some}

@@ -3,7 +3,7 @@ use Rattle.acgrep.specs.Words.{Bool, LeftmostLongest, List, MatchBool, None, Occ
 use Rattle.aho_core.specs.Best.{IsBestOrNone}
 use Rattle.aho_core.specs.Iteration.{AreFinds}
 use Rattle.aho_core.specs.Order.{IsBefore}
-use Rattle.acgrep.specs.Types.{Fit, WholeWord}
+use Rattle.acgrep.specs.Types.{AnyPart, Fit, WholeLine, WholeWord}
 
 -- a letter of ASCII, a digit or `_`
 abbrev pub is_word_constituent : ℕ → Bool

@@ -1,7 +1,7 @@
 -- Which options do not go with rules.
-use Rattle.acgrep.specs.Words.{Bool, LeftmostLongest, List, MatchKind, None, Option, Some, [], bytes_eq, codes, false, if◌then◌else◌, is_some, not, true, ℕ, ◌++◌, ◌==◌, ◌∷◌}
+use Rattle.acgrep.specs.Words.{Bool, LeftmostFirst, LeftmostLongest, List, MatchKind, None, Option, Some, Standard, [], bytes_eq, codes, false, if◌then◌else◌, is_some, not, true, ℕ, ◌++◌, ◌==◌, ◌∷◌}
 use Rattle.acgrep.specs.Arguments.{Origin, Said}
-use Rattle.acgrep.specs.Types.{Color, Flags, Never}
+use Rattle.acgrep.specs.Types.{Always, Auto, Color, Flags, Never}
 use Rattle.acgrep.specs.declared.beside.Unfit.{Unfit}
 use Rattle.acgrep.specs.declared.beside.Unfit.TheVariants.{Beside, Alone}
 

@@ -3,7 +3,7 @@ use Rattle.acgrep.specs.Words.{Bool, List, MatchBool, Patterns, [], codes, false
 use Rattle.acgrep.specs.Contexts.{TellsFile}
 use Rattle.acgrep.specs.Lines.{lines}
 use Rattle.acgrep.specs.Written.{IsAny, IsSelected, SomeLine, is_full}
-use Rattle.acgrep.specs.Types.{Job, Lines, Matches, Nothing, Shown, Style}
+use Rattle.acgrep.specs.Types.{Count, Job, Lacking, Lines, Matches, Names, Nothing, Objects, Shown, Style}
 
 -- whether bytes hold no zero byte
 abbrev pub is_text : List ℕ → Bool

@@ -5,7 +5,7 @@ use Rattle.acgrep.specs.Filled.{held_lines}
 use Rattle.acgrep.specs.Lines.{lines}
 use Rattle.acgrep.specs.Printed.{separator_by}
 use Rattle.acgrep.specs.Written.{IsPassedOver, IsSelected, IsSettled, SearchesPlain, ShowsLine, TellsOfLines, after_line, is_full, one_more}
-use Rattle.acgrep.specs.Types.{Context, Job, Lines, Matches, Place, Shown, State, Style}
+use Rattle.acgrep.specs.Types.{Context, Count, Job, Lacking, Lines, Matches, Names, Nothing, Objects, Place, Shown, State, Style}
 use Rattle.acgrep.specs.declared.trail.Trail.{Trail}
 
 -- lines around selected ones are written where lines or matches are

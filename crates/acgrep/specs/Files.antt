@@ -8,7 +8,7 @@ use Rattle.acgrep.specs.InTurn.{AreBegun, AreDoneOr, FileWork}
 use Rattle.acgrep.specs.Lines.{lines}
 use Rattle.acgrep.specs.Printed.{count_by, file_line}
 use Rattle.acgrep.specs.Written.{IsAny, IsSelected, SomeLine, TellsOfLines, is_full, needs_one}
-use Rattle.acgrep.specs.Types.{Count, Job, Lacking, Lines, Names, Nothing, Shown, Style}
+use Rattle.acgrep.specs.Types.{Count, Job, Lacking, Lines, Matches, Names, Nothing, Objects, Shown, Style}
 
 -- behind the lines of a file stands their count where it is asked for
 abbrev pub count_if : Shown → Style → ℕ → List ℕ

@@ -7,7 +7,7 @@ use Rattle.acgrep.specs.Listed.{listed_bytes}
 use Rattle.acgrep.specs.Rules.{RuleSaid, is_left_out, without_slashes}
 use Rattle.acgrep.specs.Types.{FolderGhosts, Openers, Ways}
 use Rattle.acgrep.specs.declared.folders.Kind.{Kind}
-use Rattle.acgrep.specs.declared.folders.Kind.TheVariants.{File, Folder, Device}
+use Rattle.acgrep.specs.declared.folders.Kind.TheVariants.{File, Folder, Link, Device}
 use Rattle.acgrep.specs.declared.walk.Found.{Found}
 use Rattle.acgrep.specs.declared.walk.Pending.{Pending}
 use Rattle.acgrep.specs.declared.walk.Unread.{Unread}

@@ -1,7 +1,7 @@
 -- Files that are searched one after another, whatever is searched for in them.
 use Rattle.acgrep.specs.Words.{Bool, Keeps, List, MatchBool, Option, [], false, if◌then◌else◌, true, ℕ, ◌||◌, ◌∷◌, ◌≡◌, ◌⊎◌}
 use Rattle.tool_parts.specs.Answers.{status_of}
-use Rattle.acgrep.specs.Types.{Nothing, Outcome, Searched, Shown, Stopped, Unread}
+use Rattle.acgrep.specs.Types.{Count, Lacking, Lines, Matches, Names, Nothing, Objects, Outcome, Searched, Shown, Stopped, Unread}
 use Rattle.acgrep.specs.declared.files.Seen.{Seen}
 
 -- under `-q` one selected line of any file is enough

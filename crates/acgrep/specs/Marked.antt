@@ -3,7 +3,7 @@ use Rattle.acgrep.specs.Words.{Appends, AppendsBeginning, Bool, List, MutBor, No
 use Rattle.acgrep.specs.Objects.{FieldsTold, bytes_named, fields_by, json_escaped, number_named}
 use Rattle.acgrep.specs.Printed.{line_by, matches_by}
 use Rattle.acgrep.specs.Written.{needs_one, one_more}
-use Rattle.acgrep.specs.Types.{Lines, Matches, Objects, Pass, Place, Shown, Style}
+use Rattle.acgrep.specs.Types.{Count, Lacking, Lines, Matches, Names, Nothing, Objects, Pass, Place, Shown, Style}
 use Rattle.acgrep.specs.declared.marked.Task.{Task}
 
 -- the name of the rule of a number

@@ -1,11 +1,11 @@
 -- Which mistake is told of wrong arguments: the first one, in order.
-use Rattle.acgrep.specs.Words.{Err, Errors, Form, IfErr, List, NoArgument, NoName, None, Ok, Option, Result, SinkGhosts, Some, TakesNone, TellsBytes, UnknownLetter, [], argument_form, codes, concat, if◌then◌else◌, is_ascii_digit, joined_letters, long_name, long_with, meant, message_by, reason_text, ℕ, ◌++◌, ◌==◌, ◌||◌, ◌∷◌, ◌≡◌, ◌⊎◌}
+use Rattle.acgrep.specs.Words.{Err, Errors, Form, IfErr, List, NoArgument, NoName, None, Ok, Option, Result, SinkGhosts, Some, TakesNone, TellsBytes, UnknownLetter, [], argument_form, codes, concat, if◌then◌else◌, is_ascii_digit, joined_letters, long_name, long_with, meant, message_by, no_more, no_option, reason_text, ℕ, ◌++◌, ◌==◌, ◌||◌, ◌∷◌, ◌≡◌, ◌⊎◌}
 use Rattle.tool_parts.specs.declared.reason.Reason.TheVariants.{OutOfMemory as NoMemory}
 use Rattle.tool_parts.specs.declared.options.found.NotFound.{NotFound}
 use Rattle.acgrep.specs.Arguments.{ReadSoFar, Said, argument_by, nothing_said, number_by, switch_by, valued_letter}
 use Rattle.acgrep.specs.Long.{found_by, option_by}
 use Rattle.acgrep.specs.Told.{TellsWrong, binary_parts, color_parts, devices_parts, folders_parts, format_parts, kind_parts, misuse_parts, number_parts, valued_name, wrong_parts}
-use Rattle.acgrep.specs.Types.{After, Argument, Around, Awaited, Before, BinaryFiles, Devices, FirstLine, Folders, Format, Fresh, Kind, LineLimit, Long, MaxCount, NoPattern, Offset, Operands, OutOfMemory, Plain, Refusal, Takes, Valued, When, Wrong}
+use Rattle.acgrep.specs.Types.{After, Argument, Around, Awaited, Before, BinaryFiles, Devices, Excluded, ExcludedFolder, ExcludedFrom, FirstLine, Folders, Format, Fresh, Included, Kind, Label, LineLimit, Long, MaxCount, NoPattern, Offset, Operands, OutOfMemory, PatternFile, Plain, Refusal, Regexp, RuleFile, Separator, Takes, Valued, When, Wrong}
 
 -- what is told of an argument that an option cannot have; any is a pattern, a file's name, a separator, a label or a glob
 abbrev pub wrong_value : Valued → List ℕ → List (List ℕ)

@@ -11,7 +11,7 @@ use Rattle.acgrep.specs.Listed.{listed_bytes}
 use Rattle.acgrep.specs.Rules.{RuleSaid, is_from_file, rules_in}
 use Rattle.acgrep.specs.Tallies.{counts_table}
 use Rattle.acgrep.specs.Written.{IsPassedOver}
-use Rattle.acgrep.specs.Types.{Always, AnyPart, Auto, Color, Count, Fit, Flags, Form, Job, Json, Lines, Matches, Never, Objects, PatternNumber, Piece, Pieces, Place, Screen, Shown, Source, Ways}
+use Rattle.acgrep.specs.Types.{Always, AnyPart, Auto, Color, Count, Fit, Flags, Form, Job, Json, Lacking, Lines, Matches, Names, Never, Nothing, Objects, PatternNumber, Piece, Pieces, Place, Screen, Shown, Source, Ways, WholeLine, WholeWord}
 use Rattle.acgrep.specs.Colors.{colors_by, palette_of}
 
 -- what holds of what the arguments say, where they are right

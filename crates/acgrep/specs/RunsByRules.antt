@@ -1,11 +1,12 @@
 -- What a call does by rules, by what its arguments say.
 use Rattle.acgrep.specs.Words.{Automata, Bool, Bor, Covering, Keeps, List, MatchBool, Option, Patterns, Readers, Rule, SinkGhosts, Standard, [], bytes_eq, codes, covering_by, decimal, false, if◌then◌else◌, name_bytes, unwrap_or, ℕ, ◌++◌, ◌<◌, ◌==◌, ◌∷◌, ◌≡◌, ◌⊎◌}
-use Rattle.acgrep.specs.Types.{Flags, FolderGhosts, Marking, Openers, Screen}
+use Rattle.acgrep.specs.Types.{Flags, FolderGhosts, Job, Marking, Openers, Screen}
 use Rattle.secret_rules.specs.Rules.{AreSound}
 use Rattle.secret_rules.specs.Tables.{TellsRules}
 use Rattle.acgrep.specs.Arguments.{Said}
 use Rattle.acgrep.specs.Folders.{Known, known_by}
 use Rattle.acgrep.specs.MarkedFiles.{AreMarkedOr, AreMarksBegun, IfMarks}
+use Rattle.acgrep.specs.Rules.{RuleSaid}
 use Rattle.acgrep.specs.Runs.{After, AfterRules, IsTextOf, Reached, ReachesAll, status_told}
 
 -- the name that stands for the rules of the program

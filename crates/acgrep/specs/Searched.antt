@@ -1,5 +1,5 @@
 -- What searching does, whatever patterns the searcher was built from.
-use Rattle.acgrep.specs.Words.{Appends, Bool, Bor, IfOk, IsBuiltFrom, List, OnErr, OnOk, Option, Patterns, Readers, Result, Searcher, SinkGhosts, Writers, [], ℕ, ◌∷◌}
+use Rattle.acgrep.specs.Words.{Appends, Bool, Bor, IfOk, IsBuiltFrom, List, OnErr, OnOk, Option, Patterns, Readers, Result, Searcher, SinkGhosts, Writers, [], false, true, ℕ, ◌∷◌, ◌≡◌}
 use Rattle.acgrep.specs.Contexts.{BeginsLines, BeginsSearched, IsChosenBy, SearchesText, ShowsEach, ShowsGroup, WalksBegun, WalksLines, WalksText, walk_of}
 use Rattle.acgrep.specs.Files.{BeginsFile, SearchesFile, SearchesReader}
 use Rattle.acgrep.specs.InTurn.{IfBroken, IfSearched}
@@ -8,7 +8,7 @@ use Rattle.acgrep.specs.Guarded.{FindsSelected}
 use Rattle.acgrep.specs.Lines.{lines}
 use Rattle.acgrep.specs.Selected.{ForLines}
 use Rattle.acgrep.specs.Streamed.{BeginsBehind}
-use Rattle.acgrep.specs.Written.{EachLine, HasNone, SearchesPlain, SearchesTo, TellsLines, WritesLine, WritesNext}
+use Rattle.acgrep.specs.Written.{EachLine, HasMatch, HasNone, IsMatched, IsSelected, SearchesPlain, SearchesTo, TellsLines, WritesLine, WritesNext}
 use Rattle.acgrep.specs.Types.{Context, Job, Outcome, Place, State}
 use Rattle.acgrep.specs.declared.buffer.Buffer.{Buffer}
 

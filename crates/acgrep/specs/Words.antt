@@ -7,7 +7,7 @@ pub use Rattle.aho_core.specs.Search.{plain_search}
 pub use Rattle.aho_core.specs.Texts.{build_error_text, match_error_text}
 pub use Rattle.aho_core.specs.declared.error.BuildError.{BuildError}
 pub use Rattle.aho_core.specs.declared.search.MatchKind.{MatchKind}
-pub use Rattle.aho_core.specs.declared.search.MatchKind.TheVariants.{LeftmostLongest, Standard}
+pub use Rattle.aho_core.specs.declared.search.MatchKind.TheVariants.{LeftmostFirst, LeftmostLongest, Standard}
 pub use Rattle.aho_devices.specs.Counts.{AppendsBeginning}
 pub use Rattle.aho_devices.specs.declared.device.Sink.{Ghosts as SinkGhosts}
 pub use Rattle.chromesquid.specs.Searcher.{IsBuiltFrom, Searcher}

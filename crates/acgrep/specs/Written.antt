@@ -4,7 +4,7 @@ use Rattle.acgrep.specs.Alone.{AreShownOf, IsAloneFrom, asks_alone}
 use Rattle.acgrep.specs.Lines.{EndsLine, lines}
 use Rattle.acgrep.specs.Objects.{objects_by}
 use Rattle.acgrep.specs.Printed.{colored_line_by, line_by, matches_by}
-use Rattle.acgrep.specs.Types.{AnyPart, Fit, Job, Lacking, Lines, Matches, Names, Nothing, Objects, Place, Shown, State, Style, WholeLine, WholeWord}
+use Rattle.acgrep.specs.Types.{AnyPart, Count, Fit, Job, Lacking, Lines, Matches, Names, Nothing, Objects, Place, Shown, State, Style, WholeLine, WholeWord}
 
 -- a pattern occurs in a line
 abbrev pub HasMatch : Patterns → List ℕ → Type 0
