@@ -47,9 +47,12 @@ as-first P items operands pattern names none cut is = rw (none, cut) is
 pub returns-in-Some-clause-told : goal.returns-in-Some-clause-told
 returns-in-Some-clause-told g c =
     let none : c.args.given.now.sources.items ≡ [] = sym c.as_slice-sources.ensures.value ∙ nil_from_length c.as_slice-sources.result.now (grind (arith, common_steps, c.is_empty.ensures, c.if-not-is_empty.false)) in
-    as-first (λ sources names. TellsOfSearch g.E.Sink _ _ sources names _ _ _) _ _ _ _ none (sym c.as_slice-operands.ensures.value ∙ c.in-Some.ensures.cases.0) c.search-in-Some.ensures.told
+    as-first (λ (sources : List Origin) (names : List (List ℕ)). TellsOfSearch g.E.Sink (tree_of g.F.Folders c.args.files.now) (said c.args.given.now) sources names c.search-in-Some.result c.args.errors.now c.search-in-Some.new.errors)
+    c.args.given.now.sources.items c.args.given.now.operands.items c.in-Some.pattern.now c.in-Some.names.now none (sym c.as_slice-operands.ensures.value ∙ c.in-Some.ensures.cases.0) c.search-in-Some.ensures.told
 
 pub returns-in-Some-clause-searches : goal.returns-in-Some-clause-searches
 returns-in-Some-clause-searches g c = λ low.
     let none : c.args.given.now.sources.items ≡ [] = sym c.as_slice-sources.ensures.value ∙ nil_from_length c.as_slice-sources.result.now (grind (arith, common_steps, c.is_empty.ensures, c.if-not-is_empty.false)) in
-    as-first (λ sources names. SearchesFor _ _ _ sources names _ _ _ _ _) _ _ _ _ none (sym c.as_slice-operands.ensures.value ∙ c.in-Some.ensures.cases.0) (c.search-in-Some.ensures.searches low)
+    as-first (λ (sources : List Origin) (names : List (List ℕ)). SearchesFor (known_by g.F.Open g.F.Folders c.args.files.now) c.args.screen.now (said c.args.given.now) sources names
+    (g.R.Read.remaining c.args.input.now) (g.R.Read.remaining c.search-in-Some.new.input) (g.W.Sink.taken c.args.output.now) (g.W.Sink.taken c.search-in-Some.new.output) c.search-in-Some.result)
+    c.args.given.now.sources.items c.args.given.now.operands.items c.in-Some.pattern.now c.in-Some.names.now none (sym c.as_slice-operands.ensures.value ∙ c.in-Some.ensures.cases.0) (c.search-in-Some.ensures.searches low)
