@@ -44,6 +44,7 @@ mod rule_lists;
 mod ruled;
 mod rules;
 mod run;
+mod searcher;
 mod select;
 mod stream;
 mod tally;

@@ -464,15 +464,15 @@ fn read_letter<'a>(items: &mut Vec<Item<'a>>, letters: &'a str) -> Result<Expect
 fn take_value<'a>(
     items: &mut Vec<Item<'a>>,
     word: Word,
-    rest: &'a str,
+    behind: &'a str,
 ) -> Result<Expects, Mistake<'a>>
-    ensures read { ReadsAs (by_taken word rest.now) items.old items.new result }
+    ensures read { ReadsAs (by_taken word behind.now) items.old items.new result }
     ensures memory { IfErr result (λ mistake. mistake ≡ Mistake.OutOfMemory) }
 {
-    if rest.is_empty() {
+    if behind.is_empty() {
         return Ok(Expects::Value(word));
     }
-    add(items, word, rest)?;
+    add(items, word, behind)?;
     Ok(Expects::Any)
 }
 

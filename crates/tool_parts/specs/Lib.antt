@@ -1,6 +1,5 @@
 pub mod Asked
 pub mod Automata
-pub mod Building
 pub mod Failures
 pub mod Streams
 pub mod Answers

@@ -5,7 +5,6 @@
 #![tactic(auto)]
 
 pub mod arguments;
-pub mod building;
 pub mod closed;
 pub mod command;
 pub mod errors;

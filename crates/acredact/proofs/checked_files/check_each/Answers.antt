@@ -1,0 +1,60 @@
+-- A file more was looked at.
+use Rattle.std.proofs.Common.{rules, ◌≡◌, ◌≤◌, ℕ, List, length, subst, sym}
+use Rattle.std.specs.Prelude.{Result, Err}
+use Rattle.tool_parts.specs.Names.{name_bytes}
+use Rattle.tool_parts.specs.Streams.{bytes_left}
+use Rattle.secret_rules.specs.declared.error.LineError.{LineError}
+use Rattle.acredact.specs.RuledChecks.{SeesFiles, quest_in}
+use Rattle.acredact.specs.declared.look.Verdict.{Verdict}
+use Rattle.acredact.proofs.Done.{names_cut, names_end}
+use Rattle.acredact.proofs.LookedFiles.{SeenSoFar, so_far_all, so_far_fails, so_far_next, so_far_none}
+use Rattle.acredact.proofs.checked_files.check_each.Goals as goal
+
+pub loop-rest-init : goal.loop-rest-init
+loop-rest-init g c = record {
+  can = c.requires.ready;
+  seen = λ covering covered. (covered, so_far_none g.E.Sink (quest_in g.F.Folder c.args.checked.now covering) (name_bytes c.args.names.now) _ _ _);
+}
+
+pub loop-rest-preserved : goal.loop-rest-preserved
+loop-rest-preserved g c =
+    let some : 1 ≤ length c.loop-rest.rest.now = search rules in
+    record {
+      can = c.in_ok-seen.ensures.ready;
+      seen = λ covering covered.
+          let quest = quest_in g.F.Folder c.args.checked.now covering in
+          let so = c.loop-rest.invariant.seen covering covered in
+          let far = subst (λ (l : List (List ℕ)). SeenSoFar g.E.Sink quest (name_bytes c.args.names.now) l c.loop-rest.verdict (bytes_left c.args.input.now) (bytes_left c.loop-rest.input)
+          (g.W.Sink.taken c.args.output.now) (g.W.Sink.taken c.loop-rest.output) c.args.errors.now c.loop-rest.errors)
+          (names_cut c.loop-rest.rest.now _ some) so.1 in (
+            c.in_ok-seen.ensures.still covering so.0,
+            so_far_next g.E.Sink quest (name_bytes c.args.names.now) _ _ c.loop-rest.verdict _ c.in_ok-seen.seen _ _ _ _ _ _ _ _ _ far (c.in_ok-seen.ensures.sees covering so.0) c.verdict_seen-verdict.ensures.seen,
+          );
+    }
+
+pub returns-in_err-seen : goal.returns-in_err-seen
+returns-in_err-seen g c =
+    let is : c.from_residual.result ≡ Err c.in_err-seen.field-0.0 = search rules in
+    let some : 1 ≤ length c.loop-rest.rest.now = search rules in
+    record {
+      sees = λ covering covered.
+          let quest = quest_in g.F.Folder c.args.checked.now covering in
+          let so = c.loop-rest.invariant.seen covering covered in
+          let far = subst (λ (l : List (List ℕ)). SeenSoFar g.E.Sink quest (name_bytes c.args.names.now) l c.loop-rest.verdict (bytes_left c.args.input.now) (bytes_left c.loop-rest.input)
+          (g.W.Sink.taken c.args.output.now) (g.W.Sink.taken c.loop-rest.output) c.args.errors.now c.loop-rest.errors)
+          (names_cut c.loop-rest.rest.now _ some) so.1 in
+          subst (λ (r : Result Verdict LineError). SeesFiles g.W.Sink g.E.Sink g.F.Folder c.args.checked.now c.args.names.now r c.args.input.now c.check_told.new.input c.args.output.now c.check_told.new.output c.args.errors.now c.check_told.new.errors covering) (sym is)
+          (so_far_fails g.E.Sink quest (name_bytes c.args.names.now) _ _ c.loop-rest.verdict _ _ _ _ _ _ _ _ _ _ far (c.in_err-seen.ensures.sees covering so.0));
+    }
+
+pub returns : goal.returns
+returns g c =
+    let none : length c.loop-rest.rest.now ≡ 0 = search rules in
+    record {
+      sees = λ covering covered.
+          let quest = quest_in g.F.Folder c.args.checked.now covering in
+          so_far_all g.E.Sink quest (name_bytes c.args.names.now) c.loop-rest.verdict _ _ _ _ _ _
+          (subst (λ (l : List (List ℕ)). SeenSoFar g.E.Sink quest (name_bytes c.args.names.now) l c.loop-rest.verdict (bytes_left c.args.input.now) (bytes_left c.loop-rest.input)
+          (g.W.Sink.taken c.args.output.now) (g.W.Sink.taken c.loop-rest.output) c.args.errors.now c.loop-rest.errors)
+          (names_end c.loop-rest.rest.now none) (c.loop-rest.invariant.seen covering covered).1);
+    }
