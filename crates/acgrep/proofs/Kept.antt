@@ -3,11 +3,11 @@ use Rattle.std.proofs.Common.{false, ◌≡◌, inl, inr, ℕ, List, Option, Som
 use Rattle.std.specs.Io.KnownBytes.{Keeps}
 use Rattle.std.proofs.KnownBytes.{Keeps-trans}
 use Rattle.aho_core.specs.Patterns.{Patterns}
+use Rattle.tool_parts.specs.Building.{patterns_by_kind}
 use Rattle.acgrep.specs.Arguments.{Origin, Said}
 use Rattle.acgrep.specs.Files.{search_work}
 use Rattle.acgrep.specs.Folders.{Known}
 use Rattle.acgrep.specs.Runs.{AreSought, BeginsFor, BeginsOrKeeps, BeginsSearch, SearchesFor, SearchesRuled, kind_sought, knows_none, names_by, ruled, sources_by, words_sought}
-use Rattle.acgrep.specs.Searchers.{patterns_asked}
 use Rattle.acgrep.specs.declared.colors.Screen.{Screen}
 use Rattle.acgrep.proofs.Bools.{either_way}
 use Rattle.acgrep.proofs.InTurn.{begun_kept, or_kept}
@@ -27,7 +27,7 @@ module _ (held' held'' : Option (List ℕ)) (kept : Keeps held' held'') where
         job = found.job;
         is_job = found.is_job;
         found = found.found;
-        searched = or_kept (search_work (patterns_asked (kind_sought given.flags) given.flags.ignore_case sought) found.job known.holds) found.job.shown held' held'' kept found.files left left' held found.found found.searched;
+        searched = or_kept (search_work (patterns_by_kind (kind_sought given.flags) given.flags.ignore_case sought) found.job known.holds) found.job.shown held' held'' kept found.files left left' held found.found found.searched;
         told = found.told;
       }) done
 
@@ -66,7 +66,7 @@ module _ (held' held'' : Option (List ℕ)) (kept : Keeps held' held'') where
     between = begins.between;
     read = begins.read;
     begun =
-        let p = patterns_asked (kind_sought given.flags) given.flags.ignore_case (words_sought given.flags begins.words) in
+        let p = patterns_by_kind (kind_sought given.flags) given.flags.ignore_case (words_sought given.flags begins.words) in
         begins-counts-kept given.flags begins.words (λ old new. BeginsOrKeeps known screen given p names begins.between old new) held held' held'' kept
         (begun_held known screen given p names begins.between held) begins.begun;
   })

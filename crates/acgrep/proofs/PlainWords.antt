@@ -4,9 +4,9 @@ use Rattle.std.specs.Prelude.{nat_le, ◌&&◌, if◌then◌else◌}
 use Rattle.std.proofs.lemmas.Bool.{and_parts, eq-eqb, leb-true}
 use Rattle.aho_core.specs.Bytes.{folded_by}
 use Rattle.aho_core.specs.declared.search.MatchKind.{MatchKind}
+use Rattle.tool_parts.specs.Building.{patterns_by_kind}
 use Rattle.acgrep.specs.Arguments.{ending_by}
 use Rattle.acgrep.specs.Lines.{AreFreeOf}
-use Rattle.acgrep.specs.Searchers.{patterns_asked}
 use Rattle.acgrep.specs.Selected.{HoldNoEnding}
 use Rattle.acgrep.specs.declared.options.Flags.{Flags}
 
@@ -31,6 +31,6 @@ fold_ending : (null_data ignore_case : Bool) (byte : ℕ) → folded_by ignore_c
 fold_ending true ignore_case byte same = fold_low ignore_case byte 0 (omega arith) (same ∙ fold_zero ignore_case)
 fold_ending false ignore_case byte same = fold_low ignore_case byte 10 (omega arith) (same ∙ fold_newline ignore_case)
 
-pub free_plain : (flags : Flags) (kind : MatchKind) (ignore_case : Bool) (words : List (List ℕ)) → AreFreeOf (ending_by flags) words → HoldNoEnding (ending_by flags) (patterns_asked kind ignore_case words)
+pub free_plain : (flags : Flags) (kind : MatchKind) (ignore_case : Bool) (words : List (List ℕ)) → AreFreeOf (ending_by flags) words → HoldNoEnding (ending_by flags) (patterns_by_kind kind ignore_case words)
 free_plain flags kind ignore_case words free number place low within = λ same.
     free number low place (omega arith) within (eq-eqb _ _ (fold_ending flags.null_data ignore_case _ same))

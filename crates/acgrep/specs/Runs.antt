@@ -9,13 +9,13 @@ use Rattle.aho_core.specs.declared.search.MatchKind.TheVariants.{LeftmostLongest
 use Rattle.acgrep.specs.Beside.{unfit_said}
 use Rattle.acgrep.specs.Binary.{is_guarded, takes_text, writes_lines}
 use Rattle.acgrep.specs.Arguments.{Origin, Said, asks_counts, context_by, ending_by, fit_by, origin_of, said_by, shown_by, ways_by}
+use Rattle.tool_parts.specs.Building.{patterns_by_kind}
 use Rattle.tool_parts.specs.Names.{is_input, or_input}
 use Rattle.acgrep.specs.Files.{AreFilesBegun, AreSearchedOr}
 use Rattle.acgrep.specs.Folders.{AreBelow, AreChosen, Known, Tree, passes}
 use Rattle.acgrep.specs.Lines.{lines}
 use Rattle.acgrep.specs.Listed.{listed_bytes}
 use Rattle.acgrep.specs.Rules.{RuleSaid, is_from_file, rules_in}
-use Rattle.acgrep.specs.Searchers.{patterns_asked}
 use Rattle.acgrep.specs.Tallies.{counts_table}
 use Rattle.acgrep.specs.Written.{IsPassedOver}
 use Rattle.acgrep.specs.declared.arguments.Source.{Source}
@@ -361,8 +361,8 @@ pub record SelectsNoLine (p : Patterns) (fit : Fit) (invert : Bool) (left left' 
 -- these words were searched for so, or no line is selected by them
 abbrev pub AreSought : Known → Screen → Said → (words names : List (List ℕ)) → (left left' held held' : Option (List ℕ)) → ℕ → Type 0
 AreSought known screen given words names left left' held held' status =
-    MatchBool (knows_none given.flags words) (SelectsNoLine (patterns_asked (kind_sought given.flags) given.flags.ignore_case words) (fit_by given.flags) (inverts given.flags) left left' held held' status)
-    (SearchesReached known screen given (patterns_asked (kind_sought given.flags) given.flags.ignore_case words) names left left' held held' status)
+    MatchBool (knows_none given.flags words) (SelectsNoLine (patterns_by_kind (kind_sought given.flags) given.flags.ignore_case words) (fit_by given.flags) (inverts given.flags) left left' held held' status)
+    (SearchesReached known screen given (patterns_by_kind (kind_sought given.flags) given.flags.ignore_case words) names left left' held held' status)
 
 -- the patterns of these sources were read, and then searched for in the files of these names
 pub record SearchesFor (known : Known) (screen : Screen) (given : Said) (sources : List Origin) (names : List (List ℕ)) (left left' held held' : Option (List ℕ)) (status : ℕ) : Type 0 where
@@ -398,7 +398,7 @@ pub record BeginsWords (known : Known) (screen : Screen) (given : Said) (sources
   pub words : List (List ℕ)
   pub between : Option (List ℕ)
   pub read : AreWords known.holds sources left between words
-  pub begun : BeginsOrCounts known screen given (patterns_asked (kind_sought given.flags) given.flags.ignore_case (words_sought given.flags words)) words names between held held'
+  pub begun : BeginsOrCounts known screen given (patterns_by_kind (kind_sought given.flags) given.flags.ignore_case (words_sought given.flags words)) words names between held held'
 
 -- or nothing is
 abbrev pub BeginsFor : Known → Screen → Said → List Origin → List (List ℕ) → (left held held' : Option (List ℕ)) → Type 0

@@ -4,13 +4,13 @@ use Rattle.std.proofs.KnownBytes.{Keeps-refl}
 use Rattle.std.proofs.lemmas.Bool.{and_parts}
 use Rattle.aho_core.specs.Replacement.{pieces_of}
 use Rattle.chromesquid.specs.Searcher.{IsBuiltFrom}
+use Rattle.tool_parts.specs.Building.{patterns_by_kind}
 use Rattle.tool_parts.specs.Names.{name_bytes}
 use Rattle.tool_parts.specs.declared.errors.Errors.{Errors}
 use Rattle.acgrep.specs.Arguments.{fit_by, said, shown_by}
 use Rattle.acgrep.specs.Folders.{known_by, tree_of}
 use Rattle.acgrep.specs.Lines.{lines}
 use Rattle.acgrep.specs.Runs.{AreSought, BeginsNoMatch, BeginsOrKeeps, SearchesReached, WritesNoMatch, inverts, kind_sought, knows_none, origins_of, words_sought}
-use Rattle.acgrep.specs.Searchers.{patterns_asked}
 use Rattle.acgrep.specs.Told.{MaySay, TellsStatus, source_names}
 use Rattle.acgrep.proofs.OrCounted.{counts-of, no-match, no-match-begins, none-told}
 use Rattle.acgrep.proofs.PlainWords.{free_plain}
@@ -22,7 +22,7 @@ use Rattle.acgrep.proofs.run.search.Goals as goal
 pub search_or_count-requires : goal.search_or_count-requires
 search_or_count-requires g c =
     let flags = c.args.given.now.flags in
-    let asked = patterns_asked (kind_sought flags) flags.ignore_case (pieces_of c.sought-words.result.now) in
+    let asked = patterns_by_kind (kind_sought flags) flags.ignore_case (pieces_of c.sought-words.result.now) in
     record { of = (asked, rw c.kind_sought.ensures at c.in-Ok-searcher_of.ensures.of) }
 
 -- the patterns are read and searched for
@@ -41,7 +41,7 @@ returns-in-Ok-searcher_of g c =
     let all : pieces_of c.as_slice-all.result.now ≡ text = ap pieces_of c.as_slice-all.ensures.value ∙ c.in-Ok.ensures.lines ∙ ap (lines 10) c.as_slice.ensures.value in
     let same : pieces_of c.sought-words.result.now ≡ sought = c.sought-words.ensures.words ∙ ap (words_sought flags) all in
     let free = rw (c.ending.ensures.ending, same) at c.first_holding.ensures.none c.in_default-first_holding.is in
-    let asked = patterns_asked (kind_sought flags) flags.ignore_case sought in
+    let asked = patterns_by_kind (kind_sought flags) flags.ignore_case sought in
     let built : IsBuiltFrom c.in-Ok-searcher_of.searcher asked = rw (c.kind_sought.ensures, same) at c.in-Ok-searcher_of.ensures.of in
     let plain = free_plain flags (kind_sought flags) flags.ignore_case sought free in
     let some : knows_none flags sought ≡ false = ap (knows_none flags) (sym same) ∙ sym c.knows_none.ensures ∙ c.if-knows_none.false in
@@ -84,7 +84,7 @@ returns-then-knows_none g c =
     let e' = c.end_unsearched.new.errors in
     let all : pieces_of c.as_slice-all.result.now ≡ text = ap pieces_of c.as_slice-all.ensures.value ∙ c.in-Ok.ensures.lines ∙ ap (lines 10) c.as_slice.ensures.value in
     let same : pieces_of c.sought-words.result.now ≡ sought = c.sought-words.ensures.words ∙ ap (words_sought flags) all in
-    let asked = patterns_asked (kind_sought flags) flags.ignore_case sought in
+    let asked = patterns_by_kind (kind_sought flags) flags.ignore_case sought in
     let none : knows_none flags sought ≡ true = ap (knows_none flags) (sym same) ∙ sym c.knows_none.ensures ∙ c.if-knows_none.true in
     record {
       bound = elim c.end_unsearched.ensures.status [ inl one ↦ omega (arith, one) | inr two ↦ omega (arith, two) ];
