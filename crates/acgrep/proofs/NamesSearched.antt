@@ -1,5 +1,5 @@
 -- What the file of a name has that was searched.
-use Rattle.std.proofs.Common.{◌≡◌, ℕ, Bool, true, false, List, Option, refl, sym, ap, subst}
+use Rattle.std.proofs.Common.{◌≡◌, Bool, List, Option, ap, false, refl, subst, sym, true, ℕ}
 use Rattle.aho_core.specs.Patterns.{Patterns}
 use Rattle.tool_parts.specs.Names.{is_input}
 use Rattle.acgrep.specs.Binary.{is_guarded, lines_sought}

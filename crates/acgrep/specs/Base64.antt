@@ -1,5 +1,5 @@
 -- Bytes in base64, as RFC 4648 has it in its section 4.
-use Rattle.std.specs.Prelude.{ℕ, ◌+◌, ◌-◌, ◌*◌, ◌/◌, ◌%◌, ◌==◌, nat_lt, List, [], ◌∷◌, ◌++◌, if◌then◌else◌}
+use Rattle.std.specs.Prelude.{◌%◌, ◌*◌, ◌++◌, ◌+◌, ◌-◌, ◌/◌, ◌==◌, ◌∷◌, List, [], if◌then◌else◌, nat_lt, ℕ}
 
 -- the symbol of a number below 64: a letter, a digit, a plus or a slash
 abbrev pub symbol_of : ℕ → ℕ

@@ -1,13 +1,13 @@
 -- What is written of a match with its fields: as a JSON object, or by a format.
-use Rattle.std.specs.Prelude.{ℕ, ◌+◌, ◌/◌, ◌%◌, ◌==◌, nat_lt, List, [], ◌∷◌, ◌++◌, codes, decimal, if◌then◌else◌}
 use Rattle.std.specs.List.{flat_map}
+use Rattle.std.specs.Prelude.{◌%◌, ◌++◌, ◌+◌, ◌/◌, ◌==◌, ◌∷◌, List, [], codes, decimal, if◌then◌else◌, nat_lt, ℕ}
 use Rattle.std.specs.Str.{is_utf8}
 use Rattle.aho_core.specs.Occurrence.{Occurrence}
 use Rattle.acgrep.specs.Base64.{base64_of}
 use Rattle.acgrep.specs.Printed.{line_number_at, offset_at, part_of}
 use Rattle.acgrep.specs.declared.fields.Fields.{Fields}
 use Rattle.acgrep.specs.declared.format.Piece.{Piece}
-use Rattle.acgrep.specs.declared.format.Piece.TheVariants.{Byte, Path, LineNumber, Start, End, PatternNumber, Found}
+use Rattle.acgrep.specs.declared.format.Piece.TheVariants.{Byte, End, Found, LineNumber, Path, PatternNumber, Start}
 use Rattle.acgrep.specs.declared.print.Form.{Form}
 use Rattle.acgrep.specs.declared.print.Form.TheVariants.{Json, Pieces}
 use Rattle.acgrep.specs.declared.print.Place.{Place}

@@ -1,5 +1,5 @@
 -- Which lines of a text are selected.
-use Rattle.std.specs.Prelude.{◌≡◌, ◌≢◌, ℕ, ◌-◌, ◌<◌, ◌≤◌, false, List, Option, Some, None, length, slice_index}
+use Rattle.std.specs.Prelude.{◌-◌, ◌<◌, ◌≡◌, ◌≢◌, ◌≤◌, List, None, Option, Some, false, length, slice_index, ℕ}
 use Rattle.aho_core.specs.Bytes.{folded}
 use Rattle.aho_core.specs.Occurrence.{Occurrence}
 use Rattle.aho_core.specs.Occurs.{Occurs, OccursIn}

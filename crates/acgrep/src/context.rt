@@ -1,12 +1,12 @@
 //! Searching where the lines around selected ones are written too.
 
-ghost use Rattle.std.specs.Prelude.{◌≡◌, ◌&&◌, ◌<◌, IfOk};
+ghost use Rattle.std.specs.Prelude.{◌≡◌, ◌&&◌, ◌<◌, IfOk, false, true};
 ghost use Rattle.aho_core.specs.Patterns.{Patterns};
 ghost use Rattle.chromesquid.specs.Searcher.{IsBuiltFrom, IsBuiltFromSome};
 ghost use Rattle.acgrep.specs.Contexts.{IsChosenBy, beside, separator_if};
 ghost use Rattle.acgrep.specs.Filled.{held_lines};
 ghost use Rattle.acgrep.specs.Printed.{Puts};
-ghost use Rattle.acgrep.specs.Searched.{BeginsLineAround, BeginsPassedBy, BeginsTakenBy, BegunBy, ShowsEachBy, ShowsGroupBy, SkipsBy, StepsBy, TakesBy, WalksBy};
+ghost use Rattle.acgrep.specs.Searched.{BeginsLineAround, BeginsWalkWhere, BegunBy, ShowsEachBy, ShowsGroupBy, StepsBy, WalksBy, WalksWhere};
 ghost use Rattle.acgrep.specs.Written.{IsMatched};
 
 use crate::failure::Stop;
@@ -105,10 +105,10 @@ fn pass_chosen<W: Sink>(
     output: &mut W,
 ) -> Result<(), Stop>
     requires of { IsBuiltFromSome searcher.now }
-    ensures walks { TakesBy W.Sink searcher.now job.now
-        state.old state.new output.old output.new context.now line.now result }
-    ensures begun { BeginsTakenBy W.Sink searcher.now job.now
-        state.old state.new output.old output.new context.now line.now result }
+    ensures walks { WalksWhere W.Sink searcher.now job.now
+        state.old state.new output.old output.new true context.now line.now result }
+    ensures begun { BeginsWalkWhere W.Sink searcher.now job.now
+        state.old state.new output.old output.new true context.now line.now result }
 {
     page.clear();
     put_group(searcher, job, context, line, state, page)?;
@@ -190,10 +190,10 @@ fn pass_beside<W: Sink>(
     output: &mut W,
 ) -> Result<(), Stop>
     requires of { IsBuiltFromSome searcher.now }
-    ensures walks { SkipsBy W.Sink searcher.now job.now
-        state.old state.new output.old output.new context.now line.now result }
-    ensures begun { BeginsPassedBy W.Sink searcher.now job.now
-        state.old state.new output.old output.new context.now line.now result }
+    ensures walks { WalksWhere W.Sink searcher.now job.now
+        state.old state.new output.old output.new false context.now line.now result }
+    ensures begun { BeginsWalkWhere W.Sink searcher.now job.now
+        state.old state.new output.old output.new false context.now line.now result }
 {
     if state.trail.due > 0 {
         return pass_due(searcher, job, context, line, state, page, output);
@@ -215,10 +215,10 @@ fn pass_due<W: Sink>(
 ) -> Result<(), Stop>
     requires of { IsBuiltFromSome searcher.now }
     requires due { 0 < state.now.trail.due }
-    ensures walks { SkipsBy W.Sink searcher.now job.now
-        state.old state.new output.old output.new context.now line.now result }
-    ensures begun { BeginsPassedBy W.Sink searcher.now job.now
-        state.old state.new output.old output.new context.now line.now result }
+    ensures walks { WalksWhere W.Sink searcher.now job.now
+        state.old state.new output.old output.new false context.now line.now result }
+    ensures begun { BeginsWalkWhere W.Sink searcher.now job.now
+        state.old state.new output.old output.new false context.now line.now result }
 {
     page.clear();
     put_shown(searcher, &job.beside(), line, state.place, page)?;

@@ -44,7 +44,6 @@ mod rule_lists;
 mod ruled;
 mod rules;
 mod run;
-mod searcher;
 mod select;
 mod stream;
 mod tally;

@@ -33,12 +33,12 @@ use crate::patterns::{first_holding, lines_of};
 use crate::print::{Form, Place, Style};
 use crate::ruled::mark_said;
 use crate::rules::Rule;
-use crate::searcher::searcher_of;
 use crate::select::Job;
 use crate::tell::{tell_memory, tell_write, tell_wrong};
 use chromesquid::{MatchKind, Sink, write_whole};
 use std::alloc::Global;
 use std::io::Read;
+use tool_parts::building::searcher_of;
 use tool_parts::errors::Errors;
 
 /// What stands for a match that is counted: the number of its pattern.
@@ -397,7 +397,7 @@ fn search<F: Open + Folders, R: Read, W: Sink, E: Sink>(
         files,
     };
     let listed = lists_finds(flags, screen.colored);
-    match searcher_of(alloc, kind_sought(flags), flags.ignore_case, words, listed) {
+    match searcher_of(alloc, kind_sought(flags), flags.ignore_case, listed, words) {
         Ok(searcher) => search_or_count(
             &searcher, given, screen, all, &named, input, output, errors,
         ),

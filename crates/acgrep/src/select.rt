@@ -7,9 +7,9 @@ ghost use Rattle.aho_core.specs.declared.search.MatchKind.TheVariants.{LeftmostL
 ghost use Rattle.chromesquid.specs.Searcher.{IsBuiltFrom, IsBuiltFromSome};
 ghost use Rattle.acgrep.specs.Alone.{asks_alone};
 ghost use Rattle.acgrep.specs.declared.options.Fit.TheVariants.{AnyPart, WholeLine};
-ghost use Rattle.acgrep.specs.Searched.{BeginsInvertedBy, BeginsMatchBy, BeginsOneBy, BeginsOthersBy, BeginsSelectedBy, BeginsPlainBy, BeginsTextBy, SearchesPlainBy, SearchesSomeBy, SearchesTextBy, TellsInvertedBy, TellsLineBy, TellsMatchBy, TellsOthersBy, WritesLineBy, WritesNextBy};
+ghost use Rattle.acgrep.specs.Searched.{BeginsOthersBy, BeginsPlainBy, BeginsTextBy, BeginsWhere, SearchesPlainBy, SearchesSomeBy, SearchesTextBy, TellsOthersBy, TellsWhere, WritesLineBy, WritesNextBy};
 ghost use Rattle.acgrep.specs.Selected.{EndsBy, FindsNone, ForJob, ForLines, IsLine, IsNextLine, IsNoneSelected, lines_by};
-ghost use Rattle.acgrep.specs.Written.{HasMatch, IsMatched, NumbersLines, IsSettled, SamePlace, after_line, after_lines, is_full, is_numbered, needs_one, next_count, place_behind, selects};
+ghost use Rattle.acgrep.specs.Written.{HasMatch, IsMatched, IsSelected, NumbersLines, IsSettled, SamePlace, after_line, after_lines, is_full, is_numbered, needs_one, next_count, place_behind, selects};
 
 use crate::alone::has_alone;
 use crate::context::search_around;
@@ -342,10 +342,10 @@ fn pass_matched<W: Sink>(
     ensures selected { job.now.invert ≡ false → job.now.fit ≡ AnyPart
         → OnOk result (0 < state.new.selected) }
     ensures placed { OnOk result (state.new.place ≡ after_line state.old.place line.now) }
-    ensures written { TellsMatchBy W.Sink searcher.now job.now
-        state.old state.new output.old output.new line.now result }
-    ensures begun { BeginsMatchBy W.Sink searcher.now job.now
-        state.old state.new output.old output.new line.now result }
+    ensures written { TellsWhere W.Sink searcher.now job.now
+        state.old state.new output.old output.new HasMatch line.now result }
+    ensures begun { BeginsWhere W.Sink searcher.now job.now
+        state.old state.new output.old output.new HasMatch line.now result }
 {
     let matched = is_match(searcher, job, line)?;
     pass_line(searcher, job, matched, line, state, page, output)
@@ -410,10 +410,10 @@ fn pass_line<W: Sink>(
     ensures selected { matched ≡ true → job.now.invert ≡ false
         → OnOk result (0 < state.new.selected) }
     ensures placed { OnOk result (state.new.place ≡ after_line state.old.place line.now) }
-    ensures written { TellsLineBy W.Sink searcher.now job.now
-        state.old state.new output.old output.new matched line.now result }
-    ensures begun { BeginsOneBy W.Sink searcher.now job.now
-        state.old state.new output.old output.new matched line.now result }
+    ensures written { TellsWhere W.Sink searcher.now job.now
+        state.old state.new output.old output.new (λ p line. IsMatched p job.now.fit line matched) line.now result }
+    ensures begun { BeginsWhere W.Sink searcher.now job.now
+        state.old state.new output.old output.new (λ p line. IsMatched p job.now.fit line matched) line.now result }
 {
     if job.selects(matched) {
         return pass_selected(searcher, job, line, state, page, output);
@@ -438,8 +438,8 @@ fn pass_selected<W: Sink>(
     ensures placed { OnOk result (state.new.place ≡ after_line state.old.place line.now) }
     ensures shown { WritesNextBy (IsBuiltFrom searcher.now) job.now state.old
         (W.taken output.old) (W.taken output.new) line.now result }
-    ensures begun { BeginsSelectedBy W.Sink searcher.now job.now
-        state.old state.new output.old output.new line.now result }
+    ensures begun { BeginsWhere W.Sink searcher.now job.now
+        state.old state.new output.old output.new (λ p line. IsSelected p job.now.fit job.now.invert line) line.now result }
 {
     if job.is_full(state.selected) {
         state.place = behind_line(state.place, line);
@@ -489,10 +489,11 @@ fn pass_each<W: Sink>(
     output: &mut W,
 ) -> Result<(), Stop>
     requires of { IsBuiltFromSome searcher.now }
+    requires inverted { job.now.invert ≡ true }
     ensures placed { OnOk result (state.new.place ≡ after_lines state.old.place (lines_by job.now text.now)) }
-    ensures written { TellsInvertedBy W.Sink searcher.now job.now
+    ensures written { TellsOthersBy W.Sink searcher.now job.now
         state.old state.new output.old output.new text.now result }
-    ensures begun { BeginsInvertedBy W.Sink searcher.now job.now
+    ensures begun { BeginsOthersBy W.Sink searcher.now job.now
         state.old state.new output.old output.new text.now result }
 {
     let mut rest = text;

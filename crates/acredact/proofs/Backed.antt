@@ -6,7 +6,7 @@ use Rattle.aho_core.specs.Laws.{shortest}
 use Rattle.aho_core.specs.Patterns.{Patterns}
 use Rattle.aho_core.specs.Replacement.{pieces_of}
 use Rattle.aho_core.specs.declared.error.stream.StreamError.{StreamError}
-use Rattle.aho_core.specs.declared.error.stream.StreamError.TheVariants.{Match as Refused, Read, Write, WriteZero, Memory, PositionLimit}
+use Rattle.aho_core.specs.declared.error.stream.StreamError.TheVariants.{Match as Refused, Memory}
 use Rattle.aho_automaton.specs.declared.automaton.Automaton.{Ghosts}
 use Rattle.aho_devices.specs.Errors.{CountsErrors}
 use Rattle.aho_devices.specs.declared.device.Sink.{Ghosts as SinkGhosts}
@@ -36,11 +36,7 @@ some_back G searcher p is = some_words p.words is.turned_from.full
 back_ends : (error : StreamError) → (error ≡ Memory) ⊎ IsStreamFault error → IsStreamEnd error
 back_ends (Refused cause) (inl is) = absurd (cc)
 back_ends (Refused cause) (inr is) = absurd is
-back_ends (Read fault) is = tt
-back_ends (Write fault) is = tt
-back_ends WriteZero is = tt
-back_ends Memory is = tt
-back_ends PositionLimit is = tt
+back_ends error is = tt
 
 module _ {A R W : Type 0} (G : Ghosts A) (S : SourceGhosts R) (K : SinkGhosts W) (searcher : Backward A) (r : Redactor) (plain : r.covers ≡ false) (unkeyed : r.key ≡ None) (is : IsBackwardOf G searcher r.patterns)
     (source source' : R) (sink sink' : W) where

@@ -15,7 +15,6 @@ use Rattle.tool_parts.specs.Streams.{bytes_left}
 use Rattle.tool_parts.specs.Telling.{Tells, TellsBytes, TellsSome}
 use Rattle.tool_parts.specs.declared.errors.Errors.{Errors}
 use Rattle.tool_parts.specs.declared.failure.Failure.TheVariants.{Build, OutOfMemory, Write as NotWritten, WriteZero as TakesNothing}
-use Rattle.tool_parts.specs.declared.reason.Reason.{Reason}
 use Rattle.tool_parts.proofs.Tellings.{tells-later}
 use Rattle.acredact.specs.Arguments.{Given, counts_asked}
 use Rattle.acredact.specs.Calls.{AreBounded, BeginsCall, Call, CallOutcome, CannotLoadCall, IsBuildRefusal, IsCountsFailure, IsCountsLine, IsLineOf, IsRunFailure, IsUnreadLine, IsUntouched, IsWordLine, MayFail, OutputFails, RestOutcome, RunOutcome, TellsCounts, TellsNumbers, call_of, names_asked, reading_by, redactor_by_given, work_by}
@@ -350,17 +349,29 @@ module _ {R : Type 0} {Reads : Readers R} {W E : Type 0} (Writes : Writers W) (K
   begins_told old new errors (inl same) = inl same
   begins_told old new errors (inr begun) = inr (record { load = begun.load; between = begun.between; loaded = begun.loaded; lines = begun.lines; cut = begun.cut })
 
+-- lines behind lines
+module _ {E : Type 0} (K : SinkGhosts E) (IsLine : List ℕ → Type 0) (old mid new : Errors E) (first : Tells K IsLine old mid) where
+  pub tells_both : Tells K IsLine mid new → Tells K IsLine old new
+  tells_both later = record {
+    told = first.told ++ later.told;
+    are_lines = All-append IsLine first.told later.told first.are_lines later.are_lines;
+    written = subst (TellsBytes K old new) (sym (concat_both first.told later.told)) (tells-later K first.written later.written);
+  }
+
+  pub some_behind : TellsSome K IsLine mid new → TellsSome K IsLine old new
+  some_behind later = behind first.told first.are_lines (tells-later K first.written later.written)
+    where
+      behind : (lines : List (List ℕ)) → All IsLine lines → TellsBytes K old new (concat lines ++ concat (later.first ∷ later.more)) → TellsSome K IsLine old new
+      behind [] are written = record { first = later.first; is_line = later.is_line; more = later.more; are_lines = later.are_lines; written = written }
+      behind (line ∷ lines) are written = record {
+        first = line;
+        is_line = All-head IsLine line lines are;
+        more = lines ++ (later.first ∷ later.more);
+        are_lines = All-append IsLine lines (later.first ∷ later.more) (All-tail IsLine line lines are) (All-cons IsLine later.first later.more later.is_line later.are_lines);
+        written = subst (TellsBytes K old new) (sym (concat_both (line ∷ lines) (later.first ∷ later.more))) written;
+      }
+
 -- a line more
 pub tells_last : {E : Type 0} (K : SinkGhosts E) (IsLine : List ℕ → Type 0) (old mid new : Errors E) (line : List ℕ) → Tells K IsLine old mid → IsLine line → TellsBytes K mid new line → TellsSome K IsLine old new
 tells_last K IsLine old mid new line before is told =
-    some_last before.told before.are_lines (tells-later K before.written told)
-  where
-    some_last : (lines : List (List ℕ)) → All IsLine lines → TellsBytes K old new (concat lines ++ line) → TellsSome K IsLine old new
-    some_last [] are written = record { first = line; is_line = is; more = []; are_lines = All-nil IsLine; written = subst (TellsBytes K old new) (sym (append-nil line)) written }
-    some_last (first ∷ lines) are written = record {
-      first = first;
-      is_line = All-head IsLine first lines are;
-      more = lines ++ (line ∷ []);
-      are_lines = All-append IsLine lines (line ∷ []) (All-tail IsLine first lines are) (All-cons IsLine line [] is (All-nil IsLine));
-      written = subst (TellsBytes K old new) (ap (λ l. concat (first ∷ lines) ++ l) (sym (append-nil line)) ∙ sym (concat_both (first ∷ lines) (line ∷ []))) written;
-    }
+    some_behind K IsLine old mid new before (record { first = line; is_line = is; more = []; are_lines = All-nil IsLine; written = subst (TellsBytes K mid new) (sym (append-nil line)) told })

@@ -1,5 +1,6 @@
 -- What is seen of files, one after another.
 use Rattle.std.proofs.Common.{◌≡◌, inl, inr, ℕ, List, [], ◌∷◌, ◌++◌, Option, true, false, refl, sym, ap, subst, ◌∙◌, append-nil, append_assoc, arith}
+use Rattle.std.proofs.Math.Bool.{or-false, or_assoc}
 use Rattle.std.specs.Prelude.{Bool, ◌⊎◌, ◌<◌, ◌||◌, ◌&&◌, not, Result, Ok, Err, IfErr}
 use Rattle.std.specs.Io.KnownBytes.{Keeps}
 use Rattle.std.specs.List.{All, concat}
@@ -81,14 +82,6 @@ both_all true Found is = (refl, refl)
 both_all true (Unread reason) is = absurd (cc)
 both_all false look is = absurd (cc)
 
-or_assoc : (a b c : Bool) → ((a || b) || c) ≡ (a || (b || c))
-or_assoc true b c = refl
-or_assoc false b c = refl
-
-or_false : (a : Bool) → (a || false) ≡ a
-or_false true = refl
-or_false false = refl
-
 module _ {E : Type 0} (K : SinkGhosts E) (quest : Quest) (names : List (List ℕ)) (old : Errors E) (before : Option (List ℕ)) where
   -- some first files were looked at: what is seen of the others is seen of all
   pub record SeenSoFar (rest : List (List ℕ)) (verdict : Verdict) (left : Option (List ℕ)) (errors : Errors E) : Type 0 where
@@ -123,7 +116,7 @@ module _ {E : Type 0} (K : SinkGhosts E) (quest : Quest) (names : List (List ℕ
     seen = (
       so.lines,
       so.is_all,
-      subst (λ (b : Bool). AreSeen quest names b so.lines before left) (or_false verdict.found)
+      subst (λ (b : Bool). AreSeen quest names b so.lines before left) (or-false verdict.found)
           (subst (λ (l : List (List ℕ)). AreSeen quest names (verdict.found || false) l before left) (append-nil so.lines) (so.seen false [] left (refl, refl, refl))),
       so.told,
     );

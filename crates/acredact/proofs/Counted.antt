@@ -7,6 +7,7 @@ use Rattle.std.specs.Io.{StartsWith}
 use Rattle.std.specs.Io.KnownBytes.{Appends}
 use Rattle.std.proofs.KnownBytes.{Appends-nil, Appends-trans, Consumes-nil}
 use Rattle.std.proofs.lemmas.List.{append_cancel_left, length-take-le}
+use Rattle.std.proofs.Math.Bool.{and-false}
 use Rattle.aho_core.specs.ClosureRun.{CalledOn, ClosureRun}
 use Rattle.aho_core.specs.Iteration.{AreFinds}
 use Rattle.aho_core.specs.Laws.{shortest}
@@ -15,7 +16,7 @@ use Rattle.aho_core.specs.Patterns.{Patterns}
 use Rattle.aho_core.specs.Replacement.{replaced, replaced_from}
 use Rattle.aho_core.specs.Search.{plain_search}
 use Rattle.aho_core.specs.declared.error.stream.StreamError.{StreamError}
-use Rattle.aho_core.specs.declared.error.stream.StreamError.TheVariants.{Match as Refused, Read, Write, WriteZero, Memory, PositionLimit}
+use Rattle.aho_core.specs.declared.error.stream.StreamError.TheVariants.{Match as Refused, Memory, PositionLimit, Read}
 use Rattle.aho_devices.specs.Counts.{AppendsBeginning, counted}
 use Rattle.aho_devices.specs.Refusals.{IsFillRefusal, IsWriteRefusal, is_read_fault, is_write_fault, is_write_of_nothing}
 use Rattle.aho_devices.specs.declared.device.Sink.{Ghosts as SinkGhosts}
@@ -38,43 +39,21 @@ use Rattle.acredact.proofs.Redactions.{begins_by, begins_nothing, no_cover, of_f
 abbrev IsRunError : Bool → StreamError → Type 0
 IsRunError stopped error = MatchBool stopped (IsFillRefusal error) (IsWriteRefusal error) ⊎ IsWriteRefusal error
 
--- a read fault is one of the reading
-read_stops : (stopped : Bool) (error : StreamError) → IsRunError stopped error → (stopped && is_read_fault {A = Unit {0}} (Err error)) ≡ is_read_fault {A = Unit {0}} (Err error)
-read_stops true error is = refl
-read_stops false (Refused cause) is = refl
-read_stops false (Read fault) (inl is) = absurd is
-read_stops false (Read fault) (inr is) = absurd is
-read_stops false (Write fault) is = refl
-read_stops false WriteZero is = refl
-read_stops false Memory is = refl
-read_stops false PositionLimit is = refl
+-- a read fault is one of the reading, and so is the limit; and none is a refusal
+abbrev StopsAs : Bool → StreamError → Type 0
+StopsAs stopped error = ((stopped && is_read_fault {A = Unit {0}} (Err error)) ≡ is_read_fault {A = Unit {0}} (Err error)) × (is_limit {A = Unit {0}} (Err error) ≡ true → stopped ≡ true) × IsStreamEnd error
 
--- and so is the limit
-limit_stops : (stopped : Bool) (error : StreamError) → IsRunError stopped error → is_limit {A = Unit {0}} (Err error) ≡ true → stopped ≡ true
-limit_stops true error is met = refl
-limit_stops false (Refused cause) is met = met
-limit_stops false (Read fault) is met = met
-limit_stops false (Write fault) is met = met
-limit_stops false WriteZero is met = met
-limit_stops false Memory is met = met
-limit_stops false PositionLimit (inl is) met = absurd is
-limit_stops false PositionLimit (inr is) met = absurd is
-
-no_refusal : (stopped : Bool) (error : StreamError) → IsRunError stopped error → IsStreamEnd error
-no_refusal true (Refused cause) (inl is) = absurd is
-no_refusal true (Refused cause) (inr is) = absurd is
-no_refusal false (Refused cause) (inl is) = absurd is
-no_refusal false (Refused cause) (inr is) = absurd is
-no_refusal stopped (Read fault) is = tt
-no_refusal stopped (Write fault) is = tt
-no_refusal stopped WriteZero is = tt
-no_refusal stopped Memory is = tt
-no_refusal stopped PositionLimit is = tt
-
--- where no read stopped
-never_stops : (stopped : Bool) → (stopped && false) ≡ false
-never_stops true = refl
-never_stops false = refl
+stops_as : (stopped : Bool) (error : StreamError) → IsRunError stopped error → StopsAs stopped error
+stops_as true (Refused cause) (inl is) = absurd is
+stops_as true (Refused cause) (inr is) = absurd is
+stops_as true error is = (refl, λ met. refl, tt)
+stops_as false (Refused cause) (inl is) = absurd is
+stops_as false (Refused cause) (inr is) = absurd is
+stops_as false (Read fault) (inl is) = absurd is
+stops_as false (Read fault) (inr is) = absurd is
+stops_as false PositionLimit (inl is) = absurd is
+stops_as false PositionLimit (inr is) = absurd is
+stops_as false error is = (refl, λ met. met, tt)
 
 -- some bytes are taken, or a beginning of them where the run failed
 record Takes {W : Type 0} (K : SinkGhosts W) (stopped : Bool) (result : Result (Unit {0}) StreamError) (old new : W) (bytes : List ℕ) : Type 0 where
@@ -148,9 +127,7 @@ module _ {F W : Type 0} (K : SinkGhosts W) (calls : F → Occurrence → List �
   run_takes (m ∷ ms) at f old (Err error) last new fits (inr (lent, gap, (Err reason, next, left, called, ends))) =
       let same : error ≡ reason = let is = ends.0 in cc in
       let wrote : Takes K stopped (Err error) lent new (piece m) =
-      subst (λ (e : StreamError). Takes K stopped (Err e) lent new (piece m)) (sym same)
-      (subst (λ (w : W). Takes K stopped (Err reason) lent w (piece m)) (sym ends.2)
-      (takes_piece K stopped lent (piece m) reason left (fails f m (slice_range haystack m.start m.end) lent reason next left fits called))) in
+      rw (same, ends.2) (takes_piece K stopped lent (piece m) reason left (fails f m (slice_range haystack m.start m.end) lent reason next left fits called)) in
       takes_later K stopped old lent new (Err error) (slice_range haystack at m.start) (piece m ++ replaced_from haystack m.end ms piece)
       (takes_sink K stopped old (slice_range haystack at m.start) (Ok tt) lent gap)
       (takes_more K stopped lent new error (piece m) (replaced_from haystack m.end ms piece) wrote)
@@ -275,7 +252,7 @@ module _ {A R W F : Type 0} (G : Ghosts A) (S : SourceGhosts R) (K : SinkGhosts 
         redacted = whole;
         begun = starts_whole whole;
         near = λ covers. tt;
-        read_failed = over.read_failed ∙ ap (λ (b : Bool). counted b (S.failures source)) (never_stops over.stopped);
+        read_failed = over.read_failed ∙ ap (λ (b : Bool). counted b (S.failures source)) (and-false over.stopped);
         write_failed = taken.2.write_failed;
         took_nothing = taken.2.took_nothing;
         limit = λ (met : false ≡ true). absurd (cc);
@@ -290,11 +267,11 @@ module _ {A R W F : Type 0} (G : Ghosts A) (S : SourceGhosts R) (K : SinkGhosts 
         redacted = tt;
         begun = record { given = over.given; ended = over.ended; gives = over.gives; part = begun.0; begins = begun.1; written = begun.2 };
         near = λ covers. absurd (no_cover r plain covers);
-        read_failed = over.read_failed ∙ ap (λ (b : Bool). counted b (S.failures source)) (read_stops over.stopped error taken.2.only);
+        read_failed = over.read_failed ∙ ap (λ (b : Bool). counted b (S.failures source)) (stops_as over.stopped error taken.2.only).0;
         write_failed = taken.2.write_failed;
         took_nothing = taken.2.took_nothing;
-        limit = λ met. let at_limit = over.limit (limit_stops over.stopped error taken.2.only met) met in (over.given, subst (SourceGave S source source' over.given) at_limit.1 over.gives, at_limit.0);
-        only = no_refusal over.stopped error taken.2.only;
+        limit = λ met. let at_limit = over.limit ((stops_as over.stopped error taken.2.only).1 met) met in (over.given, subst (SourceGave S source source' over.given) at_limit.1 over.gives, at_limit.0);
+        only = (stops_as over.stopped error taken.2.only).2;
       }
 
   ran : (result : Result (Unit {0}) StreamError) → RunsOver S K (G.is_of automaton) calls source source' closure sink result sink' → StreamOutcome S K r result source source' sink sink'
@@ -322,10 +299,7 @@ module _ {A R W F : Type 0} (G : Ghosts A) (S : SourceGhosts R) (K : SinkGhosts 
   }
 
   no_memory : (result : Result (Unit {0}) StreamError) → RefusesUntouched result Memory source source' sink sink' → StreamOutcome S K r result source source' sink sink'
-  no_memory result refused =
-      subst (λ (e : Result (Unit {0}) StreamError). StreamOutcome S K r e source source' sink sink') (sym refused.0)
-      (subst (λ (s : R). StreamOutcome S K r (Err Memory) source s sink sink') (sym refused.1)
-      (subst (λ (k : W). StreamOutcome S K r (Err Memory) source source sink k) (sym refused.2) untouched))
+  no_memory result refused = rw (refused.0, refused.1, refused.2) untouched
 
   -- whatever is answered, where the closure is lent
   pub lent_of : (result : Result (Unit {0}) StreamError) (last : F) → (CanBegin G automaton → RunsLent S K (G.is_of automaton) calls source source' closure sink result last sink') → StreamOutcome S K r result source source' sink sink'

@@ -42,11 +42,10 @@ module _ (p : Patterns) (no_empty : 1 ≤ shortest (map length p.words)) (bytes 
 
   -- so no answer is an empty match at the last match's end
   not_repeated : (from : ℕ) (last : Option ℕ) (answer : Option Occurrence) → IsAnswer p (search_from from bytes) answer → repeats_end last answer ≡ false
-  not_repeated from None answer is = refl
-  not_repeated from (Some end) None is = refl
   not_repeated from (Some end) (Some m) is =
       let some = occurs_some from m is.0 in
       ap (λ (b : Bool). b && nat_eq m.end end) (ne_eqb m.start m.end (λ (e : m.start ≡ m.end). omega (arith, some, e)))
+  not_repeated from last answer is = refl
 
   answer_of_find : (from : ℕ) (last : Option ℕ) (found : Option Occurrence) → IsNextFind p (search_from from bytes) last found → IsAnswer p (search_from from bytes) found
   answer_of_find from last found next =

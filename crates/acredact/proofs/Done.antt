@@ -6,7 +6,7 @@ use Rattle.std.specs.Io.KnownBytes.{Keeps}
 use Rattle.std.specs.List.{concat}
 use Rattle.std.specs.declared.io.traits.Read.{Ghosts as Readers}
 use Rattle.std.specs.declared.io.traits.Write.{Ghosts as Writers}
-use Rattle.std.proofs.KnownBytes.{Appends-nil, Keeps-refl, Keeps-trans}
+use Rattle.std.proofs.KnownBytes.{Keeps-refl, Keeps-trans}
 use Rattle.std.proofs.Math.Seq.{take-length}
 use Rattle.aho_core.specs.declared.error.stream.StreamError.{StreamError}
 use Rattle.aho_core.specs.declared.error.stream.StreamError.TheVariants.{Match, Read, Write, WriteZero, Memory, PositionLimit}
@@ -19,7 +19,7 @@ use Rattle.tool_parts.specs.Streams.{output_bytes, bytes_left}
 use Rattle.tool_parts.specs.Telling.{TellsBytes}
 use Rattle.tool_parts.specs.declared.errors.Errors.{Errors}
 use Rattle.tool_parts.specs.declared.reason.Reason.{Reason}
-use Rattle.tool_parts.proofs.Tellings.{tells-later}
+use Rattle.tool_parts.proofs.Tellings.{tells-later, tells-nothing}
 use Rattle.acredact.specs.Faults.{IsOutputEnd}
 use Rattle.acredact.specs.Files.{AreCut, AreDone, AreRedacted, FileOutcome, FilesOutcome, IsDone, ToldOutcome, Work, are_none, unread_line}
 use Rattle.acredact.specs.Messages.{output_line}
@@ -75,13 +75,7 @@ module _ (work : Work) where
 
 -- nothing was told
 pub tells_none : {E : Type 0} (K : SinkGhosts E) (errors : Errors E) → TellsBytes K errors errors []
-tells_none K errors = record {
-  begun = (0, omega arith, Appends-nil (K.taken errors.sink));
-  whole = λ going. Appends-nil (K.taken errors.sink);
-  none_failed = λ going. record { failures = refl; empty_writes = refl };
-  one_failed = λ is isnt. let clash : true ≡ false = sym is ∙ isnt in absurd (cc);
-  ended = λ was. refl;
-}
+tells_none K errors = tells-nothing K errors
 
 write_ends : (error : StreamError) → IsWriteRefusal error → IsOutputEnd error
 write_ends (Match cause) is = is
@@ -119,9 +113,10 @@ module _ {R W E : Type 0} {Reads : Readers R} (Writes : Writers W) (K : SinkGhos
   }
 
   -- behind one more
-  pub far_next : (names rest : List (List ℕ)) (name : List ℕ) (all whole both : Bool) (old mid new : Streams R W E Reads) → SoFar names (name ∷ rest) all old mid
-      → ToldOutcome Writes K work name (Ok whole) mid new → both ≡ all && whole → SoFar names rest both old new
-  far_next names rest name all whole both old mid new so told is =
+  pub far_next : (names behind rest : List (List ℕ)) (name : List ℕ) (all whole both : Bool) (old mid new : Streams R W E Reads) → SoFar names behind all old mid
+      → behind ≡ name ∷ rest → ToldOutcome Writes K work name (Ok whole) mid new → both ≡ all && whole → SoFar names rest both old new
+  far_next names behind rest name all whole both old mid new far cut told is =
+      let so = subst (λ (l : List (List ℕ)). SoFar names l all old mid) cut far in
       let (first, is_whole, (done, tells)) = told.done in
       record {
         lines = so.lines ++ first;
@@ -137,8 +132,9 @@ module _ {R W E : Type 0} {Reads : Readers R} (Writes : Writers W) (K : SinkGhos
       }
 
   -- behind all
-  pub far_all : (all : Bool) (old new : Streams R W E Reads) → SoFar work.names [] all old new → FilesOutcome Writes K work (Ok all) old new
-  far_all all old new so =
+  pub far_all : (behind : List (List ℕ)) (all : Bool) (old new : Streams R W E Reads) → SoFar work.names behind all old new → behind ≡ [] → FilesOutcome Writes K work (Ok all) old new
+  far_all behind all old new far none =
+      let so = subst (λ (l : List (List ℕ)). SoFar work.names l all old new) none far in
       let done : AreDone work work.names so.lines (bytes_left old.input) (bytes_left new.input) (output_bytes Writes old.output) (output_bytes Writes new.output) =
       subst (λ (l : List (List ℕ)). AreDone work work.names l (bytes_left old.input) (bytes_left new.input) (output_bytes Writes old.output) (output_bytes Writes new.output)) (append-nil so.lines)
       (so.done [] _ _ (refl, refl, Keeps-refl (output_bytes Writes new.output))) in
@@ -150,9 +146,10 @@ module _ {R W E : Type 0} {Reads : Readers R} (Writes : Writers W) (K : SinkGhos
       }
 
   -- where the output fails at one of them
-  pub far_fails : (rest : List (List ℕ)) (name : List ℕ) (all : Bool) (error : StreamError) (old mid new : Streams R W E Reads) → SoFar work.names (name ∷ rest) all old mid
-      → ToldOutcome Writes K work name (Err error) mid new → FilesOutcome Writes K work (Err error) old new
-  far_fails rest name all error old mid new so told =
+  pub far_fails : (behind rest : List (List ℕ)) (name : List ℕ) (all : Bool) (error : StreamError) (old mid new : Streams R W E Reads) → SoFar work.names behind all old mid
+      → behind ≡ name ∷ rest → ToldOutcome Writes K work name (Err error) mid new → FilesOutcome Writes K work (Err error) old new
+  far_fails behind rest name all error old mid new far front told =
+      let so = subst (λ (l : List (List ℕ)). SoFar work.names l all old mid) front far in
       let cut : AreCut work work.names so.lines (bytes_left old.input) (bytes_left new.input) (output_bytes Writes old.output) (output_bytes Writes new.output) =
       subst (λ (l : List (List ℕ)). AreCut work work.names l (bytes_left old.input) (bytes_left new.input) (output_bytes Writes old.output) (output_bytes Writes new.output)) (append-nil so.lines)
       (so.cut [] _ _ (inl (refl, told.cut.0))) in

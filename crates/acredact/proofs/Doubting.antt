@@ -1,33 +1,34 @@
 -- What is told of patterns of lists, one after another.
 use Rattle.std.proofs.Common.{◌≡◌, ℕ, ◌-◌, ◌≤◌, ◌<◌, List, [], ◌∷◌, ◌++◌, length, take, drop, get_or, true, sym, ap, subst, ◌∙◌, append_assoc, arith}
-use Rattle.std.specs.Prelude.{None, codes, nat_lt, slice_index_or}
+use Rattle.std.specs.Prelude.{codes, nat_lt, slice_index_or}
+use Rattle.std.specs.List.{concat, All}
 use Rattle.std.proofs.lemmas.Grind.{common_steps}
-use Rattle.std.specs.List.{concat}
 use Rattle.std.proofs.lemmas.List.Elements.{All-append, All-cons, All-nil}
 use Rattle.std.proofs.lemmas.List.{get_or-map, length-map, take_rest}
 use Rattle.acredact.specs.Arguments.{Given, all_given, given_of}
-use Rattle.acredact.specs.Doubts.{AreUndoubted, list_doubt_lines, doubt_lines, doubt_of, list_name}
+use Rattle.acredact.specs.Doubts.{list_name}
 use Rattle.acredact.specs.Tables.{Secret, secret_of, secrets_of}
 use Rattle.acredact.specs.declared.arguments.Item.{Item}
 use Rattle.acredact.specs.declared.patterns.Rule.{Rule}
 use Rattle.acredact.proofs.Done.{concat_both}
 
--- one more
-pub doubts_next : (given : List Given) (text done : List ℕ) (rules : List Rule) (other : Rule) → 1 ≤ length rules → text ≡ done ++ concat (list_doubt_lines given (secrets_of rules))
-    → text ≡ (done ++ concat (doubt_lines given (secret_of (get_or rules 0 other)))) ++ concat (list_doubt_lines given (secrets_of (take (length rules - 1) (drop 1 rules))))
-doubts_next given text done [] other some is = absurd (omega (arith, some))
-doubts_next given text done (rule ∷ rules) other some is =
-    is ∙ ap (λ l. done ++ l) (concat_both (doubt_lines given (secret_of rule)) (list_doubt_lines given (secrets_of rules)))
-    ∙ sym (append_assoc done (concat (doubt_lines given (secret_of rule))) (concat (list_doubt_lines given (secrets_of rules))))
-    ∙ ap (λ l. (done ++ concat (doubt_lines given (secret_of rule))) ++ concat (list_doubt_lines given (secrets_of l))) (sym (take_rest (rule ∷ rules) 1))
+-- what is told of one more comes behind what is told of those before it
+pub told_next : (lines later : List Secret → List (List ℕ)) (first : Secret → List (List ℕ)) → ((secret : Secret) (secrets : List Secret) → lines (secret ∷ secrets) ≡ first secret ++ later secrets)
+    → (text done : List ℕ) (rules : List Rule) (other : Rule) → 1 ≤ length rules → text ≡ done ++ concat (lines (secrets_of rules))
+    → text ≡ (done ++ concat (first (secret_of (get_or rules 0 other)))) ++ concat (later (secrets_of (take (length rules - 1) (drop 1 rules))))
+told_next lines later first each text done [] other some is = absurd (omega (arith, some))
+told_next lines later first each text done (rule ∷ rules) other some is =
+    is ∙ ap (λ l. done ++ l) (ap concat (each (secret_of rule) (secrets_of rules)) ∙ concat_both (first (secret_of rule)) (later (secrets_of rules)))
+    ∙ sym (append_assoc done (concat (first (secret_of rule))) (concat (later (secrets_of rules))))
+    ∙ ap (λ l. (done ++ concat (first (secret_of rule))) ++ concat (later (secrets_of l))) (sym (take_rest (rule ∷ rules) 1))
 
--- one more of which there is none
-pub undoubted_next : (all front : List Secret) (rules : List Rule) (other : Rule) → 1 ≤ length rules → (all ≡ front ++ secrets_of rules) × AreUndoubted front → doubt_of (secret_of (get_or rules 0 other)) ≡ None
-    → (all ≡ (front ++ (secret_of (get_or rules 0 other) ∷ [])) ++ secrets_of (take (length rules - 1) (drop 1 rules))) × AreUndoubted (front ++ (secret_of (get_or rules 0 other) ∷ []))
-undoubted_next all front [] other some so none = absurd (omega (arith, some))
-undoubted_next all front (rule ∷ rules) other some (is, before) none = (
+-- one more of which that is so which is so of those before it
+pub front_next : (P : Secret → Type 0) (all front : List Secret) (rules : List Rule) (other : Rule) → 1 ≤ length rules → (all ≡ front ++ secrets_of rules) × All P front → P (secret_of (get_or rules 0 other))
+    → (all ≡ (front ++ (secret_of (get_or rules 0 other) ∷ [])) ++ secrets_of (take (length rules - 1) (drop 1 rules))) × All P (front ++ (secret_of (get_or rules 0 other) ∷ []))
+front_next P all front [] other some so one = absurd (omega (arith, some))
+front_next P all front (rule ∷ rules) other some (is, before) one = (
   is ∙ sym (append_assoc front (secret_of rule ∷ []) (secrets_of rules)) ∙ ap (λ l. (front ++ (secret_of rule ∷ [])) ++ secrets_of l) (sym (take_rest (rule ∷ rules) 1)),
-  All-append (λ secret. doubt_of secret ≡ None) front (secret_of rule ∷ []) before (All-cons (λ secret. doubt_of secret ≡ None) (secret_of rule) [] none (All-nil (λ secret. doubt_of secret ≡ None))),
+  All-append P front (secret_of rule ∷ []) before (All-cons P (secret_of rule) [] one (All-nil P)),
 )
 
 -- the first of some

@@ -12,7 +12,7 @@ use Rattle.aho_core.specs.Replacement.{pieces_of}
 use Rattle.aho_laws.specs.CoverLaws.{AreClean, IsCleanPiece}
 use Rattle.aho_laws.specs.CutLaws.{NoneHolds}
 use Rattle.tool_parts.specs.Asked.{ArePatterns}
-use Rattle.acredact.specs.Pieces.{WordsAreMarked, HoldNone, IsFlaw, IsHolder, IsMarked, IsUnclean}
+use Rattle.acredact.specs.Pieces.{HoldNone, IsFlaw, IsHolder, IsMarked, IsUnclean, WordsAreMarked}
 use Rattle.acredact.specs.Secrets.{NoneOccurs}
 use Rattle.acredact.specs.Spelling.{HoldsByte}
 use Rattle.acredact.specs.Tables.{piece_by, secret_of, secrets_of}
@@ -86,9 +86,7 @@ last_of piece some =
 module _ (p : Patterns) (ignore_case : Bool) (words : List (List ℕ)) (are : ArePatterns p ignore_case words) where
   -- what is said of words holds of the patterns
   holds_of : (number byte : ℕ) → HoldsByte ignore_case (get_or words number []) byte → HoldsByte p.ignore_case (pattern_at p number) byte
-  holds_of number byte holds =
-      subst (λ (b : Bool). HoldsByte b (pattern_at p number) byte) (sym are.rule)
-      (subst (λ (l : List (List ℕ)). HoldsByte ignore_case (get_or l number []) byte) (sym are.words_are) holds)
+  holds_of number byte holds = rw (are.rule, are.words_are) holds
 
   numbered_of : (number : ℕ) → number < length words → number < length p.words
   numbered_of number numbered = subst (λ (l : List (List ℕ)). number < length l) (sym are.words_are) numbered

@@ -3,29 +3,29 @@ use Rattle.std.proofs.Common.{◌≡◌, ◌≤◌, ℕ, ◌+◌, ◌-◌, List,
 use Rattle.std.specs.Prelude.{Bool, true, false, nat_lt, None, Some, Result, Ok, Err, OnOk, flat_map, is_ok, if◌then◌else◌}
 use Rattle.std.proofs.lemmas.List.{map-append, take_rest}
 use Rattle.std.proofs.lemmas.List.Elements.{All-cons, All-head, All-nil, filter-append}
-use Rattle.acredact.specs.Forms.{AskedForms, HideSecrets, HaveForms, HidesNestedForm, HidesSecret, HidesTwice, asked_forms, filled, forms_asked, forms_from, forms_named, forms_of, nested_named, once_patterns}
 use Rattle.secret_forms.specs.Forms.{HidesForm}
 use Rattle.secret_forms.specs.declared.form.Form.{Form as SecretForm}
+use Rattle.acredact.specs.Forms.{AskedForms, HaveForms, HideSecrets, HidesNestedForm, HidesSecret, HidesTwice, asked_forms, filled, forms_asked, forms_from, forms_named, nested_named, once_patterns}
+use Rattle.acredact.specs.Tables.{Secret, secret_of, secrets_of}
 use Rattle.acredact.specs.declared.forms.Asked.{Asked}
 use Rattle.acredact.specs.declared.forms.Nested.{Nested}
-use Rattle.acredact.specs.Tables.{Secret, secret_of, secrets_of}
 use Rattle.acredact.specs.declared.patterns.Rule.{Rule}
 
-module _ (wanted : AskedForms) where
-  -- the forms of one rule more are added
-  pub forms_next : (rest : List Rule) (other : Rule) (number : ℕ) (all old new more : List Secret) → 1 ≤ length rest → all ≡ old ++ forms_from wanted number (secrets_of rest) → new ≡ old ++ more
-      → more ≡ forms_of wanted number (secret_of (get_or rest 0 other)) → all ≡ new ++ forms_from wanted (number + 1) (secrets_of (take (length rest - 1) (drop 1 rest)))
-  forms_next [] other number all old new more some is grown are = absurd (omega (arith, some))
-  forms_next (rule ∷ rest) other number all old new more some is grown are =
-      is ∙ ap (λ l. old ++ (l ++ forms_from wanted (number + 1) (secrets_of rest))) (sym are) ∙ sym (append_assoc old more (forms_from wanted (number + 1) (secrets_of rest)))
-      ∙ ap (λ l. l ++ forms_from wanted (number + 1) (secrets_of rest)) (sym grown) ∙ ap (λ l. new ++ forms_from wanted (number + 1) (secrets_of l)) (sym (take_rest (rule ∷ rest) 1))
+-- what is made of one rule more is added
+pub rules_next : (made later : List Secret → List Secret) (one : Secret → List Secret) → ((secret : Secret) (secrets : List Secret) → made (secret ∷ secrets) ≡ one secret ++ later secrets)
+    → (rest : List Rule) (other : Rule) (all old new more : List Secret) → 1 ≤ length rest → all ≡ old ++ made (secrets_of rest) → new ≡ old ++ more → more ≡ one (secret_of (get_or rest 0 other))
+    → all ≡ new ++ later (secrets_of (take (length rest - 1) (drop 1 rest)))
+rules_next made later one each [] other all old new more some is grown are = absurd (omega (arith, some))
+rules_next made later one each (rule ∷ rest) other all old new more some is grown are =
+    is ∙ ap (λ l. old ++ l) (each (secret_of rule) (secrets_of rest) ∙ ap (λ l. l ++ later (secrets_of rest)) (sym are)) ∙ sym (append_assoc old more (later (secrets_of rest)))
+    ∙ ap (λ l. l ++ later (secrets_of rest)) (sym grown) ∙ ap (λ l. new ++ later (secrets_of l)) (sym (take_rest (rule ∷ rest) 1))
 
-  -- and they hide it
-  pub hidden_next : (rest all : List Rule) (other : Rule) → 1 ≤ length rest → (HideSecrets wanted (secrets_of rest) → HideSecrets wanted (secrets_of all)) → HidesSecret wanted (secret_of (get_or rest 0 other))
-      → HideSecrets wanted (secrets_of (take (length rest - 1) (drop 1 rest))) → HideSecrets wanted (secrets_of all)
-  hidden_next [] all other some known one others = absurd (omega (arith, some))
-  hidden_next (rule ∷ rest) all other some known one others =
-      known (All-cons (HidesSecret wanted) (secret_of rule) (secrets_of rest) one (subst (λ (l : List Rule). HideSecrets wanted (secrets_of l)) (take_rest (rule ∷ rest) 1) others))
+-- the forms hide the rule
+pub hidden_next : (wanted : AskedForms) (rest all : List Rule) (other : Rule) → 1 ≤ length rest → (HideSecrets wanted (secrets_of rest) → HideSecrets wanted (secrets_of all)) → HidesSecret wanted (secret_of (get_or rest 0 other))
+    → HideSecrets wanted (secrets_of (take (length rest - 1) (drop 1 rest))) → HideSecrets wanted (secrets_of all)
+hidden_next wanted [] all other some known one others = absurd (omega (arith, some))
+hidden_next wanted (rule ∷ rest) all other some known one others =
+    known (All-cons (HidesSecret wanted) (secret_of rule) (secrets_of rest) one (subst (λ (l : List Rule). HideSecrets wanted (secrets_of l)) (take_rest (rule ∷ rest) 1) others))
 
 -- those of one form of a form more are added
 pub nested_next : (patterns : Nested → List (List ℕ)) (make : List ℕ → Secret) (rest : List Nested) (other : Nested) (all old new more : List Secret) → 1 ≤ length rest
@@ -54,14 +54,6 @@ twice_end pattern (one ∷ rest) all none known = absurd (omega (arith, none))
 pub hidden_end : (wanted : AskedForms) (rest all : List Rule) → length rest ≡ 0 → (HideSecrets wanted (secrets_of rest) → HideSecrets wanted (secrets_of all)) → HideSecrets wanted (secrets_of all)
 hidden_end wanted [] all none known = known (All-nil (HidesSecret wanted))
 hidden_end wanted (rule ∷ rest) all none known = absurd (omega (arith, none))
-
--- what is made of one rule more is added
-pub rules_next : (make : Secret → Secret) (rest : List Rule) (other : Rule) (all old new more : List Secret) → 1 ≤ length rest → all ≡ old ++ map make (secrets_of rest) → new ≡ old ++ more
-    → more ≡ make (secret_of (get_or rest 0 other)) ∷ [] → all ≡ new ++ map make (secrets_of (take (length rest - 1) (drop 1 rest)))
-rules_next make [] other all old new more some is grown are = absurd (omega (arith, some))
-rules_next make (rule ∷ rest) other all old new more some is grown are =
-    is ∙ ap (λ l. old ++ (l ++ map make (secrets_of rest))) (sym are) ∙ sym (append_assoc old more (map make (secrets_of rest)))
-    ∙ ap (λ l. l ++ map make (secrets_of rest)) (sym grown) ∙ ap (λ l. new ++ map make (secrets_of l)) (sym (take_rest (rule ∷ rest) 1))
 
 -- the forms that a value names, of both kinds
 pub asked_both : (asked : Asked) (value : List ℕ) → asked.forms.now ≡ forms_named value → asked.nested.now ≡ nested_named value → asked_forms asked ≡ forms_asked (Some value)

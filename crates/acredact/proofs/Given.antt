@@ -1,22 +1,20 @@
 -- Right arguments have nothing wrong.
 use Rattle.std.proofs.Common.{◌≡◌, inl, inr, ℕ, List, [], ◌∷◌, Option, refl, sym, ap, ◌∙◌}
 use Rattle.std.specs.Prelude.{◌&&◌, not, Bool, true, false, Some, None, if◌then◌else◌, option_and_then}
+use Rattle.std.proofs.lemmas.Option.{same_Some}
 use Rattle.acredact.specs.Arguments.{Given, ItemsSoFar, all_asked, by_argument, covers_asked, fitting_by, given_by, given_from, gives_rules, has, mixture_of, words_asked}
-use Rattle.acredact.specs.Mistakes.{IsMistakeOfCall, line_of_argument, first_mistake_line, line_from, line_or}
+use Rattle.acredact.specs.Mistakes.{IsMistakeOfCall, first_mistake_line, line_from, line_of_argument, line_or}
 use Rattle.acredact.specs.declared.arguments.Expects.{Expects}
-use Rattle.acredact.specs.declared.arguments.Expects.TheVariants.{Any, Value, Name}
+use Rattle.acredact.specs.declared.arguments.Expects.TheVariants.{Any, Name, Value}
 use Rattle.acredact.specs.declared.arguments.Mistake.{Mistake}
 use Rattle.acredact.specs.declared.arguments.Mistake.TheVariants.{OutOfMemory}
 use Rattle.acredact.specs.declared.arguments.Mixture.{Mixture}
-use Rattle.acredact.specs.declared.arguments.Mixture.TheVariants.{StrictKind, PseudonymKind, PseudonymWith, PseudonymTable, FormsKind, CountCheck, SummaryCheck, OutputCheck, WordsForms, WordsKind}
-use Rattle.acredact.specs.declared.arguments.Word.TheVariants.{Forms, Pseudonym, Strict, Table, With, AsWord, Count, Summary, Output, Check}
-
-some_same : {A : Type 0} (x y : A) → Some x ≡ Some y → x ≡ y
-some_same x y e = cc
+use Rattle.acredact.specs.declared.arguments.Mixture.TheVariants.{CountCheck, FormsKind, OutputCheck, PseudonymKind, PseudonymTable, PseudonymWith, StrictKind, SummaryCheck, WordsForms, WordsKind}
+use Rattle.acredact.specs.declared.arguments.Word.TheVariants.{AsWord, Check, Count, Forms, Output, Pseudonym, Strict, Summary, Table, With}
 
 -- what was given is one list alone
 pub same_given : (asked : Option (List Given)) (given items : List Given) → asked ≡ Some given → asked ≡ Some items → items ≡ given
-same_given asked given items first second = some_same items given (sym second ∙ first)
+same_given asked given items first second = same_Some items given (sym second ∙ first)
 
 -- where some are given, nothing is wrong: not with an argument that is read, if not with the rest
 given_step : (wrong : List ℕ) (rest : List (List ℕ)) (read : Option ItemsSoFar) (given : List Given)
@@ -37,7 +35,7 @@ never_wrong arguments given line is wrong = let clash : None ≡ Some line = sym
 
 -- options that go together are those that were read
 fits : (mixture : Option Mixture) (read given : List Given) → fitting_by mixture read ≡ Some given → (mixture ≡ None) × (read ≡ given)
-fits None read given is = (refl, some_same read given is)
+fits None read given is = (refl, same_Some read given is)
 fits (Some mixture) read given is = absurd (cc)
 
 read_fits : (read : Option (List Given)) (given : List Given) → option_and_then (λ items. fitting_by (mixture_of items) items) read ≡ Some given → (read ≡ Some given) × (mixture_of given ≡ None)
@@ -85,6 +83,6 @@ memory_alone arguments given mistake asked (inl (inl memory)) = memory
 memory_alone arguments given mistake asked (inl (inr wrong)) = absurd (never_wrong arguments given _ (read_fits (given_by arguments) given asked).0 wrong)
 memory_alone arguments given mistake asked (inr (items, mixture, read, mixed, is)) =
     let (same, none) = read_fits (given_by arguments) given asked in
-    let alike : items ≡ given = some_same items given (sym read ∙ same) in
+    let alike : items ≡ given = same_Some items given (sym read ∙ same) in
     let clash : None ≡ Some mixture = sym none ∙ sym (ap mixture_of alike) ∙ mixed in
     absurd (cc)

@@ -12,7 +12,6 @@ mod PartLines
 mod Valued
 -- what is told of doubtful patterns
 mod Doubting
-mod Shortest
 -- what is written is a redaction, or begins one
 mod Redactions
 mod MadeClean
@@ -41,7 +40,6 @@ mod Calls
 mod Warned
 mod Given
 -- files that are replaced in place
-mod Placed
 mod PlacedCalls
 -- and a file that is named for the output
 mod Put

@@ -3,7 +3,7 @@ use Rattle.std.proofs.Common.{◌≡◌, ◌≢◌, ℕ, ◌+◌, ◌-◌, ◌^�
 use Rattle.std.specs.Prelude.{Result, Ok, Err, IfErr, drop, min, nat_eq, slice_index}
 use Rattle.std.specs.Io.BufRead.{strip_last}
 use Rattle.std.specs.List.{AllZip, slice_split}
-use Rattle.std.proofs.lemmas.Bool.{ne_eqb}
+use Rattle.std.proofs.lemmas.Bool.{ne_eqb, eq-eqb}
 use Rattle.std.proofs.lemmas.List.Splits.{slice_split_at, slice_split_none}
 use Rattle.std.proofs.lemmas.Slice.Zip.{AllZip-long}
 use Rattle.acredact.specs.LineFaults.{IsLineFaultBy, IsListFault, NamesNone}
@@ -15,9 +15,8 @@ use Rattle.acredact.specs.declared.patterns.Place.{Place}
 -- what holds of two pairs of lists, place by place, holds of both together
 zip_append : {A B : Type 0} (R : A → B → Type 0) (xs ys : List A) (us bs : List B) → AllZip R xs us → AllZip R ys bs → AllZip R (xs ++ ys) (us ++ bs)
 zip_append R [] ys [] bs h k = k
-zip_append R [] ys (a ∷ us) bs h k = absurd h
-zip_append R (x ∷ xs) ys [] bs h k = absurd h
 zip_append R (x ∷ xs) ys (a ∷ us) bs h k = (h.0, zip_append R xs ys us bs h.1 k)
+zip_append R xs ys us bs h k = absurd h
 
 -- a secret more is numbered behind the others
 numbered_more : (before : ℕ) (more : List Secret) (secret : Secret) → HaveLines before more → secret.line ≡ min (before + length more + 1) (2 ^ 64 - 1) → HaveLines before (more ++ (secret ∷ []))
@@ -40,16 +39,22 @@ added_line form place old mid new front line at first second =
       numbered = numbered_more 0 first.more second.secret first.numbered (second.stands.line_is ∙ at ∙ ap (λ (n : ℕ). min n (2 ^ 64 - 1)) e);
     }
 
+-- the first part of what is left, up to the first of the bytes that part a text, and the last one
+pub line_at : (byte : ℕ) (rest line more : List ℕ) → rest ≡ line ++ (byte ∷ more) → IsWithout byte line → slice_split (λ b. nat_eq b byte) rest ≡ line ∷ slice_split (λ b. nat_eq b byte) more
+line_at byte rest line more is without = ap (slice_split (λ b. nat_eq b byte)) is ∙ slice_split_at (λ b. nat_eq b byte) line byte more without (eq-eqb byte byte refl)
+
+pub line_end : (byte : ℕ) (rest : List ℕ) → IsWithout byte rest → slice_split (λ b. nat_eq b byte) rest ≡ rest ∷ []
+line_end byte rest without = slice_split_none (λ b. nat_eq b byte) rest without
+
 -- a line stands in front of what is left
 pub line_more : (all front : List (List ℕ)) (rest line more : List ℕ) → all ≡ front ++ slice_split (λ b. nat_eq b 10) rest → rest ≡ line ++ (10 ∷ more) → IsWithout 10 line
     → all ≡ (front ++ (line ∷ [])) ++ slice_split (λ b. nat_eq b 10) more
 line_more all front rest line more is parts without =
-    is ∙ ap (λ l. front ++ slice_split (λ b. nat_eq b 10) l) parts ∙ ap (λ l. front ++ l) (slice_split_at (λ b. nat_eq b 10) line 10 more without refl)
-    ∙ sym (append_assoc front (line ∷ []) (slice_split (λ b. nat_eq b 10) more))
+    is ∙ ap (λ l. front ++ l) (line_at 10 rest line more parts without) ∙ sym (append_assoc front (line ∷ []) (slice_split (λ b. nat_eq b 10) more))
 
 -- what is left is the last line
 pub line_last : (all front : List (List ℕ)) (rest : List ℕ) → all ≡ front ++ slice_split (λ b. nat_eq b 10) rest → IsWithout 10 rest → all ≡ front ++ (rest ∷ [])
-line_last all front rest is without = is ∙ ap (λ l. front ++ l) (slice_split_none (λ b. nat_eq b 10) rest without)
+line_last all front rest is without = is ∙ ap (λ l. front ++ l) (line_end 10 rest without)
 
 -- a text that is not empty has lines
 pub lines_of_some : (text : List ℕ) → 1 ≤ length text → lines_in text ≡ slice_split (λ b. nat_eq b 10) (strip_last 10 text)

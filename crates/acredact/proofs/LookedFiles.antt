@@ -1,9 +1,9 @@
 -- What comes of files whose lines are looked at, one after another.
-use Rattle.std.proofs.Common.{◌≡◌, inl, inr, ℕ, List, [], ◌∷◌, ◌++◌, Option, true, false, refl, sym, ap, subst, ◌∙◌, append_assoc, append-nil}
+use Rattle.std.proofs.Common.{◌≡◌, inl, inr, ℕ, List, [], ◌∷◌, Option, true, false, refl, sym, ap, subst, ◌∙◌}
 use Rattle.std.specs.Prelude.{Bool, ◌||◌, None, Some, Result, Ok, Err}
-use Rattle.std.specs.Io.{StartsWith}
-use Rattle.std.specs.Io.KnownBytes.{Appends, Keeps}
-use Rattle.std.proofs.KnownBytes.{Appends-kept, Appends-nil, Appends-trans, Consumes-nil, Keeps-refl, Keeps-trans}
+use Rattle.std.specs.Io.KnownBytes.{Keeps}
+use Rattle.std.proofs.KnownBytes.{Appends-kept, Appends-nil, Appends-trans, Consumes-nil, Keeps-refl}
+use Rattle.std.proofs.Math.Bool.{or-false, or_assoc}
 use Rattle.aho_core.specs.Occurrence.{Occurrence}
 use Rattle.aho_core.specs.Patterns.{Patterns}
 use Rattle.aho_automaton.specs.declared.automaton.Automaton.{Ghosts as Automata}
@@ -22,15 +22,15 @@ use Rattle.secret_rules.specs.declared.rule.Rule.{Rule}
 use Rattle.acredact.specs.Calls.{IsUnreadLine}
 use Rattle.acredact.specs.Files.{unread_line}
 use Rattle.acredact.specs.Messages.{output_line}
-use Rattle.acredact.specs.Reads.{OfName}
-use Rattle.acredact.specs.RuledChecks.{BeginAllTelling, BeginsNamedTelling, BeginsTelling, HasLineRuns, HaveLineRuns, IfLooked, IfSeenWhole, IsCoveredBy, Labels, LineQuest, LookedNamed, LookedText, SeenFile, SeenFiles, SeesAllLines, SeesNamed, SeesText, files_findings, is_some_file, is_some_line, lines_findings, verdict_seen}
+use Rattle.acredact.specs.RuledChecks.{BeginAllTelling, BeginsNamedTelling, BeginsTelling, HasLineRuns, IfLooked, IsCoveredBy, Labels, LineQuest, LookedNamed, LookedText, SeenFile, SeenFiles, SeesAllLines, SeesNamed, SeesText, files_findings, is_some_line, lines_findings, verdict_seen}
 use Rattle.acredact.specs.declared.look.Look.{Look}
 use Rattle.acredact.specs.declared.look.Look.TheVariants.{Clean, Found, Unread}
 use Rattle.acredact.specs.declared.look.Verdict.{Verdict}
 use Rattle.acredact.proofs.Calls.{tells_same}
-use Rattle.acredact.proofs.OneFile.{known_read, of_folder, of_input}
-use Rattle.acredact.proofs.RuledFiles.{all_then, line_among, some_all, some_then, some_weaker, then_some}
+use Rattle.acredact.proofs.OneFile.{each_kept, each_none, known_read, name_unread, of_folder, of_input}
+use Rattle.acredact.proofs.RuledFiles.{line_among, some_all, some_weaker}
 use Rattle.acredact.proofs.Statuses.{tells_one}
+use Rattle.acredact.proofs.Warned.{some_behind, tells_both}
 
 -- it covers lines as before
 pub still_covered : {A : Type 0} (G : Automata A) (old new : LineCover A) (covering : Covering) → CanCoverLines G new → CoversTheSame old new → IsCoveredBy G old covering → IsCoveredBy G new covering
@@ -97,8 +97,7 @@ module _ (covering : Covering) (labels : Labels) (name : List ℕ) (told left le
 if_looked : (P Q : Bool → Type 0) (result : Result Look LineError) → ((found : Bool) → P found → Q found) → IfLooked result P → IfLooked result Q
 if_looked P Q (Ok Clean) of is = of false is
 if_looked P Q (Ok Found) of is = of true is
-if_looked P Q (Ok (Unread reason)) of is = tt
-if_looked P Q (Err error) of is = tt
+if_looked P Q result of is = tt
 
 module _ (quest : LineQuest) (name : List ℕ) (left left' held held' : Option (List ℕ)) where
   -- of the input, or of a file that was opened
@@ -137,24 +136,10 @@ module _ (quest : LineQuest) (name : List ℕ) (left left' held held' : Option (
 
 -- nothing was told of a file, or of any
 named_none : (quest : LineQuest) (name : List ℕ) (left held : Option (List ℕ)) → BeginsNamedTelling quest name left left held held
-named_none quest name left held = by_test (is_input name) refl
-  where
-    by_test : (b : Bool) → is_input name ≡ b → BeginsNamedTelling quest name left left held held
-    by_test true is = of_input quest.holds name (λ l l'. BeginsTelling quest.covering quest.labels name l l' held held) left left is (begun_none quest.covering quest.labels name left held)
-    by_test false is =
-        of_folder quest.holds name (λ l l'. BeginsTelling quest.covering quest.labels name l l' held held) left left is refl (quest.holds name) (begun_none quest.covering quest.labels name (quest.holds name) held)
+named_none quest name left held = name_unread quest.holds name (λ l l'. BeginsTelling quest.covering quest.labels name l l' held held) left (λ l. begun_none quest.covering quest.labels name l held)
 
 pub looked_refused : (quest : LineQuest) (name : List ℕ) (reason : Reason) (left held : Option (List ℕ)) → LookedNamed quest name (Ok (Unread reason)) left left held held
 looked_refused quest name reason left held = record { whole = tt; begun = named_none quest name left held }
-
-pub none_telling : (quest : LineQuest) (names : List (List ℕ)) (left held : Option (List ℕ)) → BeginAllTelling quest names left left held held
-none_telling quest [] left held = (refl, Keeps-refl held)
-none_telling quest (name ∷ names) left held = (left, held, named_none quest name left held, none_telling quest names left held)
-
--- a flush keeps what was written
-telling_kept : (quest : LineQuest) (names : List (List ℕ)) (left left' held mid held' : Option (List ℕ)) → BeginAllTelling quest names left left' held mid → Keeps mid held' → BeginAllTelling quest names left left' held held'
-telling_kept quest [] left left' held mid held' done kept = (done.0, Keeps-trans held mid held' done.1 kept)
-telling_kept quest (name ∷ names) left left' held mid held' (between, meanwhile, is, others) kept = (between, meanwhile, is, telling_kept quest names between left' meanwhile mid held' others kept)
 
 module _ {E : Type 0} (K : SinkGhosts E) (quest : LineQuest) (name : List ℕ) where
   -- a file that was not read to its end is told, and so is one that the output goes to
@@ -193,22 +178,6 @@ module _ {E : Type 0} (K : SinkGhosts E) (quest : LineQuest) (name : List ℕ) w
     untold = λ not. refl;
   }
 
--- what is found in all files, with those of some first ones
-or_more : (a b c : Bool) → ((a || b) || c) ≡ (a || (b || c))
-or_more true b c = refl
-or_more false b c = refl
-
-or_last : (a : Bool) → (a || false) ≡ a
-or_last true = refl
-or_last false = refl
-
--- what was seen by now: what comes of the rest comes of all
-pub record RunsSoFar (quest : LineQuest) (names rest : List (List ℕ)) (found : Bool) (left left' held held' : Option (List ℕ)) : Type 0 where
-  pub all : (more : Bool) (end last : Option (List ℕ)) → SeesAllLines quest rest more left' end held' last → SeesAllLines quest names (found || more) left end held last
-
-runs_none : (quest : LineQuest) (names : List (List ℕ)) (left held : Option (List ℕ)) → RunsSoFar quest names names false left left held held
-runs_none quest names left held = record { all = λ more end last is. is }
-
 -- one file, and then others
 one_more : (quest : LineQuest) (name : List ℕ) (rest : List (List ℕ)) (first more : Bool) (left mid left' held half held' : Option (List ℕ)) → SeesNamed quest name first left mid held half
     → SeesAllLines quest rest more mid left' half held' → SeesAllLines quest (name ∷ rest) (first || more) left left' held held'
@@ -219,25 +188,10 @@ one_more quest name rest first more left mid left' held half held' one others = 
   told = Appends-trans held half held' (lines_findings quest.labels name 1 one.runs) (files_findings quest.labels rest others.runs) one.told others.told;
 }
 
-runs_next : (quest : LineQuest) (names rest : List (List ℕ)) (name : List ℕ) (found first : Bool) (left mid left' held half held' : Option (List ℕ)) → RunsSoFar quest names (name ∷ rest) found left mid held half
-    → SeesNamed quest name first mid left' half held' → RunsSoFar quest names rest (found || first) left left' held held'
-runs_next quest names rest name found first left mid left' held half held' so one = record {
-  all = λ more end last others.
-      subst (λ (b : Bool). SeesAllLines quest names b left end held last) (sym (or_more found first more))
-      (so.all (first || more) end last (one_more quest name rest first more mid left' end half held' last one others));
-}
-
-no_files : (quest : LineQuest) (left held : Option (List ℕ)) → SeesAllLines quest [] false left left held held
-no_files quest left held = record { runs = []; have = refl; found_is = refl; told = Appends-nil held }
-
-runs_all : (quest : LineQuest) (names : List (List ℕ)) (found : Bool) (left left' held held' : Option (List ℕ)) → RunsSoFar quest names [] found left left' held held' → SeesAllLines quest names found left left' held held'
-runs_all quest names found left left' held held' so =
-    subst (λ (b : Bool). SeesAllLines quest names b left left' held held') (or_last found) (so.all false left' held' (no_files quest left' held'))
-
 module _ {E : Type 0} (K : SinkGhosts E) (quest : LineQuest) (names : List (List ℕ)) where
   -- some first files were looked at from one state to another: what comes of the rest comes of all
   pub record SeenSoFar (rest : List (List ℕ)) (verdict : Verdict) (left left' held held' : Option (List ℕ)) (errors errors' : Errors E) : Type 0 where
-    pub whole : verdict.all ≡ true → RunsSoFar quest names rest verdict.found left left' held held'
+    pub whole : verdict.all ≡ true → (more : Bool) (end last : Option (List ℕ)) → SeesAllLines quest rest more left' end held' last → SeesAllLines quest names (verdict.found || more) left end held last
     pub begun : (end last : Option (List ℕ)) → BeginAllTelling quest rest left' end held' last → BeginAllTelling quest names left end held last
     pub told : Tells K (IsUnreadLine names) errors errors'
     pub partly : verdict.all ≡ false → TellsSome K (IsUnreadLine names) errors errors'
@@ -247,7 +201,7 @@ module _ {E : Type 0} (K : SinkGhosts E) (quest : LineQuest) (names : List (List
   -- before the first
   pub so_far_none : (left held : Option (List ℕ)) (errors : Errors E) → SeenSoFar names (record { found = false; all = true }) left left held held errors errors
   so_far_none left held errors = record {
-    whole = λ all. runs_none quest names left held;
+    whole = λ all more end last is. is;
     begun = λ end last is. is;
     told = tells_same K (IsUnreadLine names) errors errors refl;
     partly = λ (is : true ≡ false). absurd (cc);
@@ -256,12 +210,15 @@ module _ {E : Type 0} (K : SinkGhosts E) (quest : LineQuest) (names : List (List
   }
 
   -- behind one more
-  pub so_far_next : (rest : List (List ℕ)) (name : List ℕ) (verdict next : Verdict) (seen : Option Bool) (left mid left' held half held' : Option (List ℕ)) (errors meanwhile errors' : Errors E)
-      → SeenSoFar (name ∷ rest) verdict left mid held half errors meanwhile → SeenFile K quest name (Ok seen) mid left' half held' meanwhile errors' → next ≡ verdict_seen verdict seen
+  pub so_far_next : (behind rest : List (List ℕ)) (name : List ℕ) (verdict next : Verdict) (seen : Option Bool) (left mid left' held half held' : Option (List ℕ)) (errors meanwhile errors' : Errors E)
+      → SeenSoFar behind verdict left mid held half errors meanwhile → behind ≡ name ∷ rest → SeenFile K quest name (Ok seen) mid left' half held' meanwhile errors' → next ≡ verdict_seen verdict seen
       → SeenSoFar rest next left left' held held' errors errors'
-  so_far_next rest name verdict next seen left mid left' held half held' errors meanwhile errors' so file is =
+  so_far_next behind rest name verdict next seen left mid left' held half held' errors meanwhile errors' far cut file is =
       subst (λ (v : Verdict). SeenSoFar rest v left left' held held' errors errors') (sym is) (by seen file)
     where
+      so : SeenSoFar (name ∷ rest) verdict left mid held half errors meanwhile
+      so = subst (λ (l : List (List ℕ)). SeenSoFar l verdict left mid held half errors meanwhile) cut far
+
       among : IsOneOf name names
       among = so.among name (inl refl)
 
@@ -269,7 +226,8 @@ module _ {E : Type 0} (K : SinkGhosts E) (quest : LineQuest) (names : List (List
       by (Some found) file =
           let same : errors' ≡ meanwhile = file.untold (λ (is : Ok (Some found) ≡ Ok None). cc) in
           record {
-            whole = λ all. runs_next quest names rest name verdict.found found left mid left' held half held' (so.whole all) file.whole;
+            whole = λ all more end last others.
+                rw (or_assoc verdict.found found more) (so.whole all (found || more) end last (one_more quest name rest found more mid left' end half held' last file.whole others));
             begun = λ end last rests. so.begun end last (left', held', file.begun, rests);
             told = subst (Tells K (IsUnreadLine names) errors) (sym same) so.told;
             partly = λ none. subst (TellsSome K (IsUnreadLine names) errors) (sym same) (so.partly none);
@@ -280,36 +238,40 @@ module _ {E : Type 0} (K : SinkGhosts E) (quest : LineQuest) (names : List (List
           record {
             whole = λ (is : false ≡ true). absurd (cc);
             begun = λ end last rests. so.begun end last (left', held', file.begun, rests);
-            told = all_then K (IsUnreadLine names) errors meanwhile errors' so.told
+            told = tells_both K (IsUnreadLine names) errors meanwhile errors' so.told
                 (some_all K (IsUnreadLine (name ∷ [])) (IsUnreadLine names) meanwhile errors' (line_among names name among) (file.partly refl));
-            partly = λ none. then_some K (IsUnreadLine names) errors meanwhile errors' so.told
+            partly = λ none. some_behind K (IsUnreadLine names) errors meanwhile errors' so.told
                 (some_weaker K (IsUnreadLine (name ∷ [])) (IsUnreadLine names) meanwhile errors' (line_among names name among) (file.partly refl));
             quiet = λ (is : false ≡ true). absurd (cc);
             among = λ other of. so.among other (inr of);
           }
 
   -- behind all
-  pub so_far_all : (verdict : Verdict) (left left' held held' : Option (List ℕ)) (errors errors' : Errors E) → SeenSoFar [] verdict left left' held held' errors errors'
+  pub so_far_all : (behind : List (List ℕ)) (verdict : Verdict) (left left' held held' : Option (List ℕ)) (errors errors' : Errors E) → SeenSoFar behind verdict left left' held held' errors errors' → behind ≡ []
       → SeenFiles K quest names (Ok verdict) left left' held held' errors errors'
-  so_far_all verdict left left' held held' errors errors' so = record {
-    whole = λ all. runs_all quest names verdict.found left left' held held' (so.whole all);
-    begun = so.begun left' held' (refl, Keeps-refl held');
-    told = so.told;
-    partly = so.partly;
-    quiet = so.quiet;
-  }
+  so_far_all behind verdict left left' held held' errors errors' far cut =
+      let so = subst (λ (l : List (List ℕ)). SeenSoFar l verdict left left' held held' errors errors') cut far in
+      record {
+        whole = λ all. rw (or-false verdict.found) at (so.whole all false left' held' (record { runs = []; have = refl; found_is = refl; told = Appends-nil held' }));
+        begun = so.begun left' held' (refl, Keeps-refl held');
+        told = so.told;
+        partly = so.partly;
+        quiet = so.quiet;
+      }
 
   -- one failed
-  pub so_far_fails : (rest : List (List ℕ)) (name : List ℕ) (verdict : Verdict) (error : LineError) (left mid left' held half held' : Option (List ℕ)) (errors meanwhile errors' : Errors E)
-      → SeenSoFar (name ∷ rest) verdict left mid held half errors meanwhile → SeenFile K quest name (Err error) mid left' half held' meanwhile errors'
+  pub so_far_fails : (behind rest : List (List ℕ)) (name : List ℕ) (verdict : Verdict) (error : LineError) (left mid left' held half held' : Option (List ℕ)) (errors meanwhile errors' : Errors E)
+      → SeenSoFar behind verdict left mid held half errors meanwhile → behind ≡ name ∷ rest → SeenFile K quest name (Err error) mid left' half held' meanwhile errors'
       → SeenFiles K quest names (Err error) left left' held held' errors errors'
-  so_far_fails rest name verdict error left mid left' held half held' errors meanwhile errors' so file = record {
-    whole = tt;
-    begun = so.begun left' held' (left', held', file.begun, none_telling quest rest left' held');
-    told = subst (Tells K (IsUnreadLine names) errors) (sym (file.untold (λ (is : Err error ≡ Ok None). cc))) so.told;
-    partly = tt;
-    quiet = tt;
-  }
+  so_far_fails behind rest name verdict error left mid left' held half held' errors meanwhile errors' far cut file =
+      let so = subst (λ (l : List (List ℕ)). SeenSoFar l verdict left mid held half errors meanwhile) cut far in
+      record {
+        whole = tt;
+        begun = so.begun left' held' (left', held', file.begun, each_none (BeginsNamedTelling quest) (named_none quest) rest left' held');
+        told = subst (Tells K (IsUnreadLine names) errors) (sym (file.untold (λ (is : Err error ≡ Ok None). cc))) so.told;
+        partly = tt;
+        quiet = tt;
+      }
 
   -- a flush behind all
   pub seen_kept : (verdict : Verdict) (left left' held mid held' : Option (List ℕ)) (errors errors' : Errors E) → Keeps mid held' → SeenFiles K quest names (Ok verdict) left left' held mid errors errors'
@@ -321,7 +283,7 @@ module _ {E : Type 0} (K : SinkGhosts E) (quest : LineQuest) (names : List (List
       found_is = sees.found_is;
       told = Appends-kept held mid held' (files_findings quest.labels names sees.runs) sees.told kept;
     };
-    begun = telling_kept quest names left left' held mid held' files.begun kept;
+    begun = each_kept (BeginsNamedTelling quest) names left left' held mid held' files.begun kept;
     told = files.told;
     partly = files.partly;
     quiet = files.quiet;
@@ -331,7 +293,7 @@ module _ {E : Type 0} (K : SinkGhosts E) (quest : LineQuest) (names : List (List
       → SeenFiles K quest names (Ok verdict) left left' held mid errors errors' → SeenFiles K quest names (Err error) left left' held held' errors errors'
   seen_failed verdict error left left' held mid held' errors errors' kept files = record {
     whole = tt;
-    begun = telling_kept quest names left left' held mid held' files.begun kept;
+    begun = each_kept (BeginsNamedTelling quest) names left left' held mid held' files.begun kept;
     told = files.told;
     partly = tt;
     quiet = tt;

@@ -13,7 +13,7 @@ use Rattle.aho_core.specs.Patterns.{Patterns}
 use Rattle.aho_core.specs.Search.{plain_search}
 use Rattle.aho_core.specs.declared.error.stream.StreamError.{StreamError}
 use Rattle.aho_core.specs.declared.search.Anchored.TheVariants.{No}
-use Rattle.aho_core.specs.declared.error.stream.StreamError.TheVariants.{Match as Refused, Read, Write, WriteZero, Memory, PositionLimit}
+use Rattle.aho_core.specs.declared.error.stream.StreamError.TheVariants.{Match as Refused, Memory, PositionLimit, Read, Write, WriteZero}
 use Rattle.aho_cover.specs.Counting.{CountsThese, runs_named}
 use Rattle.aho_cover.specs.Covers.{CountsRunsWith, CountsWrittenWith}
 use Rattle.aho_cover.specs.Pieces.{PieceRule}
@@ -25,7 +25,7 @@ use Rattle.aho_devices.specs.Refusals.{is_read_fault, is_write_fault, is_write_o
 use Rattle.aho_devices.specs.declared.device.Sink.{Ghosts as SinkGhosts}
 use Rattle.aho_devices.specs.declared.device.Source.{Ghosts as SourceGhosts}
 use Rattle.aho_automaton.specs.declared.automaton.Automaton.{Ghosts}
-use Rattle.aho_stream.specs.FindRuns.{FindsAlong, FindsAll, FindsSoFar}
+use Rattle.aho_stream.specs.FindRuns.{FindsAll, FindsAlong, FindsSoFar}
 use Rattle.aho_stream.specs.Finds.{FindsError, FindsNextInStream}
 use Rattle.aho_stream.specs.Iterators.{CanGoOn}
 use Rattle.aho_stream.specs.Replacing.{IsStreamFault, Refuses}
@@ -52,19 +52,13 @@ first_answer p bytes found (answer, is, same) = subst (IsAnswer p (plain_search 
 -- an error of the iterator is one of a look
 error_ends : (p : Patterns) (s s' : StreamProgress) (given : List ℕ) (error : StreamError) → FindsError p s s' given error → IsLookEnd error
 error_ends p s s' given (Refused cause) is = is
-error_ends p s s' given (Read fault) is = tt
 error_ends p s s' given (Write fault) is = is
 error_ends p s s' given WriteZero is = absurd is
-error_ends p s s' given Memory is = tt
-error_ends p s s' given PositionLimit is = tt
+error_ends p s s' given error is = tt
 
 fault_same : (A B : Type 0) (error : StreamError) → is_read_fault {A = A} (Err error) ≡ is_read_fault {A = B} (Err error)
-fault_same A B (Refused cause) = refl
 fault_same A B (Read fault) = refl
-fault_same A B (Write fault) = refl
-fault_same A B WriteZero = refl
-fault_same A B Memory = refl
-fault_same A B PositionLimit = refl
+fault_same A B error = refl
 
 module _ {A R : Type 0} (G : Ghosts A) (S : SourceGhosts R) (p : Patterns) (it rest : StreamFindIter A R) (along : FindsAlong S (find_steps G S) p it) (can : CanGoOn G it.chunks) where
   -- there is none
@@ -193,11 +187,9 @@ module _ {R : Type 0} (S : SourceGhosts R) (p : Patterns) (AreSearched : Pattern
 -- why a cover that writes to nowhere ends early
 fault_looks : (error : StreamError) → IsStreamFault error → 0 ≡ counted (is_write_fault {A = Unit {0}} (Err error)) 0 → 0 ≡ counted (is_write_of_nothing {A = Unit {0}} (Err error)) 0 → IsLookEnd error
 fault_looks (Refused cause) is failed nothing = absurd is
-fault_looks (Read fault) is failed nothing = tt
 fault_looks (Write fault) is failed nothing = absurd (omega (arith, failed))
 fault_looks WriteZero is failed nothing = absurd (omega (arith, nothing))
-fault_looks Memory is failed nothing = tt
-fault_looks PositionLimit is failed nothing = tt
+fault_looks error is failed nothing = tt
 
 pub looks_cut : {R W : Type 0} (S : SourceGhosts R) (K : SinkGhosts W) (p : Patterns) (AreSearched : Patterns → Type 0) (rule : PieceRule) (source source' : R) (sink sink' : W) (counts counts' : List ℕ) (error : StreamError)
     → CountsWrittenWith S K AreSearched true rule source source' sink sink' counts counts' → CountsErrors {A = Unit {0}} S K source source' sink sink' (Err error) → IsStreamFault error
@@ -235,19 +227,11 @@ module _ {R : Type 0} (S : SourceGhosts R) (r : Redactor) (source source' : R) (
   look_is (Ok false) looks =
       let clean = looks.unmatched refl in
       (looks.given, record { read = read_by looks.given looks.gives.bytes; ended = at_end_by looks.ended clean.0 looks.gives.end }, clean.1)
-  look_is (Err (Refused cause)) looks = tt
   look_is (Err (Read fault)) looks = (tt, (looks.given, read_by looks.given looks.gives.bytes))
-  look_is (Err (Write fault)) looks = tt
-  look_is (Err WriteZero) looks = tt
-  look_is (Err Memory) looks = tt
   look_is (Err PositionLimit) looks = (tt, (looks.given, read_by looks.given looks.gives.bytes))
+  look_is (Err error) looks = tt
 
 pub look_failed : (occurs : Result Bool StreamError) → is_read_fault occurs ≡ is_failed_look (look_of occurs)
 look_failed (Ok true) = refl
-look_failed (Ok false) = refl
-look_failed (Err (Refused cause)) = refl
 look_failed (Err (Read fault)) = refl
-look_failed (Err (Write fault)) = refl
-look_failed (Err WriteZero) = refl
-look_failed (Err Memory) = refl
-look_failed (Err PositionLimit) = refl
+look_failed occurs = refl

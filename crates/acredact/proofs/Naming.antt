@@ -7,7 +7,7 @@ use Rattle.acredact.specs.Pseudonyms.{pseudonym_rule}
 use Rattle.acredact.specs.Arguments.{Given, has}
 use Rattle.acredact.specs.Loading.{AreLoaded, Loaded, Reading, loaded_by}
 use Rattle.acredact.specs.Named.{all_named, named_secret}
-use Rattle.acredact.specs.Ruled.{secrets_by}
+use Rattle.acredact.specs.Ruled.{AreRuledLoaded, RuledLoad, secrets_by}
 use Rattle.acredact.specs.Tables.{HaveNoEmpty, Secret}
 use Rattle.acredact.specs.declared.arguments.Word.TheVariants.{Forms, IgnoreCase}
 use Rattle.acredact.proofs.Ready.{IsSomeSecret, given_some}
@@ -60,5 +60,19 @@ loaded_some reading given load left left' loaded =
     by key false = some
 
     by_key : (key : Option (List ℕ)) → HaveNoEmpty (loaded_by given loaded.secrets key).secrets
+    by_key None = some
+    by_key (Some key) = by key (has Forms given)
+
+pub ruled_some : (reading : Reading) (given : List Given) (load : RuledLoad) (left left' : Option (List ℕ)) → AreRuledLoaded reading given load left left' → HaveNoEmpty load.secrets
+ruled_some reading given load left left' loaded = subst HaveNoEmpty (sym loaded.named) (by_key load.key)
+  where
+    some : HaveNoEmpty loaded.secrets
+    some = given_some reading given loaded.secrets left loaded.rules_given.between loaded.rules_given.secrets_given
+
+    by : (key : List ℕ) (forms : Bool) → HaveNoEmpty (by_rules given loaded.secrets key forms)
+    by key true = named_some (pseudonym_rule (has IgnoreCase given) key) loaded.secrets _ refl some
+    by key false = some
+
+    by_key : (key : Option (List ℕ)) → HaveNoEmpty (secrets_by given key loaded.secrets)
     by_key None = some
     by_key (Some key) = by key (has Forms given)

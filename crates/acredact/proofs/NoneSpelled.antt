@@ -15,12 +15,12 @@ use Rattle.aho_laws.specs.CutLaws.{NoneHolds}
 use Rattle.aho_laws.proofs.Members.{member-map, member-of_map}
 use Rattle.secret_rules.proofs.Members.{member-take}
 use Rattle.tool_parts.specs.Asked.{ArePatterns}
+use Rattle.sha2.specs.Sha256.{digest_bytes, sha256}
 use Rattle.acredact.specs.Hmac.{hmac_sha256}
 use Rattle.acredact.specs.Pseudonyms.{as_compared, hex_at, hex_digit, piece_of_digest, pseudonym_rule}
-use Rattle.sha2.specs.Sha256.{digest_bytes, sha256}
 use Rattle.acredact.specs.Pieces.{IsJudgedBy}
 use Rattle.acredact.specs.Secrets.{NoneOccurs}
-use Rattle.acredact.specs.Spelling.{IsFirstSpelled, IsSpelled, NoneAreSpelled, is_inside}
+use Rattle.acredact.specs.Spelling.{IsFirstSpelled, NoneAreSpelled, is_inside}
 use Rattle.acredact.specs.declared.clean.Unclean.{Unclean}
 use Rattle.acredact.proofs.Flaws.{first_is, last_is}
 
@@ -60,23 +60,8 @@ quiet_by true byte is = is.1
 quiet_by false byte is = is.0
 
 digit_quiet : (value : ℕ) → value < 16 → IsQuiet (hex_digit value)
-digit_quiet zero below = (refl, refl)
-digit_quiet (suc zero) below = (refl, refl)
-digit_quiet (suc (suc zero)) below = (refl, refl)
-digit_quiet (suc (suc (suc zero))) below = (refl, refl)
-digit_quiet (suc (suc (suc (suc zero)))) below = (refl, refl)
-digit_quiet (suc (suc (suc (suc (suc zero))))) below = (refl, refl)
-digit_quiet (suc (suc (suc (suc (suc (suc zero)))))) below = (refl, refl)
-digit_quiet (suc (suc (suc (suc (suc (suc (suc zero))))))) below = (refl, refl)
-digit_quiet (suc (suc (suc (suc (suc (suc (suc (suc zero)))))))) below = (refl, refl)
-digit_quiet (suc (suc (suc (suc (suc (suc (suc (suc (suc zero))))))))) below = (refl, refl)
-digit_quiet (suc (suc (suc (suc (suc (suc (suc (suc (suc (suc zero)))))))))) below = (refl, refl)
-digit_quiet (suc (suc (suc (suc (suc (suc (suc (suc (suc (suc (suc zero))))))))))) below = (refl, refl)
-digit_quiet (suc (suc (suc (suc (suc (suc (suc (suc (suc (suc (suc (suc zero)))))))))))) below = (refl, refl)
-digit_quiet (suc (suc (suc (suc (suc (suc (suc (suc (suc (suc (suc (suc (suc zero))))))))))))) below = (refl, refl)
-digit_quiet (suc (suc (suc (suc (suc (suc (suc (suc (suc (suc (suc (suc (suc (suc zero)))))))))))))) below = (refl, refl)
-digit_quiet (suc (suc (suc (suc (suc (suc (suc (suc (suc (suc (suc (suc (suc (suc (suc zero))))))))))))))) below = (refl, refl)
 digit_quiet (suc (suc (suc (suc (suc (suc (suc (suc (suc (suc (suc (suc (suc (suc (suc (suc n)))))))))))))))) below = absurd (omega arith)
+digit_quiet value below = (refl, refl)
 
 -- each byte of a pseudonym is its first, its last or one inside
 abbrev IsOfPiece : ℕ → Type 0
@@ -118,9 +103,8 @@ piece_all digest below =
 
 -- what stands in a part stands in the whole
 member_drop : (n : ℕ) (xs : List ℕ) (x : ℕ) → IsMember (drop n xs) x → IsMember xs x
-member_drop zero xs x member = member
-member_drop (suc n) [] x member = member
 member_drop (suc n) (y ∷ ys) x member = inr (member_drop n ys x member)
+member_drop n xs x member = member
 
 module _ (p : Patterns) (unlike : NoneAreSpelled p.ignore_case p.words) where
   -- nothing occurs in a pseudonym
@@ -158,9 +142,5 @@ module _ (p : Patterns) (unlike : NoneAreSpelled p.ignore_case p.words) where
 
 -- what is answered of words is so of a cover of these patterns
 pub spelled_judged : (p : Patterns) (ignore_case : Bool) (words pieces : List (List ℕ)) (answer : Option Unclean) → ArePatterns p ignore_case words → IsFirstSpelled ignore_case words answer → IsJudgedBy p true true pieces answer
-spelled_judged p ignore_case words pieces None are none = λ _.
-    subst (λ (b : Bool). NoneAreSpelled b p.words) (sym are.rule) (subst (λ (l : List (List ℕ)). NoneAreSpelled ignore_case l) (sym are.words_are) none)
-spelled_judged p ignore_case words pieces (Some unclean) are one = (
-  refl,
-  subst (λ (b : Bool). IsSpelled b p.words unclean) (sym are.rule) (subst (λ (l : List (List ℕ)). IsSpelled ignore_case l unclean) (sym are.words_are) one),
-)
+spelled_judged p ignore_case words pieces None are none = λ _. rw (are.rule, are.words_are) none
+spelled_judged p ignore_case words pieces (Some unclean) are one = (refl, rw (are.rule, are.words_are) one)

@@ -1,10 +1,10 @@
 -- What comes of one file, by what comes of its stream.
-use Rattle.std.proofs.Common.{◌≡◌, ◌≢◌, inl, inr, ℕ, ◌≤◌, List, [], Option, true, false, length, map, refl, sym, ap, subst, ◌∙◌, arith}
+use Rattle.std.proofs.Common.{◌≡◌, ◌≢◌, inl, inr, ℕ, ◌≤◌, List, [], ◌∷◌, Option, true, false, length, map, refl, sym, ap, subst, ◌∙◌, arith}
 use Rattle.std.specs.Prelude.{Bool, MatchBool, None, Some, Result, Ok, Err, IfErr, IfOk, IfSome, OnOk}
 use Rattle.std.specs.Io.KnownBytes.{Consumes, IsAtEnd, Keeps}
 use Rattle.std.specs.declared.io.traits.Read.{Ghosts as Readers}
 use Rattle.std.specs.declared.io.traits.Write.{Ghosts as Writers}
-use Rattle.std.proofs.KnownBytes.{Appends-nil, Consumes-nil, Keeps-refl}
+use Rattle.std.proofs.KnownBytes.{Appends-nil, Consumes-nil, Keeps-refl, Keeps-trans}
 use Rattle.aho_core.specs.Laws.{shortest}
 use Rattle.aho_core.specs.declared.error.stream.StreamError.{StreamError}
 use Rattle.aho_core.specs.declared.error.stream.StreamError.TheVariants.{Match, Read, Write, WriteZero, Memory, PositionLimit}
@@ -18,9 +18,9 @@ use Rattle.tool_parts.specs.Names.{is_input}
 use Rattle.tool_parts.specs.Streams.{output_bytes, bytes_left}
 use Rattle.tool_parts.specs.declared.reason.Reason.{Reason}
 use Rattle.acredact.specs.Faults.{IsOutputEnd, IsReadReason, IsStreamEnd, is_unread, reading_of}
-use Rattle.acredact.specs.Files.{BeginsNamed, BeginsText, FileOutcome, IsUnread, ReachesNamed, ReachesText, RedactsText, TextOutcome, Work}
-use Rattle.acredact.specs.Reads.{OfName}
-use Rattle.acredact.specs.Secrets.{Redactor}
+use Rattle.acredact.specs.Files.{BeginsNamed, BeginsText, BeginsWriting, FileOutcome, IsUnread, ReachesNamed, ReachesText, RedactsText, TextOutcome, Work, WritesText}
+use Rattle.acredact.specs.Reads.{EachName, OfName}
+use Rattle.acredact.specs.Secrets.{BeginsRedaction, Redactor}
 use Rattle.acredact.specs.Streams.{ReachesStream, RedactsStream, StartsStream}
 use Rattle.acredact.proofs.Redactions.{begins_nothing}
 
@@ -163,8 +163,8 @@ known_read (Some xs) None left' text kept read = absurd kept
 known_read (Some xs) (Some ys) None text kept read = absurd read
 known_read (Some xs) (Some ys) (Some zs) text kept read = sym kept ∙ read
 
-module _ {r : Redactor} (told left left' held held' : Option (List ℕ)) (kept : Keeps told left) where
-  known_text : RedactsText r left left' held held' → RedactsText r told left' held held'
+module _ (told left left' held held' : Option (List ℕ)) (kept : Keeps told left) where
+  pub known_text : {Is : List ℕ → List ℕ → Type 0} → WritesText Is left left' held held' → WritesText Is told left' held held'
   known_text whole = record {
     text = whole.text;
     reads = record { read = known_read told left left' whole.text kept whole.reads.read; ended = whole.reads.ended };
@@ -173,7 +173,7 @@ module _ {r : Redactor} (told left left' held held' : Option (List ℕ)) (kept :
     written = whole.written;
   }
 
-  known_begun : BeginsText r left left' held held' → BeginsText r told left' held held'
+  pub known_begun : {Begins : List ℕ → Bool → List ℕ → Type 0} → BeginsWriting Begins left left' held held' → BeginsWriting Begins told left' held held'
   known_begun begun = record {
     given = begun.given;
     ended = begun.ended;
@@ -184,7 +184,7 @@ module _ {r : Redactor} (told left left' held held' : Option (List ℕ)) (kept :
     written = begun.written;
   }
 
-  known_reaches : ReachesText r left left' held held' → ReachesText r told left' held held'
+  known_reaches : {r : Redactor} → ReachesText r left left' held held' → ReachesText r told left' held held'
   known_reaches up = record {
     given = up.given;
     ended = up.ended;
@@ -197,16 +197,19 @@ module _ {r : Redactor} (told left left' held held' : Option (List ℕ)) (kept :
   }
 
 -- before anything was read or written
-begun_none : (r : Redactor) → 1 ≤ shortest (map length r.patterns.words) → (left held : Option (List ℕ)) → BeginsText r left left held held
-begun_none r some left held = record {
+pub begun_nothing : (Begins : List ℕ → Bool → List ℕ → Type 0) → Begins [] false [] → (left held : Option (List ℕ)) → BeginsWriting Begins left left held held
+begun_nothing Begins none left held = record {
   given = [];
   ended = false;
   read = Consumes-nil left;
   at_end = λ (is : false ≡ true). absurd (cc);
   part = [];
-  begins = begins_nothing r some [] false;
+  begins = none;
   written = Appends-nil held;
 }
+
+begun_none : (r : Redactor) → 1 ≤ shortest (map length r.patterns.words) → (left held : Option (List ℕ)) → BeginsText r left left held held
+begun_none r some = begun_nothing (BeginsRedaction r) (begins_nothing r some [] false)
 
 -- the file of a name is that of the input, or of the folder
 pub of_input : (holds : List ℕ → Option (List ℕ)) (name : List ℕ) (Reads : Option (List ℕ) → Option (List ℕ) → Type 0) (left left' : Option (List ℕ)) → is_input name ≡ true
@@ -218,6 +221,24 @@ pub of_folder : (holds : List ℕ → Option (List ℕ)) (name : List ℕ) (Read
     → left' ≡ left → (rest : Option (List ℕ)) → Reads (holds name) rest → OfName holds name Reads left left'
 of_folder holds name Reads left left' is same rest reads =
     subst (λ (b : Bool). MatchBool b (Reads left left') ((left' ≡ left) × (rest : Option (List ℕ)) × Reads (holds name) rest)) (sym is) (same, rest, reads)
+
+-- what is so of whatever was not read
+pub name_unread : (holds : List ℕ → Option (List ℕ)) (name : List ℕ) (Reads : Option (List ℕ) → Option (List ℕ) → Type 0) (left : Option (List ℕ)) → ((l : Option (List ℕ)) → Reads l l) → OfName holds name Reads left left
+name_unread holds name Reads left none = by (is_input name) refl
+  where
+    by : (b : Bool) → is_input name ≡ b → OfName holds name Reads left left
+    by true is = of_input holds name Reads left left is (none left)
+    by false is = of_folder holds name Reads left left is refl (holds name) (none (holds name))
+
+-- and of all names
+pub each_none : (Does : List ℕ → (left left' held held' : Option (List ℕ)) → Type 0) → ((name : List ℕ) (left held : Option (List ℕ)) → Does name left left held held) → (names : List (List ℕ)) (left held : Option (List ℕ)) → EachName Does names left left held held
+each_none Does none [] left held = (refl, Keeps-refl held)
+each_none Does none (name ∷ names) left held = (left, held, none name left held, each_none Does none names left held)
+
+-- a flush keeps what was written
+pub each_kept : (Does : List ℕ → (left left' held held' : Option (List ℕ)) → Type 0) (names : List (List ℕ)) (left left' held mid held' : Option (List ℕ)) → EachName Does names left left' held mid → Keeps mid held' → EachName Does names left left' held held'
+each_kept Does [] left left' held mid held' done kept = (done.0, Keeps-trans held mid held' done.1 kept)
+each_kept Does (name ∷ names) left left' held mid held' (between, meanwhile, is, others) kept = (between, meanwhile, is, each_kept Does names between left' meanwhile mid held' others kept)
 
 unread_by : {P : Type 0} (work : Work) (name : List ℕ) (left left' held held' : Option (List ℕ)) (result : Result (Option Reason) StreamError) → IfOk result (λ unread. IfSome unread IsReadReason)
     → BeginsNamed work name left left' held held' → (work.redactor.covers ≡ true → IfOk result (λ unread. IfSome unread (λ reason. P))) → (P → ReachesNamed work name left left' held held')
@@ -266,8 +287,4 @@ module _ {W R : Type 0} (Writes : Writers W) {Reads : Readers R} (work : Work) (
 
 -- nothing was read and written of any
 pub named_none : (work : Work) → 1 ≤ shortest (map length work.redactor.patterns.words) → (name : List ℕ) (left held : Option (List ℕ)) → BeginsNamed work name left left held held
-named_none work some name left held = by_test (is_input name) refl
-  where
-    by_test : (b : Bool) → is_input name ≡ b → BeginsNamed work name left left held held
-    by_test true is = of_input work.holds name (λ l l'. BeginsText work.redactor l l' held held) left left is (begun_none work.redactor some left held)
-    by_test false is = of_folder work.holds name (λ l l'. BeginsText work.redactor l l' held held) left left is refl (work.holds name) (begun_none work.redactor some (work.holds name) held)
+named_none work some name left held = name_unread work.holds name (λ l l'. BeginsText work.redactor l l' held held) left (λ l. begun_none work.redactor some l held)

@@ -3,14 +3,13 @@ use Rattle.std.proofs.Common.{◌≡◌, inl, inr, ℕ, zero, suc, List, Option,
 use Rattle.std.specs.Prelude.{Bool, Some}
 use Rattle.std.specs.declared.io.traits.Read.{Ghosts as Readers}
 use Rattle.std.specs.declared.io.traits.Write.{Ghosts as Writers}
-use Rattle.std.proofs.lemmas.List.Elements.{All-weaker}
 use Rattle.aho_devices.specs.declared.device.Sink.{Ghosts as SinkGhosts}
 use Rattle.tool_parts.specs.Streams.{bytes_left}
 use Rattle.tool_parts.specs.Telling.{Tells, TellsBytes, TellsSome}
 use Rattle.tool_parts.specs.declared.errors.Errors.{Errors}
 use Rattle.tool_parts.specs.declared.reason.Reason.{Reason}
 use Rattle.acredact.specs.Sums.{sums_of}
-use Rattle.acredact.specs.Arguments.{AsksAnyCheck, AsksForRules, AsksToRedact, Given, all_asked, counts_asked}
+use Rattle.acredact.specs.Arguments.{AsksAnyCheck, Given, all_asked, counts_asked}
 use Rattle.acredact.specs.Calls.{Call, CountsCall, IsCountsLine, IsLineOf, WarnsCall}
 use Rattle.acredact.specs.Files.{unread_line}
 use Rattle.acredact.specs.Into.{IsOutputLine, IsRuledOutputLine}
@@ -21,8 +20,7 @@ use Rattle.acredact.proofs.Given.{same_given}
 use Rattle.acredact.proofs.PlacedCalls.{tells_weaker}
 use Rattle.acredact.proofs.RuledCalls.{notes_told}
 use Rattle.acredact.proofs.RuledFiles.{some_weaker}
-use Rattle.acredact.proofs.Statuses.{any_redaction, any_ruled}
-use Rattle.acredact.proofs.Warned.{tells_both, warnings_tell}
+use Rattle.acredact.proofs.Warned.{tells_both, warnings_may}
 
 -- a status is 0, 1 or 2
 pub two_of : (status : ℕ) → status ≤ 2 → (status ≡ 1 → ⊥) → (status ≡ 0 → ⊥) → status ≡ 2
@@ -35,39 +33,15 @@ pub by_status : {P : Type 0} (status : ℕ) → (status ≡ 0 → P) → ((statu
 by_status zero none some = none refl
 by_status (suc status) none some = some (λ (is : suc status ≡ 0). omega (arith, is))
 
--- a redaction is no check
-pub no_check_of : (arguments : List (List ℕ)) (given : List Given) → all_asked arguments ≡ Some given → AsksToRedact given
+-- what is no check is not one
+pub no_check_of : (arguments : List (List ℕ)) (given : List Given) → all_asked arguments ≡ Some given → (AsksAnyCheck given → ⊥)
     → ((items : List Given) × (all_asked arguments ≡ Some items) × AsksAnyCheck items) → ⊥
-no_check_of arguments given right asks (items, mine, checks) =
-    let same : items ≡ given = same_given (all_asked arguments) given items right mine in
-    any_redaction given (subst AsksAnyCheck same checks) asks
-
--- and its status is not 1
-pub not_one : (arguments : List (List ℕ)) (given : List Given) → all_asked arguments ≡ Some given → AsksToRedact given → {status : ℕ}
-    → (status ≡ 1 → (items : List Given) × (all_asked arguments ≡ Some items) × AsksAnyCheck items) → status ≡ 1 → ⊥
-not_one arguments given right asks check one = no_check_of arguments given right asks (check one)
-
--- nor is one by rules
-pub ruled_no_check : (arguments : List (List ℕ)) (given : List Given) → all_asked arguments ≡ Some given → AsksForRules given
-    → ((items : List Given) × (all_asked arguments ≡ Some items) × AsksAnyCheck items) → ⊥
-ruled_no_check arguments given right asks (items, mine, checks) =
-    let same : items ≡ given = same_given (all_asked arguments) given items right mine in
-    any_ruled given (subst AsksAnyCheck same checks) asks
-
-pub ruled_not_one : (arguments : List (List ℕ)) (given : List Given) → all_asked arguments ≡ Some given → AsksForRules given → {status : ℕ}
-    → (status ≡ 1 → (items : List Given) × (all_asked arguments ≡ Some items) × AsksAnyCheck items) → status ≡ 1 → ⊥
-ruled_not_one arguments given right asks check one = ruled_no_check arguments given right asks (check one)
+no_check_of arguments given right none (items, mine, checks) = none (subst AsksAnyCheck (same_given (all_asked arguments) given items right mine) checks)
 
 module _ {E : Type 0} (K : SinkGhosts E) (call : Call) (fails : Type 0) (name : List ℕ) where
   -- what `run` tells of a failure
   pub some_told : (old new : Errors E) → TellsSome K (IsLineOf call fails) old new → TellsSome K (IsOutputLine call fails name) old new
-  some_told old new some = record {
-    first = some.first;
-    is_line = inl some.is_line;
-    more = some.more;
-    are_lines = All-weaker (IsLineOf call fails) (IsOutputLine call fails name) (λ line is. inl is) some.more some.are_lines;
-    written = some.written;
-  }
+  some_told old new some = some_weaker K (IsLineOf call fails) (IsOutputLine call fails name) old new (λ line is. inl is) some
 
   -- or what it tells where all was done, and then why the new file does not take the place
   pub put_told : (old mid new : Errors E) (reason : Reason) → Tells K (IsLineOf call fails) old mid → TellsBytes K mid new (unread_line name reason) → TellsSome K (IsOutputLine call fails name) old new
@@ -81,12 +55,12 @@ module _ {R W E : Type 0} {Reads : Readers R} (Writes : Writers W) (K : SinkGhos
   done_told quiet counts = by (counts_asked call.given) refl
     where
       by : (b : Bool) → counts_asked call.given ≡ b → Tells K (IsLineOf call fails) old.errors new.errors
-      by false none = let warned = quiet none in warnings_tell K call fails warned.load (bytes_left old.input) warned.between warned.loaded old.errors warned.told.0 new.errors warned.told.1 warned.told.2
+      by false none = let warned = quiet none in warnings_may K call (IsLineOf call fails) (λ line is. inr (inr (inr is))) warned.load (bytes_left old.input) warned.between warned.loaded old.errors warned.told.0 new.errors warned.told.1 warned.told.2
       by true some =
           let counted = counts some in
           let warned = counted.warned in
           let load = counted.load in
-          tells_both K (IsLineOf call fails) old.errors counted.meanwhile new.errors (warnings_tell K call fails load (bytes_left old.input) counted.between counted.loaded old.errors warned.0 counted.meanwhile warned.1 warned.2)
+          tells_both K (IsLineOf call fails) old.errors counted.meanwhile new.errors (warnings_may K call (IsLineOf call fails) (λ line is. inr (inr (inr is))) load (bytes_left old.input) counted.between counted.loaded old.errors warned.0 counted.meanwhile warned.1 warned.2)
           (tells_weaker K (IsCountsLine call.given load.secrets) (IsLineOf call fails) counted.meanwhile new.errors (λ line is. inr (inr (inl (load, bytes_left old.input, counted.between, counted.loaded, is))))
           (tells_counts K call.given counted.meanwhile new.errors load.secrets (sums_of load.secrets counted.counted.counts) counted.volume some counted.counted.told))
 

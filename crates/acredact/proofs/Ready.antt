@@ -4,7 +4,7 @@ use Rattle.std.specs.Prelude.{MatchBool, ◌||◌, ◌&&◌, codes, if◌then◌
 use Rattle.std.specs.Io.BufRead.{strip_last}
 use Rattle.std.specs.Borrow.{Bor}
 use Rattle.std.specs.List.{AllZip, filter_map, flat_map, slice_split}
-use Rattle.std.proofs.lemmas.Bool.{ltb-false}
+use Rattle.std.proofs.lemmas.Bool.{ltb-false, or_parts}
 use Rattle.std.proofs.lemmas.List.{length-map}
 use Rattle.std.proofs.lemmas.Slice.Eq.{bytes_eq-Decides}
 use Rattle.std.proofs.lemmas.List.Elements.{All-append, All-cons, All-head, All-nil, All-tail}
@@ -32,7 +32,7 @@ use Rattle.acredact.specs.Secrets.{CanRedact, Keyed, Redactor}
 use Rattle.acredact.specs.Tables.{HaveNoEmpty, HoldsBy, Secret, patterns_in}
 use Rattle.acredact.specs.Values.{GiveEach, no_bytes, value_of_entry, whole_in}
 use Rattle.acredact.specs.declared.arguments.Word.{Word}
-use Rattle.acredact.specs.declared.arguments.Word.TheVariants.{IgnoreCase, Kind, Pattern, Patterns as PatternFile, Table, Env, EnvFile, Whole, With, Pseudonym, Forms, AsWord, Rules as RulesFile, After, MaxLine, Output, InPlace, Count, Summary, Crlf, AllowEmpty, Strict, Check, Help, Version, File}
+use Rattle.acredact.specs.declared.arguments.Word.TheVariants.{AsWord, Env, EnvFile, Kind, Pattern, Patterns as PatternFile, Table, Whole}
 use Rattle.acredact.specs.declared.folder.Folder.{Ghosts as Folders}
 use Rattle.acredact.specs.declared.load.Lists.{Lists}
 use Rattle.acredact.specs.declared.patterns.Form.{Form}
@@ -49,9 +49,8 @@ some_shortest (secret ∷ secrets) are = omega (arith, All-head IsSomeSecret sec
 
 lines_some : (form : Form) (lines : List (List ℕ)) (secrets : List Secret) → AllZip (HoldsBy form) lines secrets → HaveNoEmpty secrets
 lines_some form [] [] held = All-nil IsSomeSecret
-lines_some form [] (secret ∷ secrets) held = absurd held
-lines_some form (line ∷ lines) [] held = absurd held
 lines_some form (line ∷ lines) (secret ∷ secrets) held = All-cons IsSomeSecret secret secrets held.0.holds.some (lines_some form lines secrets held.1)
+lines_some form lines secrets held = absurd held
 
 none_some : (secrets : List Secret) → secrets ≡ [] → HaveNoEmpty secrets
 none_some secrets none = subst HaveNoEmpty (sym none) (All-nil IsSomeSecret)
@@ -94,26 +93,7 @@ option_some reading Table value secrets left left' gives = lines_some _ _ secret
 option_some reading Env value secrets left left' ((entries, of, gives), same) = each_some reading.rules.parts (filter_map (value_of_entry value) entries) secrets gives.given
 option_some reading EnvFile value secrets left left' gives = each_some reading.rules.parts (values_in_text reading.rules gives.text) secrets gives.held.given.given
 option_some reading Whole value secrets left left' gives = each_some reading.rules.parts (whole_in (form_by reading.rules false) gives.text ∷ []) secrets gives.held.given.given
-option_some reading IgnoreCase value secrets left left' gives = none_some secrets gives.0
-option_some reading Kind value secrets left left' gives = none_some secrets gives.0
-option_some reading With value secrets left left' gives = none_some secrets gives.0
-option_some reading Pseudonym value secrets left left' gives = none_some secrets gives.0
-option_some reading Forms value secrets left left' gives = none_some secrets gives.0
-option_some reading RulesFile value secrets left left' gives = none_some secrets gives.0
-option_some reading After value secrets left left' gives = none_some secrets gives.0
-option_some reading MaxLine value secrets left left' gives = none_some secrets gives.0
-option_some reading Output value secrets left left' gives = none_some secrets gives.0
-option_some reading Count value secrets left left' gives = none_some secrets gives.0
-option_some reading Summary value secrets left left' gives = none_some secrets gives.0
-option_some reading Crlf value secrets left left' gives = none_some secrets gives.0
-option_some reading InPlace value secrets left left' gives = none_some secrets gives.0
-option_some reading AllowEmpty value secrets left left' gives = none_some secrets gives.0
-option_some reading AsWord value secrets left left' gives = none_some secrets gives.0
-option_some reading Strict value secrets left left' gives = none_some secrets gives.0
-option_some reading Check value secrets left left' gives = none_some secrets gives.0
-option_some reading Help value secrets left left' gives = none_some secrets gives.0
-option_some reading Version value secrets left left' gives = none_some secrets gives.0
-option_some reading File value secrets left left' gives = none_some secrets gives.0
+option_some reading other value secrets left left' gives = none_some secrets gives.0
 
 read_some : (reading : Reading) (items : List Given) (secrets : List Secret) (left left' : Option (List ℕ)) → AreRead reading items secrets left left' → HaveNoEmpty secrets
 read_some reading [] secrets left left' given = none_some secrets given.0
@@ -193,26 +173,13 @@ redactor_same p covers covers' words words' pieces pieces' key key' by chosen al
 pub reading_from : {F X : Type 0} (D : Folders F X) (lists : Lists F) (folder : F) (rules : Rules) → lists.folder.now ≡ folder → rules_for lists ≡ rules → (P : Reading → Type 0)
     → P (reading_of_lists D lists) → P (record { holds = D.holds folder; refuses = D.refuses folder; environment = D.environment folder; rules = rules })
 reading_from {F} D lists folder rules same alike P is =
-    subst (λ (f : F). P (record { holds = D.holds f; refuses = D.refuses f; environment = D.environment f; rules = rules })) same
-    (subst (λ (r : Rules). P (record { holds = D.holds lists.folder.now; refuses = D.refuses lists.folder.now; environment = D.environment lists.folder.now; rules = r })) alike is)
-
--- none of three is so
-none_of : (a b c : Bool) → (a || b || c) ≡ false → (a ≡ false) × (b ≡ false) × (c ≡ false)
-none_of false false false none = (refl, refl, refl)
-none_of false false true none = absurd (cc)
-none_of false true c none = absurd (cc)
-none_of true b c none = absurd (cc)
-
--- nor one of some others
-or_none : (a b c d : Bool) → (a || b || c || d) ≡ false → ((a || b || c) ≡ false) × (d ≡ false)
-or_none false false false d none = (refl, none)
-or_none false false true d none = absurd (cc)
-or_none false true c d none = absurd (cc)
-or_none true b c d none = absurd (cc)
+    rw (← same, ← alike) is
 
 pub gives_none : (given : List Given) → gives_pattern given ≡ false → GivesNoPattern given
 gives_none given none =
-    let (patterns, values) = or_none (has Pattern given) (has PatternFile given) (has Table given) (gives_value given) none in
-    let (a, b, c) = none_of (has Pattern given) (has PatternFile given) (has Table given) patterns in
-    let (d, e, f) = none_of (has Env given) (has EnvFile given) (has Whole given) values in
-    record { no_pattern = a; no_patterns = b; no_table = c; no_env = d; no_env_file = e; no_whole = f }
+    let (patterns, values) = or_parts (has Pattern given || has PatternFile given || has Table given) (gives_value given) none in
+    let (lists, no_table) = or_parts (has Pattern given || has PatternFile given) (has Table given) patterns in
+    let (no_pattern, no_patterns) = or_parts (has Pattern given) (has PatternFile given) lists in
+    let (variables, no_whole) = or_parts (has Env given || has EnvFile given) (has Whole given) values in
+    let (no_env, no_env_file) = or_parts (has Env given) (has EnvFile given) variables in
+    record { no_pattern = no_pattern; no_patterns = no_patterns; no_table = no_table; no_env = no_env; no_env_file = no_env_file; no_whole = no_whole }

@@ -1,39 +1,43 @@
 -- What comes of a call with rules, and its status.
 use Rattle.std.proofs.Common.{◌≡◌, ◌<◌, inl, inr, ℕ, ◌-◌, List, [], ◌∷◌, Option, true, false, refl, sym, ap, subst, ◌+◌, ◌++◌, ◌∙◌, append-nil, length, length-append, map, arith}
-use Rattle.std.specs.Prelude.{Bool, MatchBool, Result, Ok, Err, IfOk, IsErr, IsErrAnd, OnOk, min, replicate, slice_index, ◌^◌, ◌==◌, if◌then◌else◌}
+use Rattle.std.specs.Prelude.{Bool, MatchBool, Result, Ok, Err, IfOk, IsErr, OnOk, min, replicate, slice_index, ◌^◌, ◌==◌, if◌then◌else◌}
 use Rattle.std.proofs.KnownBytes.{Keeps-refl}
 use Rattle.std.proofs.lemmas.List.{get_or-replicate, length-map, length-replicate}
 use Rattle.std.proofs.lemmas.List.Elements.{All-cons, All-nil}
 use Rattle.aho_core.specs.Occurrence.{Occurrence}
+use Rattle.std.specs.Borrow.{Bor}
 use Rattle.aho_cover.specs.Counting.{CountsThese, runs_named}
+use Rattle.aho_cover.specs.Pieces.{PieceRule}
 use Rattle.aho_devices.specs.declared.device.Sink.{Ghosts as SinkGhosts}
 use Rattle.tool_parts.specs.Telling.{Tells, TellsBytes}
 use Rattle.tool_parts.specs.declared.errors.Errors.{Errors}
 use Rattle.secret_rules.specs.declared.error.LineError.{LineError}
 use Rattle.secret_rules.specs.declared.rule.Rule.{Rule}
-use Rattle.acredact.specs.Arguments.{Given, counts_asked}
+use Rattle.acredact.specs.Arguments.{Given, counts_asked, has}
 use Rattle.acredact.specs.Calls.{Call, IsUnreadLine, names_asked, pieces_asked, reading_by, text_asked}
 use Rattle.acredact.specs.Doubts.{TellsDoubts, all_doubt_lines, last_of}
 use Rattle.acredact.specs.Failures.{IsFailureLine}
 use Rattle.acredact.specs.LineRules.{most_asked}
 use Rattle.acredact.specs.RuleLines.{IsRuledLine, too_long_line}
+use Rattle.acredact.specs.Loading.{key_lent}
 use Rattle.acredact.specs.LongLines.{long_told, whole_number}
 use Rattle.acredact.specs.RunCounts.{CountsAllRuns, IsRunsLine, TellsAnyTotals, TellsRunCounts, TellsRunTotals, run_totals_text}
-use Rattle.acredact.specs.Ruled.{AreRuledLoaded, CountsByRules, DoubtedRuled, IsRuledNotice, IsRuledTold, LinedFiles, NotesByRules, NumbersOf, RuledCall, RuledLoad, RuledOutcome, RuledStatus, TellsRuled, own_text, ruled_by, ruling_by, texts_asked}
+use Rattle.acredact.specs.Ruled.{AreRuledLoaded, CountsByRules, IsRuledNotice, IsRuledTold, LinedFiles, NotesByRules, NumbersOf, RuledCall, RuledLoad, RuledOutcome, RuledStatus, RuledWork, own_text, patterns_by_case, rule_asked, ruled_by, ruled_load, ruling_as, ruling_by, texts_asked}
 use Rattle.acredact.specs.Summaries.{no_volume}
-use Rattle.acredact.specs.Tables.{Secret, piece_by}
+use Rattle.acredact.specs.Tables.{Secret, patterns_in, piece_by, secret_of, secrets_of}
 use Rattle.acredact.specs.Totals.{AreTotals}
 use Rattle.acredact.specs.Volumes.{ReadsVolume}
 use Rattle.acredact.specs.declared.failure.Failure.{Failure}
+use Rattle.acredact.specs.declared.arguments.Word.TheVariants.{AsWord}
+use Rattle.acredact.specs.declared.patterns.Rule.{Rule as PatternRule}
 use Rattle.acredact.specs.declared.ruled_failure.RuledFailure.{RuledFailure}
 use Rattle.acredact.specs.declared.ruled_failure.RuledFailure.TheVariants.{Plain}
 use Rattle.acredact.specs.declared.summary.Volume.{Volume}
 use Rattle.acredact.proofs.Calls.{tells_last, tells_same}
 use Rattle.acredact.proofs.LongLines.{long_of_runs}
 use Rattle.acredact.proofs.PlacedCalls.{tells_weaker}
-use Rattle.acredact.proofs.RuledFiles.{all_then, none_begun, some_then, some_weaker, then_some}
-use Rattle.acredact.proofs.Statuses.{tells_one}
-use Rattle.acredact.proofs.Warned.{all_members}
+use Rattle.acredact.proofs.RuledFiles.{none_begun, some_then, some_weaker}
+use Rattle.acredact.proofs.Warned.{all_members, some_behind, tells_both}
 
 abbrev done_as : Bool → Result Bool RuledFailure
 done_as all = Ok all
@@ -45,11 +49,6 @@ ok_is a b same = let is = same in cc
 answers_all : (all done : Bool) (result : Result Bool RuledFailure) → IfOk result (λ done. done ≡ all) → result ≡ Ok done → all ≡ done
 answers_all all done (Ok other) same is = sym same ∙ ok_is other done is
 answers_all all done (Err failure) same is = absurd (cc)
-
--- why it ended early
-pub failed_as : (result : Result Bool RuledFailure) (failure : RuledFailure) → IsErr result → IsErrAnd result (λ other. other ≡ failure) → result ≡ Err failure
-failed_as (Ok all) failure is and = absurd (cc)
-failed_as (Err other) failure is and = ap Err and
 
 on_all : {P : Type 0} (done : Bool) (result : Result Bool RuledFailure) → OnOk result P → result ≡ Ok done → P
 on_all done (Ok other) holds is = holds
@@ -106,85 +105,76 @@ any_totals : {E : Type 0} (K : SinkGhosts E) (given : List Given) (load : RuledL
 any_totals K given load runs counts volume errors errors' totals true whole = record { counts = counts; totals = totals; told = whole }
 any_totals K given load runs counts volume errors errors' totals false same = same
 
+-- what is done by such parts is what was asked for
+pub ruling_same : (given : List Given) (secrets : List PatternRule) (rules : List Rule) (key : Option (Bor (List ℕ))) (words : Bool) (most : ℕ) (texts : List (List ℕ)) (rule : PieceRule)
+    → words ≡ has AsWord given → most ≡ most_asked given → texts ≡ texts_asked given (ruled_load secrets rules key) → rule ≡ rule_asked given texts (key_lent key) (length secrets)
+    → ruling_as words rules most rule (patterns_by_case given (patterns_in (secrets_of secrets))) ≡ ruling_by given (ruled_load secrets rules key)
+ruling_same given secrets rules key words most texts rule is_words is_most are is_rule =
+    let p = patterns_by_case given (patterns_in (secrets_of secrets)) in
+    let asked : rule ≡ rule_asked given (texts_asked given (ruled_load secrets rules key)) (key_lent key) (length (secrets_of secrets)) =
+    is_rule
+    ∙ ap (λ (l : List (List ℕ)). rule_asked given l (key_lent key) (length secrets)) are
+    ∙ ap (λ (n : ℕ). rule_asked given (texts_asked given (ruled_load secrets rules key)) (key_lent key) n) (sym (length-map secrets secret_of)) in
+    ap (λ (w : Bool). ruling_as w rules most rule p) is_words
+    ∙ ap (λ (m : ℕ). ruling_as (has AsWord given) rules m rule p) is_most
+    ∙ ap (λ (r : PieceRule). ruling_as (has AsWord given) rules (most_asked given) r p) asked
+
+module _ {E : Type 0} (K : SinkGhosts E) (result : Result Bool LineError) (counts counts' : List ℕ) (left left' held held' : Option (List ℕ)) (errors errors' : Errors E) where
+  -- and so is what comes of it
+  pub files_same : (work work' : RuledWork) (names names' : List (List ℕ)) → work ≡ work' → names ≡ names' → LinedFiles K work names result counts counts' left left' held held' errors errors'
+      → LinedFiles K work' names' result counts counts' left left' held held' errors errors'
+  files_same work work' names names' same alike files =
+      subst (λ (l : List (List ℕ)). LinedFiles K work' l result counts counts' left left' held held' errors errors') alike
+      (subst (λ (w : RuledWork). LinedFiles K w names result counts counts' left left' held held' errors errors') same files)
+
 module _ {E : Type 0} (K : SinkGhosts E) (call : Call) where
-  -- the arguments were refused, or there was no memory to read them
-  pub ruled_refused : (left held : Option (List ℕ)) (failure : Failure) (errors errors' : Errors E) (line : List ℕ) → IsFailureLine failure line → TellsBytes K errors errors' line
-      → RuledStatus K call 2 left left held held errors errors'
-  ruled_refused left held failure errors errors' line is told = record {
-    redacts = λ (none : 2 ≡ 0). absurd (omega (arith, none));
-    begins = inl (Keeps-refl held);
-    tells = λ two. tells_one K (IsRuledTold call) errors errors' line (inr (inl (Plain failure, is))) told;
-    notes = λ (none : 2 ≡ 0). absurd (omega (arith, none));
-  }
-
-  -- nothing is told of a call that ends early, but why it does
-  tells_nothing : (failure : RuledFailure) (errors : Errors E) → TellsRuled K call (Err failure) errors errors
-  tells_nothing failure errors = record {
-    told = tells_same K (IsRuledTold call) errors errors refl;
-    partly = λ (is : Err failure ≡ Ok false). absurd (cc);
-  }
-
-  -- it ended before anything was loaded
-  pub ruled_early : (failure : RuledFailure) (left left' held : Option (List ℕ)) (errors : Errors E) → RuledCall K call (Err failure) left left' held held errors errors
-  ruled_early failure left left' held errors = record {
+  -- it ended before a file was read
+  pub ruled_early : (failure : RuledFailure) (left left' held : Option (List ℕ)) (errors errors' : Errors E) → Tells K (IsRuledTold call) errors errors' → RuledCall K call (Err failure) left left' held held errors errors'
+  ruled_early failure left left' held errors errors' told = record {
     whole = λ (is : Err failure ≡ Ok true). absurd (cc);
     begun = inl (Keeps-refl held);
-    tells = tells_nothing failure errors;
+    tells = record { told = told; partly = λ (is : Err failure ≡ Ok false). absurd (cc) };
     notes = λ (is : Err failure ≡ Ok true). absurd (cc);
   }
 
-  -- or before a file was read
-  pub ruled_none : (load : RuledLoad) (failure : RuledFailure) (left held : Option (List ℕ)) (errors : Errors E) → RuledOutcome K call load (Err failure) left left held held errors errors
-  ruled_none load failure left held errors = record {
+  -- the same of what was loaded
+  pub ruled_none : (load : RuledLoad) (result : Result Bool RuledFailure) (left held : Option (List ℕ)) (errors : Errors E) → IsErr result → RuledOutcome K call load result left left held held errors errors
+  ruled_none load (Ok all) left held errors is = absurd (cc)
+  ruled_none load (Err failure) left held errors is = record {
     whole = λ (is : Err failure ≡ Ok true). absurd (cc);
     begun = none_begun (ruled_by call load) (names_asked call.given) left held;
-    tells = tells_nothing failure errors;
+    tells = record { told = tells_same K (IsRuledTold call) errors errors refl; partly = λ (is : Err failure ≡ Ok false). absurd (cc) };
     notes = λ (is : Err failure ≡ Ok true). absurd (cc);
-  }
-
-  -- before doubtful patterns were told
-  pub doubted_none : (load : RuledLoad) (failure : RuledFailure) (left held : Option (List ℕ)) (errors : Errors E) → DoubtedRuled K call load (Err failure) left left held held errors errors
-  doubted_none load failure left held errors = record {
-    whole = λ (is : Err failure ≡ Ok true). absurd (cc);
-    begun = none_begun (ruled_by call load) (names_asked call.given) left held;
-    tells = tells_nothing failure errors;
-    notes = λ (is : Err failure ≡ Ok true). absurd (cc);
-  }
-
-  -- what was loaded decides what comes of the call
-  pub call_loaded : (load : RuledLoad) (result : Result Bool RuledFailure) (left between left' held held' : Option (List ℕ)) (errors errors' : Errors E)
-      → AreRuledLoaded (reading_by call) call.given load left between → DoubtedRuled K call load result between left' held held' errors errors' → RuledCall K call result left left' held held' errors errors'
-  call_loaded load result left between left' held held' errors errors' loaded of = record {
-    whole = λ is. record { load = load; between = between; loaded = loaded; redacted = of.whole is };
-    begun = inr (record { load = load; between = between; loaded = loaded; begun = of.begun });
-    tells = of.tells;
-    notes = λ is. record { load = load; between = between; loaded = loaded; notes = of.notes is };
   }
 
   -- doubtful patterns of lists may be told
-  pub doubts_told : (secrets : List Secret) (errors errors' : Errors E) → TellsDoubts K false call.given secrets errors errors' → Tells K (IsRuledNotice call) errors errors'
+  doubts_told : (secrets : List Secret) (errors errors' : Errors E) → TellsDoubts K false call.given secrets errors errors' → Tells K (IsRuledNotice call) errors errors'
   doubts_told secrets errors errors' told = record {
     told = all_doubt_lines call.given secrets;
     are_lines = all_members (IsRuledNotice call) (all_doubt_lines call.given secrets) (λ line is. inl (secrets, is));
     written = told;
   }
 
-  pub notice_told : (line : List ℕ) → IsRuledNotice call line → IsRuledTold call line
+  notice_told : (line : List ℕ) → IsRuledNotice call line → IsRuledTold call line
   notice_told line is = inr (inr is)
 
-  -- behind what is told of them
-  pub ruled_behind : (load : RuledLoad) (result : Result Bool RuledFailure) (left left' held held' : Option (List ℕ)) (errors meanwhile errors' : Errors E) → TellsDoubts K false call.given load.secrets errors meanwhile
-      → RuledOutcome K call load result left left' held held' meanwhile errors' → DoubtedRuled K call load result left left' held held' errors errors'
-  ruled_behind load result left left' held held' errors meanwhile errors' doubted of =
-      let before = tells_weaker K (IsRuledNotice call) (IsRuledTold call) errors meanwhile notice_told (doubts_told load.secrets errors meanwhile doubted) in
+  pub all_doubts_told : (secrets : List Secret) (errors errors' : Errors E) → TellsDoubts K false call.given secrets errors errors' → Tells K (IsRuledTold call) errors errors'
+  all_doubts_told secrets errors errors' told = tells_weaker K (IsRuledNotice call) (IsRuledTold call) errors errors' notice_told (doubts_told secrets errors errors' told)
+
+  -- behind what is told of them what was loaded decides what comes of the call
+  pub ruled_behind : (load : RuledLoad) (result : Result Bool RuledFailure) (left between left' held held' : Option (List ℕ)) (errors meanwhile errors' : Errors E)
+      → AreRuledLoaded (reading_by call) call.given load left between → TellsDoubts K false call.given load.secrets errors meanwhile
+      → RuledOutcome K call load result between left' held held' meanwhile errors' → RuledCall K call result left left' held held' errors errors'
+  ruled_behind load result left between left' held held' errors meanwhile errors' loaded doubted of =
+      let before = all_doubts_told load.secrets errors meanwhile doubted in
       record {
-        whole = of.whole;
-        begun = of.begun;
+        whole = λ is. record { load = load; between = between; loaded = loaded; redacted = of.whole is };
+        begun = inr (record { load = load; between = between; loaded = loaded; begun = of.begun });
         tells = record {
-          told = all_then K (IsRuledTold call) errors meanwhile errors' before of.tells.told;
-          partly = λ is. then_some K (IsRuledTold call) errors meanwhile errors' before (of.tells.partly is);
+          told = tells_both K (IsRuledTold call) errors meanwhile errors' before of.tells.told;
+          partly = λ is. some_behind K (IsRuledTold call) errors meanwhile errors' before (of.tells.partly is);
         };
-        notes = λ is. record { meanwhile = meanwhile; doubted = doubted; numbers = of.notes is };
+        notes = λ is. record { load = load; between = between; loaded = loaded; notes = record { meanwhile = meanwhile; doubted = doubted; numbers = of.notes is } };
       }
 
   -- how many lines were too long may be told
@@ -215,10 +205,10 @@ module _ {E : Type 0} (K : SinkGhosts E) (call : Call) where
   notes_told left left' errors errors' of =
       let notes = of.notes in
       let numbers = notes.numbers in
-      let doubts = tells_weaker K (IsRuledNotice call) (IsRuledTold call) errors notes.meanwhile notice_told (doubts_told of.load.secrets errors notes.meanwhile notes.doubted) in
+      let doubts = all_doubts_told of.load.secrets errors notes.meanwhile notes.doubted in
       let long = long_lines (min numbers.long.count (2 ^ 64 - 1)) notes.meanwhile numbers.meanwhile numbers.long.told in
       let counts = totals_lines of.load.secrets of.load.rules numbers.runs numbers.volume numbers.meanwhile errors' numbers.counted in
-      all_then K (IsRuledTold call) errors notes.meanwhile errors' doubts (all_then K (IsRuledTold call) notes.meanwhile numbers.meanwhile errors' long counts)
+      tells_both K (IsRuledTold call) errors notes.meanwhile errors' doubts (tells_both K (IsRuledTold call) notes.meanwhile numbers.meanwhile errors' long counts)
 
   -- and the counts, where they are asked for
   pub counts_by_rules : (left left' : Option (List ℕ)) (errors errors' : Errors E) → counts_asked call.given ≡ true → NotesByRules K call left left' errors errors' → CountsByRules K call left left' errors'
@@ -266,12 +256,12 @@ module _ {E : Type 0} (K : SinkGhosts E) (call : Call) where
       → Tells K (IsRunsLine call.given) second errors' → RuledOutcome K call load result left left' held held' errors errors'
   files_done load all result size zeros counts' volume left left' held held' errors first second errors' files are sized read long same told lines =
       let unread = λ (line : List ℕ) (is : IsUnreadLine (names_asked call.given) line). inl is in
-      let later = all_then K (IsRuledTold call) first second errors' (long_lines (last_of counts') first second long) (counts_lines second errors' lines) in
+      let later = tells_both K (IsRuledTold call) first second errors' (long_lines (last_of counts') first second long) (counts_lines second errors' lines) in
       record {
         whole = λ is. files.whole (ap Ok (answers_all all true result same is));
         begun = files.begun;
         tells = record {
-          told = all_then K (IsRuledTold call) errors first errors' (tells_weaker K (IsUnreadLine (names_asked call.given)) (IsRuledTold call) errors first unread files.told) later;
+          told = tells_both K (IsRuledTold call) errors first errors' (tells_weaker K (IsUnreadLine (names_asked call.given)) (IsRuledTold call) errors first unread files.told) later;
           partly = λ is. some_then K (IsRuledTold call) errors first errors'
               (some_weaker K (IsUnreadLine (names_asked call.given)) (IsRuledTold call) errors first unread (files.partly (ap Ok (answers_all all false result same is)))) later;
         };
@@ -322,3 +312,9 @@ module _ {E : Type 0} (K : SinkGhosts E) (call : Call) where
     tells = λ two. tells_last K (IsRuledTold call) errors meanwhile errors' line of.tells.told (inr (inl (failure, is))) told;
     notes = λ (none : 2 ≡ 0). absurd (omega (arith, none));
   }
+
+  -- the arguments were refused, or there was no memory to read them
+  pub ruled_refused : (left held : Option (List ℕ)) (failure : Failure) (errors errors' : Errors E) (line : List ℕ) → IsFailureLine failure line → TellsBytes K errors errors' line
+      → RuledStatus K call 2 left left held held errors errors'
+  ruled_refused left held failure errors errors' line is told =
+      ruled_failed (Plain failure) line left left held held errors errors errors' (ruled_early (Plain failure) left left held errors errors (tells_same K (IsRuledTold call) errors errors refl)) is told

@@ -1,13 +1,13 @@
 -- What comes of a check by rules, from what is seen of its files up to its status.
 use Rattle.std.proofs.Common.{◌≡◌, inl, inr, ℕ, List, Option, true, false, refl, sym, ap, subst, ◌∙◌, arith}
-use Rattle.std.specs.Prelude.{Bool, ◌<◌, ◌≤◌, Result, Ok, Err}
+use Rattle.std.specs.Prelude.{Bool, ◌<◌, ◌≤◌, Result, Ok, Err, IsErr}
 use Rattle.std.specs.Io.KnownBytes.{Keeps}
 use Rattle.std.specs.declared.io.traits.Write.{Ghosts as Writers}
 use Rattle.std.proofs.KnownBytes.{Keeps-refl}
 use Rattle.aho_devices.specs.declared.adapters.FromWrite.{FromWrite}
 use Rattle.aho_devices.specs.declared.device.Sink.{Ghosts as SinkGhosts}
 use Rattle.tool_parts.specs.Streams.{output_bytes}
-use Rattle.tool_parts.specs.Telling.{Tells, TellsBytes, TellsSome}
+use Rattle.tool_parts.specs.Telling.{Tells, TellsBytes}
 use Rattle.tool_parts.specs.declared.errors.Errors.{Errors}
 use Rattle.secret_rules.specs.Covering.{covering_by}
 use Rattle.secret_rules.specs.declared.error.LineError.{LineError}
@@ -18,8 +18,8 @@ use Rattle.acredact.specs.Doubts.{TellsDoubts}
 use Rattle.acredact.specs.Failures.{IsFailureLine}
 use Rattle.acredact.specs.RuleLines.{IsRuledLine}
 use Rattle.acredact.specs.LineRules.{most_asked}
-use Rattle.acredact.specs.Ruled.{AreRulesGiven, IsRuledNotice, IsRuledTold, patterns_by_case}
-use Rattle.acredact.specs.RuledChecks.{CheckLoad, CheckedLines, DoubtedCheck, LineQuest, RuledCheck, RuledCheckStatus, SeenFiles, TellsRuledCheck, line_quest_by}
+use Rattle.acredact.specs.Ruled.{AreRulesGiven, IsRuledTold, patterns_by_case}
+use Rattle.acredact.specs.RuledChecks.{BeginsLoadedCheck, BeginsRuledCheck, CheckLoad, CheckedLines, LineQuest, RuledCheck, RuledCheckStatus, SeenFiles, TellsRuledCheck, line_quest_by}
 use Rattle.acredact.specs.Statuses.{check_status}
 use Rattle.acredact.specs.Tables.{patterns_in}
 use Rattle.acredact.specs.declared.arguments.Word.TheVariants.{AsWord, Summary}
@@ -29,9 +29,9 @@ use Rattle.acredact.specs.declared.ruled_failure.RuledFailure.{RuledFailure}
 use Rattle.acredact.specs.declared.ruled_failure.RuledFailure.TheVariants.{Plain}
 use Rattle.acredact.proofs.Calls.{tells_last, tells_same}
 use Rattle.acredact.proofs.PlacedCalls.{tells_weaker}
-use Rattle.acredact.proofs.RuledCalls.{doubts_told, notice_told}
-use Rattle.acredact.proofs.RuledFiles.{all_then, some_weaker, then_some}
-use Rattle.acredact.proofs.Statuses.{tells_one}
+use Rattle.acredact.proofs.RuledCalls.{all_doubts_told}
+use Rattle.acredact.proofs.RuledFiles.{some_weaker}
+use Rattle.acredact.proofs.Warned.{some_behind, tells_both}
 
 -- what is looked for by such parts is that of the call
 abbrev pub quest_as : Call → CheckLoad → Bool → List Rule → ℕ → List (List ℕ) → LineQuest
@@ -49,6 +49,13 @@ quest_same call load words told most texts is_words is_told is_most is_texts =
     ∙ ap (λ (m : ℕ). quest_as call load (has AsWord call.given) load.rules m texts) is_most
     ∙ ap (λ (l : List (List ℕ)). quest_as call load (has AsWord call.given) load.rules (most_asked call.given) l) is_texts
 
+module _ {E : Type 0} (K : SinkGhosts E) (result : Result Verdict LineError) (left left' held held' : Option (List ℕ)) (errors errors' : Errors E) where
+  -- and so is what is seen
+  pub seen_same : (quest quest' : LineQuest) (names names' : List (List ℕ)) → quest ≡ quest' → names ≡ names' → SeenFiles K quest names result left left' held held' errors errors' → SeenFiles K quest' names' result left left' held held' errors errors'
+  seen_same quest quest' names names' same alike files =
+      subst (λ (l : List (List ℕ)). SeenFiles K quest' l result left left' held held' errors errors') alike
+      (subst (λ (q : LineQuest). SeenFiles K q names result left left' held held' errors errors') same files)
+
 -- the same output holds the same
 pub same_kept : {W : Type 0} (Writes : Writers W) (output output' : FromWrite W) → output' ≡ output → Keeps (output_bytes Writes output) (output_bytes Writes output')
 same_kept Writes output output' same = subst (λ (o : FromWrite _). Keeps (output_bytes Writes output) (output_bytes Writes o)) (sym same) (Keeps-refl (output_bytes Writes output))
@@ -60,33 +67,14 @@ check_within false true status is = omega (arith, is)
 check_within found false status is = omega (arith, is)
 
 module _ {E : Type 0} (K : SinkGhosts E) (call : Call) where
-  -- the arguments were refused, or there was no memory to read them
-  pub check_by_rules_refused : (left held : Option (List ℕ)) (failure : Failure) (errors errors' : Errors E) (line : List ℕ) → IsFailureLine failure line → TellsBytes K errors errors' line
-      → RuledCheckStatus K call 2 left left held held errors errors'
-  check_by_rules_refused left held failure errors errors' line is told = record {
-    unmatched = λ (none : 2 ≡ 0). absurd (omega (arith, none));
-    matched = λ (none : 2 ≡ 1). absurd (omega (arith, none));
-    begins = inl (Keeps-refl held);
-    tells = λ two. tells_one K (IsRuledTold call) errors errors' line (inr (inl (Plain failure, is))) told;
-    quiet = λ (less : 2 < 2). absurd (omega (arith, less));
-    bound = omega arith;
-  }
+  -- it ended before a file was read
+  pub check_early : (failure : RuledFailure) (left left' held : Option (List ℕ)) (errors errors' : Errors E) → Tells K (IsRuledTold call) errors errors' → RuledCheck K call (Err failure) left left' held held errors errors'
+  check_early failure left left' held errors errors' told = record { whole = tt; begun = inl (Keeps-refl held); tells = record { told = told; partly = tt }; quiet = tt }
 
-  -- nothing is told of a check that ends early, but why it does
-  check_silent : (failure : RuledFailure) (errors : Errors E) → TellsRuledCheck K call (Err failure) errors errors
-  check_silent failure errors = record { told = tells_same K (IsRuledTold call) errors errors refl; partly = tt }
-
-  -- it ended before anything was loaded
-  pub check_early : (failure : RuledFailure) (left left' held : Option (List ℕ)) (errors : Errors E) → RuledCheck K call (Err failure) left left' held held errors errors
-  check_early failure left left' held errors = record { whole = tt; begun = inl (Keeps-refl held); tells = check_silent failure errors; quiet = tt }
-
-  -- before a file was read
-  pub check_none : (load : CheckLoad) (failure : RuledFailure) (left held : Option (List ℕ)) (errors : Errors E) → CheckedLines K call load (Err failure) left left held held errors errors
-  check_none load failure left held errors = record { whole = tt; begun = inl (Keeps-refl held); tells = check_silent failure errors; quiet = tt }
-
-  -- or before doubtful patterns were told
-  pub check_undoubted : (load : CheckLoad) (failure : RuledFailure) (left held : Option (List ℕ)) (errors : Errors E) → DoubtedCheck K call load (Err failure) left left held held errors errors
-  check_undoubted load failure left held errors = record { whole = tt; begun = inl (Keeps-refl held); tells = check_silent failure errors; quiet = tt }
+  -- the same of what was loaded
+  pub check_none : (load : CheckLoad) (result : Result Verdict RuledFailure) (left held : Option (List ℕ)) (errors : Errors E) → IsErr result → CheckedLines K call load result left left held held errors errors
+  check_none load (Ok verdict) left held errors is = absurd (cc)
+  check_none load (Err failure) left held errors is = record { whole = tt; begun = inl (Keeps-refl held); tells = record { told = tells_same K (IsRuledTold call) errors errors refl; partly = tt }; quiet = tt }
 
   unread : (line : List ℕ) → IsUnreadLine (names_asked call.given) line → IsRuledTold call line
   unread line is = inl is
@@ -145,37 +133,20 @@ module _ {E : Type 0} (K : SinkGhosts E) (call : Call) where
           record { whole = tt; begun = inr mine.begun; tells = tells; quiet = tt }
       by false is = record { whole = tt; begun = inl (untold is); tells = tells; quiet = tt }
 
-  -- behind what is told of doubtful patterns
-  pub check_behind : (load : CheckLoad) (result : Result Verdict RuledFailure) (left left' held held' : Option (List ℕ)) (errors meanwhile errors' : Errors E) → TellsDoubts K false call.given load.secrets errors meanwhile
-      → CheckedLines K call load result left left' held held' meanwhile errors' → DoubtedCheck K call load result left left' held held' errors errors'
-  check_behind load result left left' held held' errors meanwhile errors' doubted of = by result of
+  -- behind what is told of doubtful patterns what was loaded decides what comes of the call
+  pub check_behind : (load : CheckLoad) (result : Result Verdict RuledFailure) (left between left' held held' : Option (List ℕ)) (errors meanwhile errors' : Errors E)
+      → AreRulesGiven (reading_by call) call.given load.secrets load.rules left between → TellsDoubts K false call.given load.secrets errors meanwhile
+      → CheckedLines K call load result between left' held held' meanwhile errors' → RuledCheck K call result left left' held held' errors errors'
+  check_behind load result left between left' held held' errors meanwhile errors' loaded doubted of = by result of
     where
       before : Tells K (IsRuledTold call) errors meanwhile
-      before = tells_weaker K (IsRuledNotice call) (IsRuledTold call) errors meanwhile (notice_told K call) (doubts_told K call load.secrets errors meanwhile doubted)
+      before = all_doubts_told K call load.secrets errors meanwhile doubted
 
-      by : (result : Result Verdict RuledFailure) → CheckedLines K call load result left left' held held' meanwhile errors' → DoubtedCheck K call load result left left' held held' errors errors'
-      by (Ok verdict) of = record {
-        whole = of.whole;
-        begun = of.begun;
-        tells = record {
-          told = all_then K (IsRuledTold call) errors meanwhile errors' before of.tells.told;
-          partly = λ none. then_some K (IsRuledTold call) errors meanwhile errors' before (of.tells.partly none);
-        };
-        quiet = λ all. subst (TellsDoubts K false call.given load.secrets errors) (sym (of.quiet all)) doubted;
-      }
-      by (Err failure) of = record {
-        whole = tt;
-        begun = of.begun;
-        tells = record { told = all_then K (IsRuledTold call) errors meanwhile errors' before of.tells.told; partly = tt };
-        quiet = tt;
-      }
+      begun : BeginsLoadedCheck call between left' held held' load → BeginsRuledCheck call left left' held held'
+      begun (inl none) = inl none
+      begun (inr begins) = inr (record { load = load; between = between; loaded = loaded; begun = begins })
 
-  -- what was loaded decides what comes of the call
-  pub check_loaded : (load : CheckLoad) (result : Result Verdict RuledFailure) (left between left' held held' : Option (List ℕ)) (errors errors' : Errors E)
-      → AreRulesGiven (reading_by call) call.given load.secrets load.rules left between → DoubtedCheck K call load result between left' held held' errors errors' → RuledCheck K call result left left' held held' errors errors'
-  check_loaded load result left between left' held held' errors errors' loaded of = by result of
-    where
-      by : (result : Result Verdict RuledFailure) → DoubtedCheck K call load result between left' held held' errors errors' → RuledCheck K call result left left' held held' errors errors'
+      by : (result : Result Verdict RuledFailure) → CheckedLines K call load result between left' held held' meanwhile errors' → RuledCheck K call result left left' held held' errors errors'
       by (Ok verdict) of = record {
         whole = λ all. let sees = of.whole all in record {
           load = load;
@@ -186,20 +157,17 @@ module _ {E : Type 0} (K : SinkGhosts E) (call : Call) where
           found_is = sees.found_is;
           told = sees.told;
         };
-        begun = elim of.begun [
-          | inl none ↦ inl none
-          | inr begun ↦ inr (record { load = load; between = between; loaded = loaded; begun = begun })
-        ];
-        tells = of.tells;
-        quiet = λ all. record { load = load; between = between; loaded = loaded; doubts = of.quiet all };
+        begun = begun of.begun;
+        tells = record {
+          told = tells_both K (IsRuledTold call) errors meanwhile errors' before of.tells.told;
+          partly = λ none. some_behind K (IsRuledTold call) errors meanwhile errors' before (of.tells.partly none);
+        };
+        quiet = λ all. record { load = load; between = between; loaded = loaded; doubts = subst (TellsDoubts K false call.given load.secrets errors) (sym (of.quiet all)) doubted };
       }
       by (Err failure) of = record {
         whole = tt;
-        begun = elim of.begun [
-          | inl none ↦ inl none
-          | inr begun ↦ inr (record { load = load; between = between; loaded = loaded; begun = begun })
-        ];
-        tells = of.tells;
+        begun = begun of.begun;
+        tells = record { told = tells_both K (IsRuledTold call) errors meanwhile errors' before of.tells.told; partly = tt };
         quiet = tt;
       }
 
@@ -242,3 +210,9 @@ module _ {E : Type 0} (K : SinkGhosts E) (call : Call) where
     quiet = λ (less : 2 < 2). absurd (omega (arith, less));
     bound = omega arith;
   }
+
+  -- the arguments were refused, or there was no memory to read them
+  pub check_by_rules_refused : (left held : Option (List ℕ)) (failure : Failure) (errors errors' : Errors E) (line : List ℕ) → IsFailureLine failure line → TellsBytes K errors errors' line
+      → RuledCheckStatus K call 2 left left held held errors errors'
+  check_by_rules_refused left held failure errors errors' line is told =
+      check_failed (Plain failure) line left left held held errors errors errors' (check_early (Plain failure) left left held errors errors (tells_same K (IsRuledTold call) errors errors refl)) is told

@@ -2,9 +2,8 @@
 use Rattle.std.proofs.Common.{◌≡◌, inl, inr, ℕ, List, [], ◌∷◌, ◌++◌, Option, true, false, refl, sym, ap, subst, ◌∙◌, append-nil, append_assoc}
 use Rattle.std.specs.Prelude.{Bool, ◌&&◌, None, Some, Result, Ok, Err}
 use Rattle.std.specs.Io.KnownBytes.{Keeps}
-use Rattle.std.specs.List.{All, concat}
-use Rattle.std.proofs.KnownBytes.{Keeps-refl, Keeps-trans}
-use Rattle.std.proofs.lemmas.List.Elements.{All-append, All-cons, All-head, All-tail, All-weaker}
+use Rattle.std.proofs.KnownBytes.{Keeps-refl}
+use Rattle.std.proofs.lemmas.List.Elements.{All-append, All-cons, All-weaker}
 use Rattle.aho_core.specs.Occurrence.{Occurrence}
 use Rattle.aho_cover.specs.Counting.{CountsThese}
 use Rattle.aho_cover.proofs.Counted.{counts_none, counts_then}
@@ -18,13 +17,14 @@ use Rattle.secret_rules.specs.declared.error.LineError.{LineError}
 use Rattle.acredact.specs.Calls.{IsUnreadLine}
 use Rattle.acredact.specs.Files.{unread_line}
 use Rattle.acredact.specs.Messages.{output_line}
-use Rattle.acredact.specs.Ruled.{AreBegun, AreRuled, LinedFile, LinedFiles, LinesOutcome, NamedOutcome, RedactsLines, RuledWork, WritesLines, WritesRuled}
+use Rattle.acredact.specs.Ruled.{AreBegun, AreRuled, BeginsLinesRedaction, LinedFile, LinedFiles, LinesOutcome, NamedOutcome, RedactsLines, RedactsRuled, RuledWork, WritesLines, WritesRuled}
 use Rattle.acredact.specs.RunCounts.{CountsAllRuns, CountsFileRuns, HasRuns, HaveRuns}
 use Rattle.acredact.proofs.Calls.{tells_same}
 use Rattle.acredact.proofs.Done.{both_so, concat_both}
-use Rattle.acredact.proofs.OneFile.{of_folder, of_input}
-use Rattle.acredact.proofs.RuledText.{begun_nothing, known_lines, known_runs, known_writes}
+use Rattle.acredact.proofs.OneFile.{begun_nothing, each_kept, each_none, known_begun, known_text, name_unread, of_folder, of_input}
+use Rattle.acredact.proofs.RuledText.{known_runs}
 use Rattle.acredact.proofs.Statuses.{tells_one}
+use Rattle.acredact.proofs.Warned.{some_behind, tells_both}
 
 -- what comes of the file of a name
 module _ (work : RuledWork) (name : List ℕ) (result : Result (Option Reason) LineError) (counts counts' : List ℕ) (left left' held held' : Option (List ℕ)) where
@@ -39,53 +39,36 @@ module _ (work : RuledWork) (name : List ℕ) (result : Result (Option Reason) L
       → NamedOutcome work name result counts counts' left left' held held'
   named_opened is same given rest kept text = record {
     whole = λ done. of_folder work.holds name (λ l l'. RedactsLines work.ruling l l' held held') left left' is same rest
-        (known_lines work.ruling (work.holds name) given rest held held' kept (text.whole done));
+        (known_text (work.holds name) given rest held held' kept (text.whole done));
     begun = of_folder work.holds name (λ l l'. WritesLines work.ruling l l' held held') left left' is same rest
-        (known_writes work.ruling (work.holds name) given rest held held' kept text.begun);
+        (by text.begun);
     counted = λ done. let counted = text.counted done in (
       counted.0,
       of_folder work.holds name (HasRuns work.ruling.covering counted.0) left left' is same rest (known_runs work.ruling.covering counted.0 (work.holds name) given rest kept counted.1),
       counted.2,
     );
   }
-
-pub named_refused : (work : RuledWork) (name : List ℕ) (reason : Reason) (counts : List ℕ) (left held : Option (List ℕ)) → is_input name ≡ false → NamedOutcome work name (Ok (Some reason)) counts counts left left held held
-named_refused work name reason counts left held is = record {
-  whole = λ (done : Ok (Some reason) ≡ Ok None). absurd (cc);
-  begun = of_folder work.holds name (λ l l'. WritesLines work.ruling l l' held held) left left is refl (work.holds name) (inr (begun_nothing work.ruling (work.holds name) held));
-  counted = λ (done : Ok (Some reason) ≡ Ok None). absurd (cc);
-}
+    where
+      by : WritesLines work.ruling given rest held held' → WritesLines work.ruling (work.holds name) rest held held'
+      by (inl whole) = inl (known_text (work.holds name) given rest held held' kept whole)
+      by (inr begun) = inr (known_begun (work.holds name) given rest held held' kept begun)
 
 -- nothing was written of a file, or of any
 named_nothing : (work : RuledWork) (name : List ℕ) (left held : Option (List ℕ)) → WritesRuled work name left left held held
-named_nothing work name left held = by_test (is_input name) refl
-  where
-    by_test : (b : Bool) → is_input name ≡ b → WritesRuled work name left left held held
-    by_test true is = of_input work.holds name (λ l l'. WritesLines work.ruling l l' held held) left left is (inr (begun_nothing work.ruling left held))
-    by_test false is = of_folder work.holds name (λ l l'. WritesLines work.ruling l l' held held) left left is refl (work.holds name) (inr (begun_nothing work.ruling (work.holds name) held))
+named_nothing work name left held = name_unread work.holds name (λ l l'. WritesLines work.ruling l l' held held) left (λ l. inr (begun_nothing (BeginsLinesRedaction work.ruling) (λ text redaction may is. refl) l held))
+
+pub named_refused : (work : RuledWork) (name : List ℕ) (reason : Reason) (counts : List ℕ) (left held : Option (List ℕ)) → NamedOutcome work name (Ok (Some reason)) counts counts left left held held
+named_refused work name reason counts left held = record {
+  whole = λ (done : Ok (Some reason) ≡ Ok None). absurd (cc);
+  begun = named_nothing work name left held;
+  counted = λ (done : Ok (Some reason) ≡ Ok None). absurd (cc);
+}
 
 pub none_begun : (work : RuledWork) (names : List (List ℕ)) (left held : Option (List ℕ)) → AreBegun work names left left held held
-none_begun work [] left held = (refl, Keeps-refl held)
-none_begun work (name ∷ names) left held = (left, held, named_nothing work name left held, none_begun work names left held)
-
--- a flush keeps what was written
-ruled_kept : (work : RuledWork) (names : List (List ℕ)) (left left' held mid held' : Option (List ℕ)) → AreRuled work names left left' held mid → Keeps mid held' → AreRuled work names left left' held held'
-ruled_kept work [] left left' held mid held' done kept = (done.0, Keeps-trans held mid held' done.1 kept)
-ruled_kept work (name ∷ names) left left' held mid held' (between, meanwhile, is, others) kept = (between, meanwhile, is, ruled_kept work names between left' meanwhile mid held' others kept)
-
-begun_kept : (work : RuledWork) (names : List (List ℕ)) (left left' held mid held' : Option (List ℕ)) → AreBegun work names left left' held mid → Keeps mid held' → AreBegun work names left left' held held'
-begun_kept work [] left left' held mid held' done kept = (done.0, Keeps-trans held mid held' done.1 kept)
-begun_kept work (name ∷ names) left left' held mid held' (between, meanwhile, is, others) kept = (between, meanwhile, is, begun_kept work names between left' meanwhile mid held' others kept)
+none_begun work = each_none (WritesRuled work) (named_nothing work)
 
 -- lines that are told
 module _ {E : Type 0} (K : SinkGhosts E) (IsLine : List ℕ → Type 0) (old mid new : Errors E) where
-  pub all_then : Tells K IsLine old mid → Tells K IsLine mid new → Tells K IsLine old new
-  all_then first later = record {
-    told = first.told ++ later.told;
-    are_lines = All-append IsLine first.told later.told first.are_lines later.are_lines;
-    written = subst (TellsBytes K old new) (sym (concat_both first.told later.told)) (tells-later K first.written later.written);
-  }
-
   pub some_then : TellsSome K IsLine old mid → Tells K IsLine mid new → TellsSome K IsLine old new
   some_then some later = record {
     first = some.first;
@@ -94,19 +77,6 @@ module _ {E : Type 0} (K : SinkGhosts E) (IsLine : List ℕ → Type 0) (old mid
     are_lines = All-append IsLine some.more later.told some.are_lines later.are_lines;
     written = subst (TellsBytes K old new) (sym (concat_both (some.first ∷ some.more) later.told)) (tells-later K some.written later.written);
   }
-
-  pub then_some : Tells K IsLine old mid → TellsSome K IsLine mid new → TellsSome K IsLine old new
-  then_some before some = by before.told before.are_lines before.written
-    where
-      by : (lines : List (List ℕ)) → All IsLine lines → TellsBytes K old mid (concat lines) → TellsSome K IsLine old new
-      by [] are written = record { first = some.first; is_line = some.is_line; more = some.more; are_lines = some.are_lines; written = tells-later K written some.written }
-      by (line ∷ lines) are written = record {
-        first = line;
-        is_line = All-head IsLine line lines are;
-        more = lines ++ some.first ∷ some.more;
-        are_lines = All-append IsLine lines (some.first ∷ some.more) (All-tail IsLine line lines are) (All-cons IsLine some.first some.more some.is_line some.are_lines);
-        written = subst (TellsBytes K old new) (sym (concat_both (line ∷ lines) (some.first ∷ some.more))) (tells-later K written some.written);
-      }
 
 module _ {E : Type 0} (K : SinkGhosts E) (Less More : List ℕ → Type 0) (old new : Errors E) (weaker : (line : List ℕ) → Less line → More line) where
   pub some_weaker : TellsSome K Less old new → TellsSome K More old new
@@ -234,56 +204,61 @@ module _ {E : Type 0} (K : SinkGhosts E) (work : RuledWork) (names : List (List 
   both_not false second both is so one two = one refl
 
   -- behind one more
-  pub lined_next : (rest : List (List ℕ)) (name : List ℕ) (all whole both : Bool) (counts some counts' : List ℕ) (left mid left' held half held' : Option (List ℕ)) (errors meanwhile errors' : Errors E)
-      → LinedSoFar (name ∷ rest) all counts some left mid held half errors meanwhile → LinedFile K work name (Ok whole) some counts' mid left' half held' meanwhile errors' → both ≡ all && whole
+  pub lined_next : (behind rest : List (List ℕ)) (name : List ℕ) (all whole both : Bool) (counts some counts' : List ℕ) (left mid left' held half held' : Option (List ℕ)) (errors meanwhile errors' : Errors E)
+      → LinedSoFar behind all counts some left mid held half errors meanwhile → behind ≡ name ∷ rest → LinedFile K work name (Ok whole) some counts' mid left' half held' meanwhile errors' → both ≡ all && whole
       → LinedSoFar rest both counts counts' left left' held held' errors errors'
-  lined_next rest name all whole both counts some counts' left mid left' held half held' errors meanwhile errors' so file is =
+  lined_next behind rest name all whole both counts some counts' left mid left' held half held' errors meanwhile errors' far cut file is =
+      let so = subst (λ (l : List (List ℕ)). LinedSoFar l all counts some left mid held half errors meanwhile) cut far in
       let among = so.among name (inl refl) in
       let later = file_told name whole some counts' mid left' half held' meanwhile errors' among file in
       record {
         whole = λ ends end last rests. let parts = both_so all whole both is ends in so.whole parts.0 end last (left', held', file.whole (ap Ok parts.1), rests);
         begun = λ end last rests. so.begun end last (left', held', file.begun, rests);
         counted = λ ends. let parts = both_so all whole both is ends in runs_next work names rest name counts some counts' left mid left' (so.counted parts.0) (file.counted (ap Ok parts.1));
-        told = all_then K (IsUnreadLine names) errors meanwhile errors' so.told later;
+        told = tells_both K (IsUnreadLine names) errors meanwhile errors' so.told later;
         partly = λ none. both_not {P = TellsSome K (IsUnreadLine names) errors errors'} all whole both is none
             (λ first. some_then K (IsUnreadLine names) errors meanwhile errors' (so.partly first) later)
-            (λ second. then_some K (IsUnreadLine names) errors meanwhile errors' so.told
+            (λ second. some_behind K (IsUnreadLine names) errors meanwhile errors' so.told
             (some_weaker K (IsUnreadLine (name ∷ [])) (IsUnreadLine names) meanwhile errors' (line_among names name among) (file.partly (ap Ok second))));
         quiet = λ ends. let parts = both_so all whole both is ends in file.untold (λ (not : Ok whole ≡ Ok false). let clash : true ≡ false = sym parts.1 ∙ ok_is whole false not in cc) ∙ so.quiet parts.0;
         among = λ other of. so.among other (inr of);
       }
 
   -- behind all
-  pub lined_all : (all : Bool) (counts counts' : List ℕ) (left left' held held' : Option (List ℕ)) (errors errors' : Errors E) → LinedSoFar [] all counts counts' left left' held held' errors errors'
+  pub lined_all : (behind : List (List ℕ)) (all : Bool) (counts counts' : List ℕ) (left left' held held' : Option (List ℕ)) (errors errors' : Errors E) → LinedSoFar behind all counts counts' left left' held held' errors errors' → behind ≡ []
       → LinedFiles K work names (Ok all) counts counts' left left' held held' errors errors'
-  lined_all all counts counts' left left' held held' errors errors' so = record {
-    whole = λ is. so.whole (ok_is all true is) left' held' (refl, Keeps-refl held');
-    begun = so.begun left' held' (refl, Keeps-refl held');
-    counted = λ is. runs_all work names counts counts' left left' (so.counted (ok_is all true is));
-    told = so.told;
-    partly = λ is. so.partly (ok_is all false is);
-    quiet = λ is. so.quiet (ok_is all true is);
-  }
+  lined_all behind all counts counts' left left' held held' errors errors' far cut =
+      let so = subst (λ (l : List (List ℕ)). LinedSoFar l all counts counts' left left' held held' errors errors') cut far in
+      record {
+        whole = λ is. so.whole (ok_is all true is) left' held' (refl, Keeps-refl held');
+        begun = so.begun left' held' (refl, Keeps-refl held');
+        counted = λ is. runs_all work names counts counts' left left' (so.counted (ok_is all true is));
+        told = so.told;
+        partly = λ is. so.partly (ok_is all false is);
+        quiet = λ is. so.quiet (ok_is all true is);
+      }
 
   -- one failed
-  pub lined_fails : (rest : List (List ℕ)) (name : List ℕ) (all : Bool) (error : LineError) (counts some counts' : List ℕ) (left mid left' held half held' : Option (List ℕ)) (errors meanwhile errors' : Errors E)
-      → LinedSoFar (name ∷ rest) all counts some left mid held half errors meanwhile → LinedFile K work name (Err error) some counts' mid left' half held' meanwhile errors'
+  pub lined_fails : (behind rest : List (List ℕ)) (name : List ℕ) (all : Bool) (error : LineError) (counts some counts' : List ℕ) (left mid left' held half held' : Option (List ℕ)) (errors meanwhile errors' : Errors E)
+      → LinedSoFar behind all counts some left mid held half errors meanwhile → behind ≡ name ∷ rest → LinedFile K work name (Err error) some counts' mid left' half held' meanwhile errors'
       → LinedFiles K work names (Err error) counts counts' left left' held held' errors errors'
-  lined_fails rest name all error counts some counts' left mid left' held half held' errors meanwhile errors' so file = record {
-    whole = λ (is : Err error ≡ Ok true). absurd (cc);
-    begun = so.begun left' held' (left', held', file.begun, none_begun work rest left' held');
-    counted = λ (is : Err error ≡ Ok true). absurd (cc);
-    told = subst (Tells K (IsUnreadLine names) errors) (sym (file.untold (λ (is : Err error ≡ Ok false). cc))) so.told;
-    partly = λ (is : Err error ≡ Ok false). absurd (cc);
-    quiet = λ (is : Err error ≡ Ok true). absurd (cc);
-  }
+  lined_fails behind rest name all error counts some counts' left mid left' held half held' errors meanwhile errors' far cut file =
+      let so = subst (λ (l : List (List ℕ)). LinedSoFar l all counts some left mid held half errors meanwhile) cut far in
+      record {
+        whole = λ (is : Err error ≡ Ok true). absurd (cc);
+        begun = so.begun left' held' (left', held', file.begun, none_begun work rest left' held');
+        counted = λ (is : Err error ≡ Ok true). absurd (cc);
+        told = subst (Tells K (IsUnreadLine names) errors) (sym (file.untold (λ (is : Err error ≡ Ok false). cc))) so.told;
+        partly = λ (is : Err error ≡ Ok false). absurd (cc);
+        quiet = λ (is : Err error ≡ Ok true). absurd (cc);
+      }
 
   -- a flush behind all
   pub flush_kept : (all : Bool) (counts counts' : List ℕ) (left left' held mid held' : Option (List ℕ)) (errors errors' : Errors E) → Keeps mid held' → LinedFiles K work names (Ok all) counts counts' left left' held mid errors errors'
       → LinedFiles K work names (Ok all) counts counts' left left' held held' errors errors'
   flush_kept all counts counts' left left' held mid held' errors errors' kept files = record {
-    whole = λ is. ruled_kept work names left left' held mid held' (files.whole is) kept;
-    begun = begun_kept work names left left' held mid held' files.begun kept;
+    whole = λ is. each_kept (RedactsRuled work) names left left' held mid held' (files.whole is) kept;
+    begun = each_kept (WritesRuled work) names left left' held mid held' files.begun kept;
     counted = files.counted;
     told = files.told;
     partly = files.partly;
@@ -294,7 +269,7 @@ module _ {E : Type 0} (K : SinkGhosts E) (work : RuledWork) (names : List (List 
       → LinedFiles K work names (Ok all) counts counts' left left' held mid errors errors' → LinedFiles K work names (Err error) counts counts' left left' held held' errors errors'
   flush_failed all error counts counts' left left' held mid held' errors errors' kept files = record {
     whole = λ (is : Err error ≡ Ok true). absurd (cc);
-    begun = begun_kept work names left left' held mid held' files.begun kept;
+    begun = each_kept (WritesRuled work) names left left' held mid held' files.begun kept;
     counted = λ (is : Err error ≡ Ok true). absurd (cc);
     told = files.told;
     partly = λ (is : Err error ≡ Ok false). absurd (cc);

@@ -1,17 +1,12 @@
 -- What comes of a text, by what a cover of its lines leaves.
-use Rattle.std.proofs.Common.{◌≡◌, ◌≢◌, inl, inr, ℕ, List, [], ◌∷◌, ◌++◌, Option, true, false, ◌≤◌, length, map, refl, sym, ap, subst, ◌∙◌, arith}
-use Rattle.std.specs.Prelude.{Bool, IfSome, IsOk, None, OnErr, OnOk, Some, Result, Ok, Err}
-use Rattle.std.specs.Borrow.{Bor}
+use Rattle.std.proofs.Common.{◌≡◌, ◌≢◌, inl, inr, ℕ, List, [], ◌∷◌, ◌++◌, Option, true, false, length, map, refl, sym, ap, subst, ◌∙◌, arith}
+use Rattle.std.specs.Prelude.{Bool, None, OnErr, OnOk, Result, Ok, Err}
 use Rattle.std.specs.Io.{StartsWith}
 use Rattle.std.specs.Io.KnownBytes.{Consumes, IsAtEnd, Keeps}
-use Rattle.std.proofs.KnownBytes.{Appends-nil, Consumes-nil}
 use Rattle.std.proofs.lemmas.Result.{IfErr-weaker, on_ok_weaker}
-use Rattle.aho_core.specs.Laws.{shortest}
 use Rattle.aho_core.specs.Occurrence.{Occurrence}
 use Rattle.aho_core.specs.Patterns.{Patterns}
 use Rattle.aho_core.specs.declared.error.stream.StreamError.TheVariants.{Match, Read, Write, WriteZero, Memory, PositionLimit}
-use Rattle.aho_core.specs.declared.search.Anchored.TheVariants.{No}
-use Rattle.aho_core.specs.declared.search.MatchKind.TheVariants.{Standard}
 use Rattle.aho_automaton.specs.declared.automaton.Automaton.{Ghosts as Automata}
 use Rattle.aho_cover.specs.Pieces.{PieceRule}
 use Rattle.aho_cover.specs.declared.pieces.Pieces.{Ghosts as PieceGhosts}
@@ -22,7 +17,6 @@ use Rattle.aho_stream.specs.Replacing.{SourceGave}
 use Rattle.secret_rules.specs.Covering.{Covering, covering_by, lines_cover}
 use Rattle.secret_rules.specs.LineCovers.{AreSearchedFor, BeginsLines, BeginsNextLine, CoversLines, CoversWholeLines, LeavesLines, all_of}
 use Rattle.secret_rules.specs.Lines.{Line, stream_lines}
-use Rattle.secret_rules.specs.OpenLines.{CanSearch}
 use Rattle.secret_rules.specs.Ready.{CanCoverLines, CoversTheSame, most_of, rules_of, searched_automaton, words_of}
 use Rattle.secret_rules.specs.Writing.{line_cover}
 use Rattle.secret_rules.specs.declared.error.LineError.{LineError}
@@ -35,7 +29,7 @@ use Rattle.acredact.specs.declared.ruled_files.Lined.{Lined}
 use Rattle.acredact.proofs.OneFile.{ends_by, known_read}
 
 -- a beginning behind the same bytes
-begins_behind : (front all first : List ℕ) → StartsWith all first → StartsWith (front ++ all) (front ++ first)
+pub begins_behind : (front all first : List ℕ) → StartsWith all first → StartsWith (front ++ all) (front ++ first)
 begins_behind [] all first is = is
 begins_behind (byte ∷ front) all first is = ap (λ l. byte ∷ l) (begins_behind front all first is)
 
@@ -186,46 +180,6 @@ still_lined G Q old new ruling can same rule is = record {
       ∙ ap (λ r. ruling_as (words_of new.cover) (rules_of new.cover) (most_of new.cover) r ruling.covering.patterns) (sym rule);
 }
 
--- nothing was read or written
-pub begun_nothing : (ruling : Ruling) (left held : Option (List ℕ)) → BeginsLinesText ruling left left held held
-begun_nothing ruling left held = record {
-  given = [];
-  ended = false;
-  read = Consumes-nil left;
-  at_end = λ (is : false ≡ true). absurd (cc);
-  part = [];
-  begins = λ text redaction may is. refl;
-  written = Appends-nil held;
-}
-
--- of a text that is known
-module _ (ruling : Ruling) (told left left' held held' : Option (List ℕ)) (kept : Keeps told left) where
-  pub known_lines : RedactsLines ruling left left' held held' → RedactsLines ruling told left' held held'
-  known_lines whole = record {
-    text = whole.text;
-    reads = record { read = known_read told left left' whole.text kept whole.reads.read; ended = whole.reads.ended };
-    redaction = whole.redaction;
-    redacts = whole.redacts;
-    written = whole.written;
-  }
-
-  pub known_writes : WritesLines ruling left left' held held' → WritesLines ruling told left' held held'
-  known_writes (inl whole) = inl (known_lines whole)
-  known_writes (inr begun) = inr (record {
-    given = begun.given;
-    ended = begun.ended;
-    read = known_read told left left' begun.given kept begun.read;
-    at_end = begun.at_end;
-    part = begun.part;
-    begins = begun.begins;
-    written = begun.written;
-  })
-
--- an automaton that is lent is the same
-pub some_same : {A : Type 0} (P : A → Type 0) (automaton : A) (lent : Option (Bor A)) → IfSome lent (λ a. a.now ≡ automaton) → P automaton → IfSome lent (λ a. P a.now)
-some_same P automaton None same holds = tt
-some_same P automaton (Some a) same holds = subst P (sym same) holds
-
 -- what covers lines by such parts does so by these
 pub lined_by : {A P : Type 0} (G : Automata A) (Q : PieceGhosts P) (lined : Lined A P) (words : Bool) (rules : List Rule) (most : ℕ) (rule : PieceRule) (p : Patterns) → CanCoverLines G lined.cover
     → AreSearchedFor G (searched_automaton lined.cover) p → words_of lined.cover ≡ words → rules_of lined.cover ≡ rules → most_of lined.cover ≡ most → Q.rule lined.pieces ≡ rule
@@ -246,16 +200,6 @@ no_words p lengths are none = by p.words (ap length (sym are) ∙ none)
     by : (words : List (List ℕ)) → length (map length words) ≡ 0 → words ≡ []
     by [] is = refl
     by (word ∷ words) is = absurd (omega (arith, is))
-
--- lines can be searched by such an automaton
-pub can_search : {A : Type 0} (G : Automata A) (automaton : A) (p : Patterns) → G.is_of automaton p → G.lengths automaton ≡ map length p.words → G.kind automaton ≡ Standard → IsOk (G.start automaton No)
-    → 1 ≤ shortest (map length p.words) → CanSearch G automaton
-can_search G automaton p of are standard starts some = record {
-  of = (p, of);
-  standard = standard;
-  starts = starts;
-  full = subst (λ (ns : List ℕ). 1 ≤ shortest ns) (sym are) some;
-}
 
 -- the runs of a text that is known
 pub known_runs : (covering : Covering) (runs : List Occurrence) (told left left' : Option (List ℕ)) → Keeps told left → HasRuns covering runs left left' → HasRuns covering runs told left'

@@ -25,10 +25,9 @@ share_least counted_for number count = by_test (nat_eq counted_for number)
     by_test false = omega arith
 
 sum_least : (number place : ℕ) (secrets : List Secret) (counts : List ℕ) → sum_for number place secrets counts ≤ sum counts
-sum_least number place [] counts = omega arith
-sum_least number place (secret ∷ secrets) [] = omega arith
 sum_least number place (secret ∷ secrets) (count ∷ counts) =
     omega (arith, sum_cons count counts, share_least (counts_for place secret) number count, sum_least number (place + 1) secrets counts)
+sum_least number place secrets counts = omega arith
 
 pub each_least : (secrets : List Secret) (counts : List ℕ) (number : ℕ) → number < length (sums_of secrets counts) → slice_index (sums_of secrets counts) number ≤ sum counts
 each_least secrets counts number within =
@@ -63,8 +62,6 @@ runs_split place (run ∷ runs) =
 sums_from : (place : ℕ) (runs : List Occurrence) (counts counts' : List ℕ) → length counts' ≡ length counts
     → ((number : ℕ) → number < length counts → slice_index counts' number ≤ slice_index counts number + runs_named (place + number) runs) → sum counts' ≤ sum counts + runs_from place runs
 sums_from place runs [] [] same each = omega arith
-sums_from place runs [] (count' ∷ counts') same each = absurd (omega (arith, same))
-sums_from place runs (count ∷ counts) [] same each = absurd (omega (arith, same))
 sums_from place runs (count ∷ counts) (count' ∷ counts') same each =
     let alike : place + 0 ≡ place = omega arith in
     let first : count' ≤ count + runs_named place runs = subst (λ (n : ℕ). count' ≤ count + runs_named n runs) alike (each 0 (omega arith)) in
@@ -73,6 +70,7 @@ sums_from place runs (count ∷ counts) (count' ∷ counts') same each =
     let moved : place + suc number ≡ place + 1 + number = omega arith in
     subst (λ (n : ℕ). slice_index counts' number ≤ slice_index counts number + runs_named n runs) moved (each (suc number) (omega (arith, within)))) in
     omega (arith, sum_cons count counts, sum_cons count' counts', first, rest, runs_split place runs)
+sums_from place runs counts counts' same each = absurd (omega (arith, same))
 
 pub sums_few : (runs : List Occurrence) (counts counts' : List ℕ) → CountsThese runs counts counts' → sum counts' ≤ sum counts + length runs
 sums_few runs counts counts' counted =

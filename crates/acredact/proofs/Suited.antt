@@ -1,20 +1,18 @@
 -- How an automaton redacts streams.
 use Rattle.std.proofs.Common.{◌≡◌, inl, ℕ, ◌≤◌, List, [], ◌∷◌, Option, true, false, length, map, refl, sym, ap, subst, ◌∙◌, arith}
-use Rattle.std.specs.Prelude.{Bool, ◌&&◌, None, Some, Result, Ok, Err, if◌then◌else◌}
+use Rattle.std.specs.Prelude.{Bool, ◌&&◌, None, Some, Ok, Err, if◌then◌else◌}
 use Rattle.std.specs.Borrow.{Bor}
-use Rattle.std.proofs.KnownBytes.{Keeps-refl}
 use Rattle.std.specs.declared.io.traits.Read.{Ghosts as Readers}
 use Rattle.std.specs.declared.io.traits.Write.{Ghosts as Writers}
+use Rattle.std.proofs.KnownBytes.{Keeps-refl}
 use Rattle.std.proofs.lemmas.Bool.{ne_eqb}
 use Rattle.aho_core.specs.Laws.{shortest}
 use Rattle.aho_core.specs.Patterns.{Patterns}
 use Rattle.aho_core.specs.Replacement.{pieces_of}
-use Rattle.aho_core.specs.declared.error.MatchErrorKind.{MatchErrorKind}
 use Rattle.aho_core.specs.declared.error.MatchErrorKind.TheVariants.{UnsupportedEmpty}
 use Rattle.aho_core.specs.declared.error.stream.StreamError.{StreamError}
-use Rattle.aho_core.specs.declared.error.stream.StreamError.TheVariants.{Match as Refused, Read, Write, WriteZero, Memory, PositionLimit}
+use Rattle.aho_core.specs.declared.error.stream.StreamError.TheVariants.{Match as Refused, Memory}
 use Rattle.aho_core.specs.declared.search.Anchored.TheVariants.{No}
-use Rattle.aho_core.specs.declared.search.MatchKind.{MatchKind}
 use Rattle.aho_core.specs.declared.search.MatchKind.TheVariants.{Standard}
 use Rattle.aho_automaton.specs.Covering.{cover_refusal}
 use Rattle.aho_automaton.specs.declared.automaton.Automaton.{Ghosts}
@@ -27,9 +25,9 @@ use Rattle.aho_stream.specs.StreamRun.{CanBegin}
 use Rattle.acredact.specs.Files.{AreCut, FilesOutcome, Work, key_for}
 use Rattle.acredact.specs.Secrets.{CanRedact, Keyed, Redactor, rule_by, rule_of}
 use Rattle.acredact.specs.Ways.{IsCoverer, IsCovering, IsNamedCover, IsRedactor}
+use Rattle.acredact.specs.Pseudonyms.{pseudonym_rule}
 use Rattle.acredact.specs.declared.streams.Streams.{Streams}
 use Rattle.acredact.specs.declared.ways.Key.{Key}
-use Rattle.acredact.specs.Pseudonyms.{pseudonym_rule}
 use Rattle.acredact.proofs.Done.{tells_none}
 use Rattle.acredact.proofs.OneFile.{named_none}
 
@@ -42,8 +40,7 @@ module _ {A : Type 0} (G : Ghosts A) where
   pub covering_still : (automaton automaton' : A) (progress progress' : CoverProgress) (replacements : List (Bor (List ℕ))) (r : Redactor) → automaton' ≡ automaton
       → IsUnbegunWith progress.words G automaton' progress' → IsCovering G automaton progress replacements r → IsCovering G automaton' progress' replacements r
   covering_still automaton automaton' progress progress' replacements r same unbegun is = record {
-    redactor = subst (λ (a : A). IsRedactor G a true progress'.words replacements r) (sym same)
-        (subst (λ (b : Bool). IsRedactor G automaton true b replacements r) (sym unbegun.chosen) is.redactor);
+    redactor = rw (same, unbegun.chosen) is.redactor;
     unbegun = begun_as automaton' progress' progress.words unbegun;
   }
 
@@ -88,20 +85,16 @@ module _ {A : Type 0} (G : Ghosts A) where
   -- by a standard automaton without empty patterns no cover is refused
   suits_cover : (automaton : A) → CanBegin G automaton → G.kind automaton ≡ Standard → cover_refusal (G.kind automaton) (G.lengths automaton) (G.start automaton No) ≡ None
   suits_cover automaton can standard =
-      subst (λ (k : MatchKind). cover_refusal k (G.lengths automaton) (G.start automaton No) ≡ None) (sym standard)
-      (subst (λ (s : Result ℕ MatchErrorKind). cover_refusal Standard (G.lengths automaton) s ≡ None) (sym can.2)
-      (ap (λ (b : Bool). if b then Some UnsupportedEmpty else None) (ne_eqb (shortest (G.lengths automaton)) 0 (λ (none : shortest (G.lengths automaton) ≡ 0). omega (arith, none, can.1)))))
+      rw (standard, can.2)
+      (ap (λ (b : Bool). if b then Some UnsupportedEmpty else None) (ne_eqb (shortest (G.lengths automaton)) 0 (λ (none : shortest (G.lengths automaton) ≡ 0). omega (arith, none, can.1))))
 
   -- so memory alone may be wanting for its start
   pub only_memory : {T : Type 0} (automaton : A) (error : StreamError) → CanBegin G automaton → G.kind automaton ≡ Standard → IsMakingRefusal error
       → RefusesStreamCover {T = T} (cover_refusal (G.kind automaton) (G.lengths automaton) (G.start automaton No)) (Err error) → error ≡ Memory
   only_memory automaton (Refused reason) can standard is refuses =
       let clash : None ≡ Some reason = sym (suits_cover automaton can standard) ∙ refuses.only reason refl in absurd (cc)
-  only_memory automaton (Read fault) can standard is refuses = absurd is
-  only_memory automaton (Write fault) can standard is refuses = absurd is
-  only_memory automaton WriteZero can standard is refuses = absurd is
   only_memory automaton Memory can standard is refuses = refl
-  only_memory automaton PositionLimit can standard is refuses = absurd is
+  only_memory automaton error can standard is refuses = absurd is
 
 module _ (work : Work) (some : 1 ≤ shortest (map length work.redactor.patterns.words)) where
   cut_none : (names : List (List ℕ)) (left held : Option (List ℕ)) → AreCut work names [] left left held held

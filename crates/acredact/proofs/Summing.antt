@@ -20,9 +20,8 @@ pub grown_nothing : (more : ℕ → ℕ) (sums : List ℕ) → ((number : ℕ) �
 grown_nothing more sums none = record { as_many = refl; each = λ number within. omega (arith, none number) }
 
 pub sum_none : (number place : ℕ) (secrets : List Secret) (counts : List ℕ) → length counts ≡ 0 → sum_for number place secrets counts ≡ 0
-sum_none number place [] counts none = refl
-sum_none number place (secret ∷ secrets) [] none = refl
 sum_none number place (secret ∷ secrets) (count ∷ counts) none = absurd (omega (arith, none))
+sum_none number place secrets counts none = refl
 
 -- the sum of the first, and of the others
 pub sum_next : (number place own : ℕ) (rules : List Rule) (counts : List ℕ) (other : Rule) (count : ℕ) → 1 ≤ length rules → 1 ≤ length counts → own ≡ counts_for place (secret_of (get_or rules 0 other))

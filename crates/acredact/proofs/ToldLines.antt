@@ -25,6 +25,7 @@ use Rattle.secret_rules.specs.declared.visitor.LineVisitor.{Ghosts as VisitorGho
 use Rattle.acredact.specs.RuledChecks.{BeginsGiven, IfLooked, IsAtFirst, LookedText, SeesText, StopsTelling, TellsGiven, TellsLine, SaysLines, findings_behind, findings_of, found_of, is_some_line, is_some_run, labels_of, lines_findings, look_of_lines}
 use Rattle.acredact.specs.declared.findings.Findings.{Findings}
 use Rattle.acredact.proofs.OneFile.{ends_by}
+use Rattle.acredact.proofs.RuledText.{begins_behind}
 
 -- what was found behind some lines, and what is told of them
 abbrev pub all_behind : Findings → List (List Occurrence) → Findings
@@ -44,11 +45,6 @@ findings_append findings (own ∷ first) more =
     let next = findings_behind findings own in
     ap (λ l. findings_of findings own ++ l) (findings_append next first more)
     ∙ sym (append_assoc (findings_of findings own) (all_findings next first) (all_findings (all_behind next first) more))
-
--- what starts with some bytes does so behind others
-pub starts_behind : (front all first : List ℕ) → StartsWith all first → StartsWith (front ++ all) (front ++ first)
-starts_behind [] all first is = is
-starts_behind (byte ∷ front) all first is = ap (λ l. byte ∷ l) (starts_behind front all first is)
 
 module _ {V W : Type 0} (L : VisitorGhosts V) (K : SinkGhosts W) (most : ℕ) (output_of : V → MutBor W) (found_in : V → Findings)
     (tells : (visitor visitor' : V) (line : Line) (runs : List Occurrence) → L.visits visitor visitor' line runs → TellsLine K (output_of visitor) (output_of visitor') (found_in visitor) (found_in visitor') runs)
@@ -98,7 +94,7 @@ module _ {V W : Type 0} (L : VisitorGhosts V) (K : SinkGhosts W) (most : ℕ) (o
       record {
         same = stop.same ∙ each.same;
         part = front ++ take stop.begun.0 mine;
-        begins = subst (λ l. StartsWith l (front ++ take stop.begun.0 mine)) (sym all) (starts_behind front mine (take stop.begun.0 mine) (subst (λ l. StartsWith l (take stop.begun.0 mine)) (take-append-drop stop.begun.0 mine) (begins_with (take stop.begun.0 mine) (drop stop.begun.0 mine))));
+        begins = subst (λ l. StartsWith l (front ++ take stop.begun.0 mine)) (sym all) (begins_behind front mine (take stop.begun.0 mine) (subst (λ l. StartsWith l (take stop.begun.0 mine)) (take-append-drop stop.begun.0 mine) (begins_with (take stop.begun.0 mine) (drop stop.begun.0 mine))));
         written = Appends-trans (K.taken (output_of visitor).now) (K.taken (output_of last.between).now) (K.taken (output_of visitor').now) front (take stop.begun.0 mine) each.told stop.begun.2;
       }
 

@@ -1,12 +1,11 @@
 -- Values of variables, one after another.
 use Rattle.std.proofs.Common.{◌≡◌, ℕ, ◌+◌, ◌-◌, ◌^◌, ◌<◌, ◌≤◌, Bool, true, false, List, [], ◌∷◌, ◌++◌, Option, length, take, drop, get_or, refl, sym, ap, subst, ◌∙◌, append-nil, append_assoc, arith}
 use Rattle.std.specs.Prelude.{Some, None, if◌then◌else◌, min, nat_eq, nat_lt, slice_index_or}
-use Rattle.std.specs.List.{cons_option, slice_split}
+use Rattle.std.specs.List.{cons_option}
+use Rattle.std.specs.Borrow.{Bor}
 use Rattle.std.proofs.lemmas.Grind.{common_steps}
 use Rattle.std.proofs.lemmas.List.{get_or-map, length-map, take_rest}
 use Rattle.std.proofs.lemmas.List.Elements.{All-head, All-tail}
-use Rattle.std.proofs.lemmas.List.Splits.{slice_split_at, slice_split_none}
-use Rattle.std.specs.Borrow.{Bor}
 use Rattle.aho_core.specs.Replacement.{pieces_of}
 use Rattle.acredact.specs.Parts.{IsAddedSome}
 use Rattle.acredact.specs.Tables.{IsWithout, Secret, patterns_in, secret_of, secrets_of, stripped_by}
@@ -52,13 +51,6 @@ entry_none name entry without = by (is_named name (before_equals entry)) (behind
 pub values_more : (values rest all : List (List ℕ)) (value : Option (List ℕ)) → values ++ cons_option value rest ≡ all → values_with values value ++ rest ≡ all
 values_more values rest all None is = is
 values_more values rest all (Some value) is = append_assoc values (value ∷ []) rest ∙ is
-
--- the first line of what is left, and the last one
-pub line_at : (rest line more : List ℕ) → rest ≡ line ++ (10 ∷ more) → IsWithout 10 line → slice_split (λ b. nat_eq b 10) rest ≡ line ∷ slice_split (λ b. nat_eq b 10) more
-line_at rest line more is without = ap (slice_split (λ b. nat_eq b 10)) is ∙ slice_split_at (λ b. nat_eq b 10) line 10 more without refl
-
-pub line_end : (rest : List ℕ) → IsWithout 10 rest → slice_split (λ b. nat_eq b 10) rest ≡ rest ∷ []
-line_end rest without = slice_split_none (λ b. nat_eq b 10) rest without
 
 -- a line without a fault is passed, and one with a fault is the first
 module _ (allow_empty : Bool) (form : Form) (number : ℕ) (line : List ℕ) (lines : List (List ℕ)) where

@@ -1,20 +1,20 @@
 -- What comes of a call whose pieces were looked at.
-use Rattle.std.proofs.Common.{◌≡◌, inl, inr, ℕ, List, [], ◌∷◌, ◌++◌, Option, true, false, refl, sym, subst, ◌∙◌, append-nil}
-use Rattle.std.specs.Prelude.{◌⊎◌, Bool, None, Some, Result, Ok, Err, IfErr, OnErr, Vec, is_some, option_map}
-use Rattle.std.specs.List.{All, concat}
+use Rattle.std.proofs.Common.{◌≡◌, inl, inr, ℕ, List, [], ◌∷◌, Option, true, false, refl, sym, subst, ◌∙◌, append-nil}
+use Rattle.std.specs.Prelude.{◌⊎◌, Bool, None, Some, Result, Ok, Err, Vec, is_some, option_map}
+use Rattle.std.specs.List.{All}
 use Rattle.std.specs.declared.io.traits.Read.{Ghosts as Readers}
 use Rattle.std.specs.declared.io.traits.Write.{Ghosts as Writers}
-use Rattle.std.proofs.lemmas.List.Elements.{All-append, All-cons, All-head, All-nil, All-tail}
+use Rattle.std.proofs.lemmas.List.Elements.{All-cons, All-nil}
+use Rattle.std.proofs.lemmas.Result.{IfErr-weaker, on_err_weaker}
 use Rattle.aho_core.specs.Listing.{IsMember}
 use Rattle.aho_core.specs.Patterns.{Patterns}
 use Rattle.aho_devices.specs.declared.device.Sink.{Ghosts as SinkGhosts}
 use Rattle.tool_parts.specs.Streams.{bytes_left}
-use Rattle.tool_parts.specs.Telling.{Tells, TellsBytes, TellsSome}
+use Rattle.tool_parts.specs.Telling.{Tells, TellsBytes}
 use Rattle.tool_parts.specs.declared.errors.Errors.{Errors}
 use Rattle.tool_parts.specs.declared.failure.Failure.TheVariants.{OutOfMemory}
-use Rattle.tool_parts.proofs.Tellings.{tells-later}
 use Rattle.acredact.specs.Arguments.{Given, has}
-use Rattle.acredact.specs.Calls.{Call, CallOutcome, IsLineOf, IsUntouched, IsWordLine, MayFail, OutputFails, RestOutcome, TellsAnyNumbers, TellsNumbers, keyed_as, names_asked, reading_by, redactor_by_given, work_by}
+use Rattle.acredact.specs.Calls.{Call, CallOutcome, IsLineOf, IsWarningLine, IsWordLine, MayFail, OutputFails, RestOutcome, TellsAnyNumbers, TellsNumbers, keyed_as, names_asked, reading_by, redactor_by_given, work_by}
 use Rattle.acredact.specs.Doubts.{TellsDoubts, all_doubt_lines}
 use Rattle.acredact.specs.Loading.{AreLoaded, Loaded, key_in}
 use Rattle.acredact.specs.Messages.{unclean_line}
@@ -28,7 +28,7 @@ use Rattle.acredact.specs.declared.failure.Failure.{Failure}
 use Rattle.acredact.specs.declared.failure.Failure.TheVariants.{Other, Unclean as UncleanPiece}
 use Rattle.acredact.specs.declared.streams.Streams.{Streams}
 use Rattle.acredact.proofs.Calls.{build_other, call_refused, may_fail, tells_same}
-use Rattle.acredact.proofs.Done.{concat_both}
+pub use Rattle.acredact.proofs.Calls.{some_behind, tells_both}
 use Rattle.acredact.proofs.Free.{free_of}
 
 -- where they are to be refused, nothing is told and they are clean
@@ -57,84 +57,37 @@ judged_as p covers covers' named ignore_case key pieces pieces' answer by is sam
     (subst (λ (b : Bool). IsJudgedBy p covers' b pieces answer) is
     (subst (λ (l : List (List ℕ)). IsJudgedBy p covers' named l answer) same judged)))
 
--- lines behind lines
-module _ {E : Type 0} (K : SinkGhosts E) (IsLine : List ℕ → Type 0) (old mid new : Errors E) (first : Tells K IsLine old mid) where
-  pub tells_both : Tells K IsLine mid new → Tells K IsLine old new
-  tells_both later = record {
-    told = first.told ++ later.told;
-    are_lines = All-append IsLine first.told later.told first.are_lines later.are_lines;
-    written = subst (TellsBytes K old new) (sym (concat_both first.told later.told)) (tells-later K first.written later.written);
-  }
-
-  pub some_behind : TellsSome K IsLine mid new → TellsSome K IsLine old new
-  some_behind later = behind first.told first.are_lines (tells-later K first.written later.written)
-    where
-      behind : (lines : List (List ℕ)) → All IsLine lines → TellsBytes K old new (concat lines ++ concat (later.first ∷ later.more)) → TellsSome K IsLine old new
-      behind [] are written = record { first = later.first; is_line = later.is_line; more = later.more; are_lines = later.are_lines; written = written }
-      behind (line ∷ lines) are written = record {
-        first = line;
-        is_line = All-head IsLine line lines are;
-        more = lines ++ (later.first ∷ later.more);
-        are_lines = All-append IsLine lines (later.first ∷ later.more) (All-tail IsLine line lines are) (All-cons IsLine later.first later.more later.is_line later.are_lines);
-        written = subst (TellsBytes K old new) (sym (concat_both (line ∷ lines) (later.first ∷ later.more))) written;
-      }
-
 -- what holds of each member holds of all
 pub all_members : (Is : List ℕ → Type 0) (lines : List (List ℕ)) → ((line : List ℕ) → IsMember lines line → Is line) → All Is lines
 all_members Is [] each = All-nil Is
 all_members Is (line ∷ lines) each = All-cons Is line lines (each line (inl refl)) (all_members Is lines (λ other is. each other (inr is)))
 
-module _ {E : Type 0} (K : SinkGhosts E) (call : Call) (fails : Type 0) (load : Loaded) (left between : Option (List ℕ)) (loaded : AreLoaded (reading_by call) call.given load left between) where
-  -- what is told of patterns of lists may be told
-  pub doubts_tell : (strict : Bool) → has Strict call.given ≡ strict → (old new : Errors E) → TellsDoubts K strict call.given load.secrets old new → Tells K (IsLineOf call fails) old new
-  doubts_tell true is old new doubts = tells_same K (IsLineOf call fails) old new doubts.1
-  doubts_tell false is old new doubts = record {
+-- what is told of patterns of lists may be told, where such a line may be
+module _ {E : Type 0} (K : SinkGhosts E) (call : Call) (IsLine : List ℕ → Type 0) (may : (line : List ℕ) → IsWarningLine call line → IsLine line)
+    (load : Loaded) (left between : Option (List ℕ)) (loaded : AreLoaded (reading_by call) call.given load left between) where
+  pub doubts_may : (strict : Bool) → has Strict call.given ≡ strict → (old new : Errors E) → TellsDoubts K strict call.given load.secrets old new → Tells K IsLine old new
+  doubts_may true is old new doubts = tells_same K IsLine old new doubts.1
+  doubts_may false is old new doubts = record {
     told = all_doubt_lines call.given load.secrets;
-    are_lines = all_members (IsLineOf call fails) (all_doubt_lines call.given load.secrets) (λ line member. inr (inr (inr (is, load, left, between, loaded, inl member))));
+    are_lines = all_members IsLine (all_doubt_lines call.given load.secrets) (λ line member. may line (is, load, left, between, loaded, inl member));
     written = doubts;
   }
 
   -- and so may what is told of pieces
-  piece_tells : (old new : Errors E) → TellsOfPieces K (has Strict call.given) (redactor_by_given call.given load) old new → Tells K (IsLineOf call fails) old new
-  piece_tells old new (None, judged, same) = tells_same K (IsLineOf call fails) old new same
-  piece_tells old new (Some unclean, judged, (lax, told)) = record {
+  pieces_may : (old new : Errors E) → TellsOfPieces K (has Strict call.given) (redactor_by_given call.given load) old new → Tells K IsLine old new
+  pieces_may old new (None, judged, same) = tells_same K IsLine old new same
+  pieces_may old new (Some unclean, judged, (lax, told)) = record {
     told = unclean_line unclean ∷ [];
-    are_lines = All-cons (IsLineOf call fails) (unclean_line unclean) [] (inr (inr (inr (lax, load, left, between, loaded, inr (unclean, judged.0, judged.1, refl))))) (All-nil (IsLineOf call fails));
+    are_lines = All-cons IsLine (unclean_line unclean) [] (may (unclean_line unclean) (lax, load, left, between, loaded, inr (unclean, judged.0, judged.1, refl))) (All-nil IsLine);
     written = subst (TellsBytes K old new) (sym (append-nil (unclean_line unclean))) told;
   }
 
   -- one after the other
-  pub warnings_tell : (old mid new : Errors E) → TellsDoubts K (has Strict call.given) call.given load.secrets old mid → TellsOfPieces K (has Strict call.given) (redactor_by_given call.given load) mid new
-      → Tells K (IsLineOf call fails) old new
-  warnings_tell old mid new doubts pieces = tells_both K (IsLineOf call fails) old mid new (doubts_tell (has Strict call.given) refl old mid doubts) (piece_tells mid new pieces)
-
--- and so may what is told behind it
-told_behind : {E : Type 0} (K : SinkGhosts E) (call : Call) (old mid new : Errors E) (fails : Type 0) (result : Result Bool Failure) → Tells K (IsLineOf call fails) old mid → OnErr result (Tells K (IsLineOf call fails) mid new) → OnErr result (Tells K (IsLineOf call fails) old new)
-told_behind K call old mid new fails (Ok all) first told = tt
-told_behind K call old mid new fails (Err failure) first told = tells_both K (IsLineOf call fails) old mid new first told
+  pub warnings_may : (old mid new : Errors E) → TellsDoubts K (has Strict call.given) call.given load.secrets old mid → TellsOfPieces K (has Strict call.given) (redactor_by_given call.given load) mid new → Tells K IsLine old new
+  warnings_may old mid new doubts pieces = tells_both K IsLine old mid new (doubts_may (has Strict call.given) refl old mid doubts) (pieces_may mid new pieces)
 
 -- these lines hold no number that was counted
 module _ {E : Type 0} (K : SinkGhosts E) (call : Call) (load : Loaded) (left between : Option (List ℕ)) (loaded : AreLoaded (reading_by call) call.given load left between) where
-  doubt_words : (strict : Bool) → has Strict call.given ≡ strict → (old new : Errors E) → TellsDoubts K strict call.given load.secrets old new → Tells K (IsWordLine call) old new
-  doubt_words true is old new doubts = tells_same K (IsWordLine call) old new doubts.1
-  doubt_words false is old new doubts = record {
-    told = all_doubt_lines call.given load.secrets;
-    are_lines = all_members (IsWordLine call) (all_doubt_lines call.given load.secrets) (λ line member. inr (is, load, left, between, loaded, inl member));
-    written = doubts;
-  }
-
-  piece_words : (old new : Errors E) → TellsOfPieces K (has Strict call.given) (redactor_by_given call.given load) old new → Tells K (IsWordLine call) old new
-  piece_words old new (None, judged, same) = tells_same K (IsWordLine call) old new same
-  piece_words old new (Some unclean, judged, (lax, told)) = record {
-    told = unclean_line unclean ∷ [];
-    are_lines = All-cons (IsWordLine call) (unclean_line unclean) [] (inr (lax, load, left, between, loaded, inr (unclean, judged.0, judged.1, refl))) (All-nil (IsWordLine call));
-    written = subst (TellsBytes K old new) (sym (append-nil (unclean_line unclean))) told;
-  }
-
-  warning_words : (old mid new : Errors E) → TellsDoubts K (has Strict call.given) call.given load.secrets old mid → TellsOfPieces K (has Strict call.given) (redactor_by_given call.given load) mid new
-      → Tells K (IsWordLine call) old new
-  warning_words old mid new doubts pieces = tells_both K (IsWordLine call) old mid new (doubt_words (has Strict call.given) refl old mid doubts) (piece_words mid new pieces)
-
   -- numbers behind them
   numbers_warned : (left' : Option (List ℕ)) (old mid new : Errors E) → Tells K (IsWordLine call) old mid → Tells K (IsWordLine call) mid new ⊎ TellsNumbers K call load.secrets between left' mid new → TellsAnyNumbers K call left left' old new
   numbers_warned left' old mid new first (inl words) = inl (tells_both K (IsWordLine call) old mid new first words)
@@ -167,11 +120,6 @@ strictly given load failure unclean (inr (inr (inl refused))) is = absurd (build
 strictly given load failure unclean (inr (inr (inr memory))) is = let clash : Other OutOfMemory ≡ UncleanPiece unclean = sym memory ∙ is in absurd (cc)
 
 module _ {R : Type 0} {Reads : Readers R} {W E : Type 0} (Writes : Writers W) (K : SinkGhosts E) (call : Call) (left : Option (List ℕ)) where
-  refused_other : (old new : Streams R W E Reads) (result : Result Bool Failure) → IfErr result (λ failure. (unclean : Unclean) → failure ≡ UncleanPiece unclean → ⊥)
-      → IfErr result (λ failure. (unclean : Unclean) → failure ≡ UncleanPiece unclean → IsUntouched Writes K old new)
-  refused_other old new (Ok all) other = tt
-  refused_other old new (Err failure) other = λ unclean is. absurd (other unclean is)
-
   module _ (load : Loaded) (old : Streams R W E Reads) (loaded : AreLoaded (reading_by call) call.given load left (bytes_left old.input)) (first : Errors E) (doubts : TellsDoubts K (has Strict call.given) call.given load.secrets first old.errors) where
     -- no file is read, behind what is told of patterns of lists
     call_behind : (failure : Failure) → ((unclean : Unclean) → failure ≡ UncleanPiece unclean → has Strict call.given ≡ true) → MayFail call (OutputFails old.output old.output) failure
@@ -185,15 +133,15 @@ module _ {R : Type 0} {Reads : Readers R} {W E : Type 0} (Writes : Writers W) (K
       counts = λ some (is : Err failure ≡ Ok true). absurd (cc);
       partly = λ (is : Err failure ≡ Ok false). absurd (cc);
       fails = fails;
-      told = doubts_tell K call (OutputFails old.output old.output) load left (bytes_left old.input) loaded (has Strict call.given) refl first old.errors doubts;
-      numbers = inl (doubt_words K call load left (bytes_left old.input) loaded (has Strict call.given) refl first old.errors doubts);
+      told = doubts_may K call (IsLineOf call (OutputFails old.output old.output)) (λ line is. inr (inr (inr is))) load left (bytes_left old.input) loaded (has Strict call.given) refl first old.errors doubts;
+      numbers = inl (doubts_may K call (IsWordLine call) (λ line is. inr is) load left (bytes_left old.input) loaded (has Strict call.given) refl first old.errors doubts);
     }
 
     -- what comes of the files comes behind what is told of the pieces
     pub call_warned : (new : Streams R W E Reads) (errors : Errors E) (result : Result Bool Failure) → TellsOfPieces K (has Strict call.given) (redactor_by_given call.given load) old.errors errors
         → RestOutcome Writes K call load result (record old { errors = errors }) new → CallOutcome Writes K call left result (record old { errors = first }) new
     call_warned new errors result told rest =
-        let warns = λ (fails : Type 0). warnings_tell K call fails load left (bytes_left old.input) loaded first old.errors errors doubts told in
+        let warns = λ (fails : Type 0). warnings_may K call (IsLineOf call fails) (λ line is. inr (inr (inr is))) load left (bytes_left old.input) loaded first old.errors errors doubts told in
         record {
           redacts = λ is. record { load = load; between = bytes_left old.input; loaded = loaded; redacted = rest.redacts is };
           strict = λ asked is. record {
@@ -202,7 +150,7 @@ module _ {R : Type 0} {Reads : Readers R} {W E : Type 0} (Writes : Writers W) (K
             loaded = loaded;
             free = free_of (work_by call load) asked.covers asked.all (clean_pieces K (has Strict call.given) (redactor_by_given call.given load) old.errors errors asked.strict told asked.covers) (names_asked call.given) _ _ _ _ (rest.redacts is);
           };
-          refused = refused_other (record old { errors = first }) new result rest.other;
+          refused = IfErr-weaker result _ _ (λ failure other unclean is. absurd (other unclean is)) rest.other;
           begins = elim rest.begins [
             | inl same ↦ inl same
             | inr cut ↦ inr (record { load = load; between = bytes_left old.input; loaded = loaded; lines = cut.0; cut = cut.1 })
@@ -228,8 +176,8 @@ module _ {R : Type 0} {Reads : Readers R} {W E : Type 0} (Writes : Writers W) (K
           };
           partly = λ is. some_behind K (IsLineOf call (OutputFails old.output new.output)) first errors new.errors (warns _) (rest.partly is);
           fails = rest.fails;
-          numbers = numbers_warned K call load left (bytes_left old.input) loaded (bytes_left new.input) first errors new.errors (warning_words K call load left (bytes_left old.input) loaded first old.errors errors doubts told) rest.numbers;
-          told = told_behind K call first errors new.errors (OutputFails old.output new.output) result (warns _) rest.told;
+          numbers = numbers_warned K call load left (bytes_left old.input) loaded (bytes_left new.input) first errors new.errors (warnings_may K call (IsWordLine call) (λ line is. inr is) load left (bytes_left old.input) loaded first old.errors errors doubts told) rest.numbers;
+          told = on_err_weaker result (λ later. tells_both K (IsLineOf call (OutputFails old.output new.output)) first errors new.errors (warns _) later) rest.told;
         }
 
   -- nothing is ready

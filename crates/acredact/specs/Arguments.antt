@@ -356,21 +356,25 @@ pub record GivesNoPattern (given : List Given) : Type 0 where
   pub no_env_file : has EnvFile given ≡ false
   pub no_whole : has Whole given ≡ false
 
--- what holds of the options and files that are given, where they ask for a redaction
+-- what holds of the options and files that are given, where the arguments are right
+abbrev pub IfRight : {Z : Type 0} → List (String Z) → (List Given → Type 0) → Type 0
+IfRight arguments Holds = (given : List Given) → all_asked (texts arguments) ≡ Some given → Holds given
+
+-- where they ask for a redaction
 abbrev pub IfAsked : {Z : Type 0} → List (String Z) → (List Given → Type 0) → Type 0
-IfAsked arguments Holds = (given : List Given) → all_asked (texts arguments) ≡ Some given → AsksToRedact given → Holds given
+IfAsked arguments Holds = IfRight arguments (λ given. AsksToRedact given → Holds given)
 
 -- or for a check
 abbrev pub IfChecking : {Z : Type 0} → List (String Z) → (List Given → Type 0) → Type 0
-IfChecking arguments Holds = (given : List Given) → all_asked (texts arguments) ≡ Some given → AsksToCheck given → Holds given
+IfChecking arguments Holds = IfRight arguments (λ given. AsksToCheck given → Holds given)
 
 -- or for a redaction by rules
 abbrev pub IfRuled : {Z : Type 0} → List (String Z) → (List Given → Type 0) → Type 0
-IfRuled arguments Holds = (given : List Given) → all_asked (texts arguments) ≡ Some given → AsksForRules given → Holds given
+IfRuled arguments Holds = IfRight arguments (λ given. AsksForRules given → Holds given)
 
 -- or for a check by rules
 abbrev pub IfRulesCheck : {Z : Type 0} → List (String Z) → (List Given → Type 0) → Type 0
-IfRulesCheck arguments Holds = (given : List Given) → all_asked (texts arguments) ≡ Some given → AsksForRulesCheck given → Holds given
+IfRulesCheck arguments Holds = IfRight arguments (λ given. AsksForRulesCheck given → Holds given)
 
 -- the options that are given name this file for the output, or none
 abbrev pub NamesOutput : {Z : Type 0} → List (String Z) → Option (List ℕ) → Type 0

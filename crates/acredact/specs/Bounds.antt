@@ -44,10 +44,6 @@ module _ (counts counts' : List ℕ) (bytes bytes' : ℕ) where
     pub counted : GrowAtMost (length given) counts counts'
     pub added : bytes' ≤ bytes + length given
 
-  -- whatever an opened file has left afterwards
-  abbrev pub NumbersOpened : Option (List ℕ) → Type 0
-  NumbersOpened left = (rest : Option (List ℕ)) × NumbersRead left rest
-
   -- of the file of a name
   abbrev pub NumbersOfName : (holds : List ℕ → Option (List ℕ)) → List ℕ → (left left' : Option (List ℕ)) → Type 0
   NumbersOfName holds name left left' = OfName holds name NumbersRead left left'

@@ -9,6 +9,7 @@ use Rattle.aho_core.specs.declared.error.BuildError.{BuildError}
 use Rattle.aho_devices.specs.Counts.{counted}
 use Rattle.aho_devices.specs.declared.adapters.FromWrite.{FromWrite}
 use Rattle.aho_devices.specs.declared.device.Sink.{Ghosts as SinkGhosts}
+use Rattle.tool_parts.specs.Building.{RefusesPatterns}
 use Rattle.tool_parts.specs.Names.{IsOneOf, or_input}
 use Rattle.tool_parts.specs.Streams.{output_bytes, bytes_left}
 use Rattle.tool_parts.specs.Telling.{Tells, TellsBytes, TellsSome}
@@ -17,8 +18,8 @@ use Rattle.tool_parts.specs.declared.failure.Failure.{Failure as OtherFailure}
 use Rattle.tool_parts.specs.declared.failure.Failure.TheVariants.{Build, OutOfMemory, Write, WriteZero}
 use Rattle.tool_parts.specs.declared.reason.Reason.{Reason}
 use Rattle.acredact.specs.Arguments.{Given, GivesNoPattern, RefusesUnclean, all_given, counts_asked, covers_asked, has, is_same, last_value, words_asked}
-use Rattle.acredact.specs.Bounds.{NumbersOfAll, ReadInAll}
-use Rattle.acredact.specs.Builds.{RefusesPatterns, patterns_by_given}
+use Rattle.acredact.specs.Bounds.{ReadInAll}
+use Rattle.acredact.specs.Builds.{patterns_by_given}
 use Rattle.acredact.specs.Counts.{secret_lines, lines_of_rules}
 use Rattle.acredact.specs.Doubts.{IsDoubtFailure, TellsWarnings, all_doubt_lines}
 use Rattle.acredact.specs.Failures.{IsFailureLine}
@@ -80,16 +81,6 @@ names_given (item ∷ items) = if is_same File item.word then item.value ∷ nam
 
 abbrev pub names_asked : List Given → List (List ℕ)
 names_asked given = or_input (names_given given)
-
--- all files that are given were read to their ends, and counted
-abbrev pub ReadsAsked : {R W E : Type 0} {Reads : Readers R} → (List ℕ → Option (List ℕ)) → List Given → (volume volume' : Volume) → (streams streams' : Streams R W E Reads) → Type 0
-ReadsAsked holds given volume volume' streams streams' =
-    ReadsVolume holds (names_asked given) volume volume' (bytes_left streams.input) (bytes_left streams'.input)
-
--- no number has grown by more than was read of them
-abbrev pub NumbersAsked : {R W E : Type 0} {Reads : Readers R} → (List ℕ → Option (List ℕ)) → List Given → (counts counts' : List ℕ) → (volume volume' : Volume) → (streams streams' : Streams R W E Reads) → Type 0
-NumbersAsked holds given counts counts' volume volume' streams streams' =
-    NumbersOfAll holds (names_asked given) counts counts' volume volume' (bytes_left streams.input) (bytes_left streams'.input)
 
 -- what is written for a pattern that has no replacement of its own
 abbrev pub text_asked : List Given → List ℕ

@@ -20,7 +20,7 @@ use Rattle.tool_parts.specs.Telling.{TellsBytes}
 use Rattle.tool_parts.specs.declared.reason.Reason.{Reason}
 use Rattle.acredact.specs.Faults.{IsOutputEnd, IsReadReason}
 use Rattle.acredact.specs.Messages.{line_about, output_line}
-use Rattle.acredact.specs.Reads.{OfName, ReadsText}
+use Rattle.acredact.specs.Reads.{EachName, OfName, ReadsText}
 use Rattle.acredact.specs.Secrets.{BeginsRedaction, IfOf, IsPromptUpTo, IsRedaction, IsWrittenUpTo, CanRedact, Keyed, NoneOccurs, Redactor, key_of_cover}
 use Rattle.acredact.specs.declared.files.Job.{Job}
 use Rattle.acredact.specs.declared.folder.Folder.{Ghosts as Folders}
@@ -80,15 +80,19 @@ RedactsText r left left' held held' = WritesText (IsRedaction r) left left' held
 abbrev pub IsFree : Redactor → List ℕ → List ℕ → Type 0
 IsFree r text redaction = IsRedaction r text redaction × NoneOccurs r.patterns redaction
 
--- some of a text was read, and a beginning of its redaction was written
-pub record BeginsText (r : Redactor) (left left' held held' : Option (List ℕ)) : Type 0 where
+-- some of a text was read, and what is this for so much of it was written
+pub record BeginsWriting (Begins : List ℕ → Bool → List ℕ → Type 0) (left left' held held' : Option (List ℕ)) : Type 0 where
   pub given : List ℕ
   pub ended : Bool
   pub read : Consumes left left' given
   pub at_end : ended ≡ true → IsAtEnd left'
   pub part : List ℕ
-  pub begins : BeginsRedaction r given ended part
+  pub begins : Begins given ended part
   pub written : Appends held held' part
+
+-- a beginning of its redaction was
+abbrev pub BeginsText : Redactor → (left left' held held' : Option (List ℕ)) → Type 0
+BeginsText r left left' held held' = BeginsWriting (BeginsRedaction r) left left' held held'
 
 -- some of a text was read, and its redaction was written but for what lies in a match or may
 pub record ReachesText (r : Redactor) (left left' held held' : Option (List ℕ)) : Type 0 where
@@ -121,9 +125,7 @@ AreRedacted work (name ∷ names) left left' held held' = (between : Option (Lis
 
 -- and no pattern occurs in the redaction of any file
 abbrev pub AreFree : Work → List (List ℕ) → (left left' held held' : Option (List ℕ)) → Type 0
-AreFree work [] left left' held held' = (left' ≡ left) × Keeps held held'
-AreFree work (name ∷ names) left left' held held' = (between : Option (List ℕ)) × (meanwhile : Option (List ℕ))
-    × OfName work.holds name (λ l l'. WritesText (IsFree work.redactor) l l' held meanwhile) left between × AreFree work names between left' meanwhile held'
+AreFree work names left left' held held' = EachName (λ name l l' h h'. OfName work.holds name (λ given rest. WritesText (IsFree work.redactor) given rest h h') l l') names left left' held held'
 
 -- a file was not read to its end for this reason: a read failed, and a beginning of its redaction was written; of a cover all but for
 -- what lies in a match or may. Or the folder refuses it, and nothing was read or written
@@ -180,10 +182,6 @@ module _ {W : Type 0} (Writes : Writers W) where
     pub near : r.covers ≡ true → IfOk result (λ unread. IfSome unread (λ reason. ReachesText r left left' (output_bytes Writes output) (output_bytes Writes output')))
     pub reason : IfOk result (λ unread. IfSome unread IsReadReason)
     pub fails : FailsByOutput result output output'
-
-  -- whatever an opened file has left afterwards
-  abbrev pub OpenedOutcome : Redactor → Result (Option Reason) StreamError → Option (List ℕ) → (output output' : FromWrite W) → Type 0
-  OpenedOutcome r result left output output' = (rest : Option (List ℕ)) × TextOutcome r result left rest output output'
 
   module _ {R : Type 0} {Reads : Readers R} where
     -- what comes of an input

@@ -2,27 +2,23 @@
 use Rattle.std.specs.Prelude.{◌≡◌, ◌⊎◌, ℕ, ◌<◌, ◌≤◌, Bool, true, false, List, [], ◌∷◌, ◌++◌, Option, Some, None, IfSome, Result, Err, if◌then◌else◌, length, option_map, Vec}
 use Rattle.std.specs.Borrow.{Bor}
 use Rattle.std.specs.List.{AllZip, filter_map}
-use Rattle.std.specs.declared.io.traits.Read.{Ghosts as Readers}
-use Rattle.aho_devices.specs.declared.adapters.FromRead.{FromRead}
-use Rattle.acredact.specs.Pseudonyms.{pseudonym_rule}
 use Rattle.tool_parts.specs.Names.{is_input}
-use Rattle.tool_parts.specs.Streams.{bytes_left}
 use Rattle.tool_parts.specs.declared.failure.Failure.TheVariants.{OutOfMemory as NoMemory}
 use Rattle.tool_parts.specs.declared.reason.Reason.{Reason}
 use Rattle.tool_parts.specs.declared.reason.Reason.TheVariants.{OutOfMemory, ReadFault}
-use Rattle.acredact.specs.Arguments.{Given, all_given, has, last_value}
+use Rattle.acredact.specs.Pseudonyms.{pseudonym_rule}
+use Rattle.acredact.specs.Arguments.{Given, has, last_value}
 use Rattle.acredact.specs.Forms.{AskedForms, HideSecrets, forms_asked, with_forms}
 use Rattle.acredact.specs.LineFaults.{IsLineFault, IsListFault, mark_in}
 use Rattle.acredact.specs.Named.{all_named}
-use Rattle.acredact.specs.Parts.{AddsSome, GivesPattern}
+use Rattle.acredact.specs.Parts.{GivesPattern}
 use Rattle.acredact.specs.Reads.{OfName, ReadsText}
 use Rattle.acredact.specs.Tables.{HaveLines, HaveNoEmpty, HoldsBy, Secret, lines_in, secrets_of, stripped_by}
 use Rattle.acredact.specs.Values.{GiveEach, are_refused, first_fault, value_in_line, value_of_entry, whole_in}
-use Rattle.acredact.specs.declared.arguments.Item.{Item}
 use Rattle.acredact.specs.declared.arguments.Word.{Word}
-use Rattle.acredact.specs.declared.arguments.Word.TheVariants.{IgnoreCase, Pattern, Patterns, Table, Env, EnvFile, Whole, Pseudonym, Forms}
+use Rattle.acredact.specs.declared.arguments.Word.TheVariants.{Env, EnvFile, Forms, IgnoreCase, Pattern, Patterns, Pseudonym, Table, Whole}
 use Rattle.acredact.specs.declared.failure.Failure.{Failure}
-use Rattle.acredact.specs.declared.failure.Failure.TheVariants.{Pattern as BadPattern, Unread, Empty, NoValue, ShortKey, Line, Other}
+use Rattle.acredact.specs.declared.failure.Failure.TheVariants.{Empty, Line, NoValue, Other, Pattern as BadPattern, ShortKey, Unread}
 use Rattle.acredact.specs.declared.folder.Folder.{Ghosts as Folders}
 use Rattle.acredact.specs.declared.load.Listed.{Listed}
 use Rattle.acredact.specs.declared.load.Listed.TheVariants.{Plain, Rows, Variables, Whole as WholeFile}
@@ -174,43 +170,6 @@ loaded_in made = loaded_as made.rules.items (key_in made.key)
 -- no pattern of them is empty
 abbrev pub AreSome : Secrets → Type 0
 AreSome made = HaveNoEmpty (secrets_of made.rules.items)
-
--- these rules with a key
-abbrev pub LoadsByKey : List Item → List Rule → (key : List ℕ) → Secrets → Type 0
-LoadsByKey items rules key made = loaded_in made ≡ loaded_by (all_given items) (secrets_of rules) (Some key)
-
--- what a file holds, or what an option gives, is added, of the rules and of the input before and after
-abbrev pub AddsList : {F Z : Type 0} → Lists F → Listed → List ℕ → (rules rules' : Vec Rule Z) → Type 0
-AddsList lists listed text rules rules' = AddsSome (HoldsListed (rules_for lists) listed text) rules rules'
-
-module _ {F X R Z : Type 0} {Reads : Readers R} (D : Folders F X) (lists : Lists F) where
-  abbrev pub AddsFile : Listed → List ℕ → (rules rules' : Vec Rule Z) → (input input' : FromRead R Reads) → Type 0
-  AddsFile listed name rules rules' input input' =
-      AddsSome (λ more. GivesSecrets (reading_of_lists D lists) listed name more (bytes_left input) (bytes_left input')) rules rules'
-
-  abbrev pub AddsItem : Given → (rules rules' : Vec Rule Z) → (input input' : FromRead R Reads) → Type 0
-  AddsItem item rules rules' input input' =
-      AddsSome (λ more. OptionGives (reading_of_lists D lists) item.word item.value more (bytes_left input) (bytes_left input')) rules rules'
-
-  -- the rules hold what all options give
-  abbrev pub GivesRules : List Given → (rules : Vec Rule Z) → (input input' : FromRead R Reads) → Type 0
-  GivesRules given rules input input' = AreGiven (reading_of_lists D lists) given (secrets_of rules.items) (bytes_left input) (bytes_left input')
-
-  -- or just what stands there
-  abbrev pub ReadsRules : List Given → (rules : Vec Rule Z) → (input input' : FromRead R Reads) → Type 0
-  ReadsRules given rules input input' = AreRead (reading_of_lists D lists) given (secrets_of rules.items) (bytes_left input) (bytes_left input')
-
-  -- the key of this name was read, or that of the option
-  abbrev pub ReadsKey : List ℕ → (key : Option (Vec ℕ Z)) → (input input' : FromRead R Reads) → Type 0
-  ReadsKey name key input input' = GivesKey (reading_of_lists D lists) name (key_in key) (bytes_left input) (bytes_left input')
-
-  abbrev pub LoadsKey : List Given → (key : Option (Vec ℕ Z)) → (input input' : FromRead R Reads) → Type 0
-  LoadsKey given key input input' =
-      IsKeyGiven (reading_of_lists D lists) (last_value Pseudonym given) (key_in key) (bytes_left input) (bytes_left input')
-
-  -- the list of this name was read to its end
-  abbrev pub ReadsList : List ℕ → (text : Vec ℕ Z) → (input input' : FromRead R Reads) → Type 0
-  ReadsList name text input input' = OfName (D.holds lists.folder.now) name (ReadsText text.items) (bytes_left input) (bytes_left input')
 
 -- a text is not read to its end: a read fails, or memory runs out
 abbrev pub IsTextReason : Reason → Type 0

@@ -1,6 +1,6 @@
 -- What is read of the file of a name.
-use Rattle.std.specs.Prelude.{◌≡◌, ℕ, MatchBool, List, Option, Vec, map}
-use Rattle.std.specs.Io.KnownBytes.{Consumes, IsAtEnd}
+use Rattle.std.specs.Prelude.{◌≡◌, ℕ, MatchBool, List, [], ◌∷◌, Option, Vec, map}
+use Rattle.std.specs.Io.KnownBytes.{Consumes, IsAtEnd, Keeps}
 use Rattle.tool_parts.specs.Names.{is_input}
 
 -- the bytes of each of some texts
@@ -16,3 +16,9 @@ OfName holds name Reads left left' =
 pub record ReadsText (text : List ℕ) (left left' : Option (List ℕ)) : Type 0 where
   pub read : Consumes left left' text
   pub ended : IsAtEnd left'
+
+-- this comes of each file, one after another
+abbrev pub EachName : (Does : List ℕ → (left left' held held' : Option (List ℕ)) → Type 0) → List (List ℕ) → (left left' held held' : Option (List ℕ)) → Type 0
+EachName Does [] left left' held held' = (left' ≡ left) × Keeps held held'
+EachName Does (name ∷ names) left left' held held' = (between : Option (List ℕ)) × (meanwhile : Option (List ℕ))
+    × Does name left between held meanwhile × EachName Does names between left' meanwhile held'

@@ -1,8 +1,8 @@
 -- What a call with rules does: each line is redacted by what rules mark in it and patterns hold.
-use Rattle.std.specs.Prelude.{◌≡◌, ◌⊎◌, ℕ, Bool, true, false, List, [], ◌∷◌, ◌++◌, Option, None, Some, Result, Ok, Err, if◌then◌else◌, length, map, option_map, string_bytes, unwrap_or, Vec}
+use Rattle.std.specs.Prelude.{◌≡◌, ◌⊎◌, ℕ, Bool, true, false, List, [], ◌∷◌, ◌++◌, Option, None, Some, Result, Ok, Err, IfOk, if◌then◌else◌, length, map, option_map, string_bytes, unwrap_or, Vec}
 use Rattle.std.specs.Borrow.{Bor}
 use Rattle.std.specs.Io.{StartsWith}
-use Rattle.std.specs.Io.KnownBytes.{Appends, Consumes, IsAtEnd, Keeps}
+use Rattle.std.specs.Io.KnownBytes.{Keeps}
 use Rattle.std.specs.declared.io.traits.Read.{Ghosts as Readers}
 use Rattle.std.specs.declared.io.traits.Write.{Ghosts as Writers}
 use Rattle.aho_core.specs.Listing.{IsMember}
@@ -19,6 +19,7 @@ use Rattle.aho_devices.specs.declared.adapters.FromWrite.{FromWrite}
 use Rattle.aho_devices.specs.declared.device.Sink.{Ghosts as SinkGhosts}
 use Rattle.aho_devices.specs.declared.device.Source.{Ghosts as SourceGhosts}
 use Rattle.aho_stream.specs.Replacing.{MayBe}
+use Rattle.chromesquid.specs.Searcher.{IsBuiltFrom}
 use Rattle.tool_parts.specs.Names.{name_bytes}
 use Rattle.tool_parts.specs.Streams.{bytes_left, output_bytes}
 use Rattle.tool_parts.specs.Telling.{Tells, TellsSome}
@@ -37,12 +38,12 @@ use Rattle.secret_rules.specs.declared.rule.Rule.{Rule}
 use Rattle.acredact.specs.Arguments.{AsksForRules, Given, all_given, counts_asked, has, last_value}
 use Rattle.acredact.specs.Calls.{Call, IsUnreadLine, call_of, keyed_as, names_asked, pieces_asked, reading_by, text_asked}
 use Rattle.acredact.specs.Doubts.{TellsDoubts, all_doubt_lines}
-use Rattle.acredact.specs.Files.{WritesText}
+use Rattle.acredact.specs.Files.{BeginsWriting, WritesText}
 use Rattle.acredact.specs.LineRules.{AreRulesRead, most_asked}
 use Rattle.acredact.specs.LongLines.{TellsLong}
-use Rattle.acredact.specs.Loading.{AreGiven, IsKeyGiven, Reading, key_lent}
+use Rattle.acredact.specs.Loading.{AreGiven, IsKeyGiven, Reading, key_in, key_lent}
 use Rattle.acredact.specs.Named.{all_named}
-use Rattle.acredact.specs.Reads.{OfName}
+use Rattle.acredact.specs.Reads.{EachName, OfName}
 use Rattle.acredact.specs.RuleLines.{IsRuledLine, too_long_line}
 use Rattle.acredact.specs.RunCounts.{CountsTextRuns, CountsAllRuns, CountsFileRuns, HaveRuns, IsRunsLine, TellsAnyTotals, TellsRunTotals}
 use Rattle.acredact.specs.RunPieces.{mixed_rule, pseudonyms_by}
@@ -55,6 +56,9 @@ use Rattle.acredact.specs.declared.folder.Folder.{Ghosts as Folders}
 use Rattle.acredact.specs.declared.patterns.Rule.{Rule as PatternRule}
 use Rattle.acredact.specs.declared.ruled_failure.RuledFailure.{RuledFailure}
 use Rattle.acredact.specs.declared.ruled_files.Lined.{Lined}
+use Rattle.acredact.specs.declared.ruled_load.GivenRules.{GivenRules}
+use Rattle.acredact.specs.declared.ruled_load.KeyedRules.{KeyedRules}
+use Rattle.acredact.specs.declared.ruled_load.LinesReady.{LinesReady}
 use Rattle.acredact.specs.declared.streams.Streams.{Streams}
 use Rattle.acredact.specs.declared.summary.Volume.{Volume}
 
@@ -79,14 +83,8 @@ abbrev pub RedactsLines : Ruling → (left left' held held' : Option (List ℕ))
 RedactsLines ruling left left' held held' = WritesText (IsLinesRedaction ruling) left left' held held'
 
 -- some of a text was read, and a beginning of its redaction was written
-pub record BeginsLinesText (ruling : Ruling) (left left' held held' : Option (List ℕ)) : Type 0 where
-  pub given : List ℕ
-  pub ended : Bool
-  pub read : Consumes left left' given
-  pub at_end : ended ≡ true → IsAtEnd left'
-  pub part : List ℕ
-  pub begins : BeginsLinesRedaction ruling given ended part
-  pub written : Appends held held' part
+abbrev pub BeginsLinesText : Ruling → (left left' held held' : Option (List ℕ)) → Type 0
+BeginsLinesText ruling left left' held held' = BeginsWriting (BeginsLinesRedaction ruling) left left' held held'
 
 -- its redaction was written, or a beginning of it
 abbrev pub WritesLines : Ruling → (left left' held held' : Option (List ℕ)) → Type 0
@@ -132,15 +130,11 @@ pub record NamedOutcome (work : RuledWork) (name : List ℕ) (result : Result (O
 
 -- of each file the redaction was written, one after another
 abbrev pub AreRuled : RuledWork → List (List ℕ) → (left left' held held' : Option (List ℕ)) → Type 0
-AreRuled work [] left left' held held' = (left' ≡ left) × Keeps held held'
-AreRuled work (name ∷ names) left left' held held' = (between : Option (List ℕ)) × (meanwhile : Option (List ℕ))
-    × RedactsRuled work name left between held meanwhile × AreRuled work names between left' meanwhile held'
+AreRuled work names left left' held held' = EachName (RedactsRuled work) names left left' held held'
 
 -- or a beginning of it, of some perhaps nothing
 abbrev pub AreBegun : RuledWork → List (List ℕ) → (left left' held held' : Option (List ℕ)) → Type 0
-AreBegun work [] left left' held held' = (left' ≡ left) × Keeps held held'
-AreBegun work (name ∷ names) left left' held held' = (between : Option (List ℕ)) × (meanwhile : Option (List ℕ))
-    × WritesRuled work name left between held meanwhile × AreBegun work names between left' meanwhile held'
+AreBegun work names left left' held held' = EachName (WritesRuled work) names left left' held held'
 
 -- by these words, rules, lengths and patterns, with these pieces
 abbrev pub ruling_as : Bool → List Rule → ℕ → PieceRule → Patterns → Ruling
@@ -207,12 +201,38 @@ pub record AreRuledLoaded (reading : Reading) (given : List Given) (load : Ruled
   pub key_given : IsKeyGiven reading (last_value Pseudonym given) load.key between left'
   pub named : load.secrets ≡ secrets_by given load.key secrets
 
+abbrev pub load_as : List Secret → List Rule → Option (List ℕ) → RuledLoad
+load_as secrets rules key = record { secrets = secrets; rules = rules; key = key }
+
 abbrev pub ruled_load : List PatternRule → List Rule → Option (Bor (List ℕ)) → RuledLoad
-ruled_load secrets rules key = record { secrets = secrets_of secrets; rules = rules; key = key_lent key }
+ruled_load secrets rules key = load_as (secrets_of secrets) rules (key_lent key)
+
+-- these patterns and rules with a key, and with one that may name them
+abbrev pub load_in : KeyedRules → RuledLoad
+load_in made = load_as (secrets_of made.given.secrets.items) made.given.rules (key_in made.key)
+
+abbrev pub IsKeyedBy : List Item → GivenRules → Option (List ℕ) → KeyedRules → Type 0
+IsKeyedBy items rules key made = load_in made ≡ load_as (secrets_by (all_given items) key (secrets_of rules.secrets.items)) rules.rules key
+
+-- those that some arguments ask for were read, and the key beside them
+module _ {F X : Type 0} (D : Folders F X) (folder : F) (items : List Item) where
+  abbrev pub AreRulesGivenBy : (left left' : Option (List ℕ)) → GivenRules → Type 0
+  AreRulesGivenBy left left' made = AreRulesGiven (reading_by (call_of D folder (all_given items))) (all_given items) (secrets_of made.secrets.items) made.rules left left'
+
+  abbrev pub AreRulesKeyedBy : (left left' : Option (List ℕ)) → KeyedRules → Type 0
+  AreRulesKeyedBy left left' made = AreRuledLoaded (reading_by (call_of D folder (all_given items))) (all_given items) (load_in made) left left'
+
+  abbrev pub KeysRules : GivenRules → Result KeyedRules RuledFailure → (left left' : Option (List ℕ)) → Type 0
+  KeysRules rules result left left' = (first : Option (List ℕ)) → AreRulesGivenBy first left rules → IfOk result (AreRulesKeyedBy first left')
 
 -- the patterns that are searched for: all that occurs counts
 abbrev pub patterns_by_case : List Given → List (List ℕ) → Patterns
 patterns_by_case given words = record { words = words; kind = Standard; ignore_case = has IgnoreCase given }
+
+-- what searches for those of these secrets is ready, and the names of the files
+pub record IsReadyForLines (given : List Given) (secrets : List Secret) (ready : LinesReady) : Type 0 where
+  pub of : IsBuiltFrom ready.searcher (patterns_by_case given (patterns_in secrets))
+  pub names : name_bytes ready.names.items ≡ names_asked given
 
 -- what is written for a rule: its own text, or the usual one
 abbrev pub own_text : (usual : List ℕ) → Rule → List ℕ
@@ -343,13 +363,6 @@ module _ {E : Type 0} (K : SinkGhosts E) where
     pub tells : TellsRuled call result errors errors'
     pub notes : result ≡ Ok true → NumbersOf call load left left' errors errors'
 
-  -- the same behind what is told of doubtful patterns
-  pub record DoubtedRuled (call : Call) (load : RuledLoad) (result : Result Bool RuledFailure) (left left' held held' : Option (List ℕ)) (errors errors' : Errors E) : Type 0 where
-    pub whole : result ≡ Ok true → AreRuled (ruled_by call load) (names_asked call.given) left left' held held'
-    pub begun : AreBegun (ruled_by call load) (names_asked call.given) left left' held held'
-    pub tells : TellsRuled call result errors errors'
-    pub notes : result ≡ Ok true → NotesOf call load left left' errors errors'
-
   -- and of the whole call
   pub record RuledCall (call : Call) (result : Result Bool RuledFailure) (left left' held held' : Option (List ℕ)) (errors errors' : Errors E) : Type 0 where
     pub whole : result ≡ Ok true → RedactsByRules call left left' held held'
@@ -364,13 +377,8 @@ module _ {E : Type 0} (K : SinkGhosts E) where
     pub tells : status ≡ 2 → TellsSome K (IsRuledTold call) errors errors'
     pub notes : status ≡ 0 → NotesByRules call left left' errors errors'
 
--- whatever an opened file has left afterwards
-abbrev pub OpenedDone : {W : Type 0} → Writers W → Result (Option Reason) LineError → (counts counts' : List ℕ) → (left : Option (List ℕ)) → (output output' : FromWrite W) → Ruling → Type 0
-OpenedDone Writes result counts counts' left output output' ruling =
-    (rest : Option (List ℕ)) × LinesOutcome ruling result counts counts' left rest (output_bytes Writes output) (output_bytes Writes output')
-
 module _ {R : Type 0} {Reads : Readers R} {W : Type 0} (Writes : Writers W) where
-  -- what comes of an input, of an opened file, and of the file of a name
+  -- what comes of an input, and of the file of a name
   abbrev pub LinesDone : Result (Option Reason) LineError → (counts counts' : List ℕ) → (input input' : FromRead R Reads) → (output output' : FromWrite W) → Ruling → Type 0
   LinesDone result counts counts' input input' output output' ruling =
       LinesOutcome ruling result counts counts' (bytes_left input) (bytes_left input') (output_bytes Writes output) (output_bytes Writes output')
@@ -400,27 +408,9 @@ module _ {R : Type 0} {Reads : Readers R} {W E : Type 0} (Writes : Writers W) wh
     LoadedRuled D folder items secrets rules key result streams streams' =
         Between (RuledOutcome K (call_of D folder (all_given items)) (ruled_load secrets rules key) result) streams streams'
 
-    -- where doubtful ones are to be told
-    abbrev pub UndoubtedRuled : {F X : Type 0} → Folders F X → F → List Item → List PatternRule → List Rule → Option (Bor (List ℕ)) → Result Bool RuledFailure → (streams streams' : Streams R W E Reads) → Type 0
-    UndoubtedRuled D folder items secrets rules key result streams streams' =
-        Between (DoubtedRuled K (call_of D folder (all_given items)) (ruled_load secrets rules key) result) streams streams'
-
-    -- of patterns that were loaded, where the rules are to be
-    abbrev pub UnruledOutcome : {F X : Type 0} → Folders F X → F → List Given → List PatternRule → Result Bool RuledFailure → (streams streams' : Streams R W E Reads) → Type 0
-    UnruledOutcome D folder given secrets result streams streams' = (left : Option (List ℕ))
-        → AreGiven (reading_by (call_of D folder given)) given (secrets_of secrets) left (bytes_left streams.input)
-        → RuledCall K (call_of D folder given) result left (bytes_left streams'.input) (output_bytes Writes streams.output) (output_bytes Writes streams'.output) streams.errors streams'.errors
-
-    -- of rules too, where the key is to be, or was read
-    abbrev pub KeylessRuled : {F X : Type 0} → Folders F X → F → List Item → List PatternRule → List Rule → Result Bool RuledFailure → (streams streams' : Streams R W E Reads) → Type 0
-    KeylessRuled D folder items secrets rules result streams streams' = (left : Option (List ℕ))
-        → AreRulesGiven (reading_by (call_of D folder (all_given items))) (all_given items) (secrets_of secrets) rules left (bytes_left streams.input)
-        → RuledCall K (call_of D folder (all_given items)) result left (bytes_left streams'.input) (output_bytes Writes streams.output) (output_bytes Writes streams'.output) streams.errors streams'.errors
-
-    abbrev pub KeyedRuled : {F X : Type 0} → Folders F X → F → List Item → List PatternRule → List Rule → (key : List ℕ) → Result Bool RuledFailure → (streams streams' : Streams R W E Reads) → Type 0
-    KeyedRuled D folder items secrets rules key result streams streams' = (left between : Option (List ℕ))
-        → AreRulesGiven (reading_by (call_of D folder (all_given items))) (all_given items) (secrets_of secrets) rules left between
-        → IsKeyGiven (reading_by (call_of D folder (all_given items))) (last_value Pseudonym (all_given items)) (Some key) between (bytes_left streams.input)
+    -- and before that, where doubtful ones are to be told
+    abbrev pub KeyedRuled : {F X : Type 0} → Folders F X → F → List Item → KeyedRules → Result Bool RuledFailure → (streams streams' : Streams R W E Reads) → Type 0
+    KeyedRuled D folder items made result streams streams' = (left : Option (List ℕ)) → AreRulesKeyedBy D folder items left (bytes_left streams.input) made
         → RuledCall K (call_of D folder (all_given items)) result left (bytes_left streams'.input) (output_bytes Writes streams.output) (output_bytes Writes streams'.output) streams.errors streams'.errors
 
     -- and of what these options ask for

@@ -32,11 +32,10 @@ use Rattle.acredact.specs.Calls.{Call, IsUnreadLine, call_of, names_asked, readi
 use Rattle.acredact.specs.Counts.{counted_more}
 use Rattle.acredact.specs.Doubts.{TellsDoubts}
 use Rattle.acredact.specs.LineRules.{most_asked}
-use Rattle.acredact.specs.Loading.{AreGiven}
 use Rattle.rule_files.specs.Messages.{as_shown}
-use Rattle.acredact.specs.Reads.{OfName, ReadsText}
+use Rattle.acredact.specs.Reads.{EachName, OfName, ReadsText}
 use Rattle.rule_files.specs.Flaws.{name_or_number}
-use Rattle.acredact.specs.Ruled.{AreRulesGiven, Between, IsRuledTold, ruling_by}
+use Rattle.acredact.specs.Ruled.{AreRulesGiven, AreRulesGivenBy, Between, IsRuledTold, ruling_by}
 use Rattle.acredact.specs.Sums.{counts_for}
 use Rattle.acredact.specs.Tables.{Secret, secrets_of}
 use Rattle.acredact.specs.declared.arguments.Word.TheVariants.{Summary}
@@ -50,6 +49,7 @@ use Rattle.acredact.specs.declared.look.Look.TheVariants.{Clean, Found, Unread}
 use Rattle.acredact.specs.declared.look.Verdict.{Verdict}
 use Rattle.acredact.specs.declared.patterns.Rule.{Rule as PatternRule}
 use Rattle.acredact.specs.declared.ruled_failure.RuledFailure.{RuledFailure}
+use Rattle.acredact.specs.declared.ruled_load.GivenRules.{GivenRules}
 use Rattle.acredact.specs.declared.streams.Streams.{Streams}
 
 -- what the numbers of runs stand for: patterns, rules behind them, and behind these lines with more bytes
@@ -230,9 +230,7 @@ pub record SeesAllLines (quest : LineQuest) (names : List (List ℕ)) (found : B
 
 -- of each a beginning, perhaps nothing
 abbrev pub BeginAllTelling : LineQuest → List (List ℕ) → (left left' held held' : Option (List ℕ)) → Type 0
-BeginAllTelling quest [] left left' held held' = (left' ≡ left) × Keeps held held'
-BeginAllTelling quest (name ∷ names) left left' held held' = (between : Option (List ℕ)) × (meanwhile : Option (List ℕ))
-    × BeginsNamedTelling quest name left between held meanwhile × BeginAllTelling quest names between left' meanwhile held'
+BeginAllTelling quest names left left' held held' = EachName (BeginsNamedTelling quest) names left left' held held'
 
 -- what the end of the lines means for a file: one that cannot be read is told, and anything else ends the call
 abbrev pub look_of_lines : Result Bool LineError → Result Look LineError
@@ -358,13 +356,6 @@ module _ {E : Type 0} (K : SinkGhosts E) where
     pub tells : TellsRuledCheck call result errors errors'
     pub quiet : IfOk result (λ verdict. verdict.all ≡ true → errors' ≡ errors)
 
-  -- the same behind what is told of doubtful patterns
-  pub record DoubtedCheck (call : Call) (load : CheckLoad) (result : Result Verdict RuledFailure) (left left' held held' : Option (List ℕ)) (errors errors' : Errors E) : Type 0 where
-    pub whole : IfOk result (λ verdict. verdict.all ≡ true → SeesLoaded call verdict.found left left' held held' load)
-    pub begun : BeginsLoadedCheck call left left' held held' load
-    pub tells : TellsRuledCheck call result errors errors'
-    pub quiet : IfOk result (λ verdict. verdict.all ≡ true → TellsDoubts K false call.given load.secrets errors errors')
-
   -- nothing was told but of the patterns of the lists that were loaded
   pub record TellsListsBeside (call : Call) (left : Option (List ℕ)) (errors errors' : Errors E) : Type 0 where
     pub load : CheckLoad
@@ -438,11 +429,6 @@ pub record SaysLines {R W : Type 0} (S : SourceGhosts R) (K : SinkGhosts W) (fin
   pub begun : BeginsGiven S K findings source source' output output' covering
 
 module _ {W : Type 0} (K : SinkGhosts W) where
-  -- whatever an opened file has left afterwards
-  abbrev pub LookedOpened : Findings → Result Look LineError → Option (List ℕ) → (output output' : W) → Covering → Type 0
-  LookedOpened findings result left output output' covering =
-      (rest : Option (List ℕ)) × LookedText covering (labels_of findings.legend) findings.name.now result left rest (K.taken output) (K.taken output')
-
   module _ {R : Type 0} {Reads : Readers R} where
     -- what comes of an input, and of the file of a name
     abbrev pub LookedInput : Findings → Result Look LineError → (input input' : FromRead R Reads) → (output output' : W) → Covering → Type 0
@@ -476,16 +462,10 @@ module _ {R : Type 0} {Reads : Readers R} {W E : Type 0} (Writes : Writers W) (K
   LoadedCheck D folder items secrets rules result streams streams' =
       Between Writes (CheckedLines K (call_of D folder (all_given items)) (check_load secrets rules) result) streams streams'
 
-  -- where doubtful ones are to be told
-  abbrev pub UndoubtedCheck : {F X : Type 0} → Folders F X → F → List Item → List PatternRule → List Rule → Result Verdict RuledFailure → (streams streams' : Streams R W E Reads) → Type 0
-  UndoubtedCheck D folder items secrets rules result streams streams' =
-      Between Writes (DoubtedCheck K (call_of D folder (all_given items)) (check_load secrets rules) result) streams streams'
-
-  -- of patterns that were loaded, where the rules are to be
-  abbrev pub UnruledCheck : {F X : Type 0} → Folders F X → F → List Given → List PatternRule → Result Verdict RuledFailure → (streams streams' : Streams R W E Reads) → Type 0
-  UnruledCheck D folder given secrets result streams streams' = (left : Option (List ℕ))
-      → AreGiven (reading_by (call_of D folder given)) given (secrets_of secrets) left (bytes_left streams.input)
-      → RuledCheck K (call_of D folder given) result left (bytes_left streams'.input) (output_bytes Writes streams.output) (output_bytes Writes streams'.output) streams.errors streams'.errors
+  -- and before that, where doubtful ones are to be told
+  abbrev pub GivenCheck : {F X : Type 0} → Folders F X → F → List Item → GivenRules → Result Verdict RuledFailure → (streams streams' : Streams R W E Reads) → Type 0
+  GivenCheck D folder items made result streams streams' = (left : Option (List ℕ)) → AreRulesGivenBy D folder items left (bytes_left streams.input) made
+      → RuledCheck K (call_of D folder (all_given items)) result left (bytes_left streams'.input) (output_bytes Writes streams.output) (output_bytes Writes streams'.output) streams.errors streams'.errors
 
   -- and of what these options ask for
   abbrev pub AskedCheck : {F X : Type 0} → Folders F X → F → List Given → Result Verdict RuledFailure → (streams streams' : Streams R W E Reads) → Type 0

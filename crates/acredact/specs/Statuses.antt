@@ -7,6 +7,9 @@ use Rattle.tool_parts.specs.Streams.{bytes_left}
 use Rattle.tool_parts.specs.Telling.{TellsSome}
 use Rattle.acredact.specs.Arguments.{AsksToRedact, Given, GivesNoPattern, RefusesUnclean, counts_asked}
 use Rattle.acredact.specs.Calls.{BeginsCall, Call, CountsCall, IsLineOf, LeavesNone, OutputFails, RedactsCall, TellsUpToEnd, WarnsCall, call_of}
+use Rattle.acredact.specs.Checks.{SaysOfCheck}
+use Rattle.acredact.specs.Ruled.{SaysOfRules}
+use Rattle.acredact.specs.RuledChecks.{SaysOfRulesCheck}
 use Rattle.acredact.specs.declared.folder.Folder.{Ghosts as Folders}
 use Rattle.acredact.specs.declared.look.Verdict.{Verdict}
 use Rattle.acredact.specs.declared.streams.Streams.{Streams}
@@ -35,3 +38,10 @@ pub record CallStatus {R W E : Type 0} {Reads : Readers R} (Writes : Writers W) 
 -- the same of a call that asks for a redaction
 abbrev pub SaysOfRedaction : {R W E F X : Type 0} {Reads : Readers R} → Writers W → SinkGhosts E → Folders F X → F → List Given → ℕ → (streams streams' : Streams R W E Reads) → Type 0
 SaysOfRedaction Writes K D folder given status streams streams' = AsksToRedact given → CallStatus Writes K (call_of D folder given) status streams streams'
+
+-- what the status says of these options and files, whatever they ask for
+pub record SaysOfCall {R W E F X : Type 0} {Reads : Readers R} (Writes : Writers W) (K : SinkGhosts E) (D : Folders F X) (folder : F) (given : List Given) (status : ℕ) (streams streams' : Streams R W E Reads) : Type 0 where
+  pub redacted : SaysOfRedaction Writes K D folder given status streams streams'
+  pub checked : SaysOfCheck K D folder given status streams streams'
+  pub ruled : SaysOfRules Writes K D folder given status streams streams'
+  pub ruled_check : SaysOfRulesCheck Writes K D folder given status streams streams'

@@ -63,10 +63,6 @@ module _ (left left' : Option (List ℕ)) (counts counts' : List ℕ) where
   abbrev pub CountsOfNames : Work → List (List ℕ) → Type 0
   CountsOfNames work names = (ranges : List Occurrence) × NamesHaveRanges work names ranges left left' × CountsThese ranges counts counts'
 
--- whatever an opened file has left afterwards
-abbrev pub CountsOpened : Option (List ℕ) → (counts counts' : List ℕ) → Redactor → Type 0
-CountsOpened left counts counts' r = (rest : Option (List ℕ)) × CountsOfText left rest counts counts' r
-
 -- what an automaton counts in a stream that it covers or not, where that has ended
 abbrev pub CountsBy : {A R : Type 0} → Ghosts A → SourceGhosts R → A → (covers words : Bool) → List (Bor (List ℕ)) → Result (Unit {0}) StreamError
     → (source source' : R) → (counts counts' : List ℕ) → Type 0
@@ -94,8 +90,3 @@ module _ {R : Type 0} {Reads : Readers R} where
       -- by these patterns
       abbrev pub JobCounts : Result Bool Z → (streams streams' : Streams R W E Reads) → (counts counts' : List ℕ) → Patterns → Type 0
       JobCounts result streams streams' counts counts' p = CountsJob result streams streams' counts counts' (redactor_of job p)
-
-  -- the same of some work
-  abbrev pub CountsWork : {W E Z : Type 0} → Work → Result Bool Z → (streams streams' : Streams R W E Reads) → (counts counts' : List ℕ) → Type 0
-  CountsWork work result streams streams' counts counts' =
-      result ≡ Ok true → CountsOfNames (bytes_left streams.input) (bytes_left streams'.input) counts counts' work work.names

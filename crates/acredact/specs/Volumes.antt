@@ -26,10 +26,6 @@ pub record AddsBytes (bytes bytes' : ℕ) (left left' : Option (List ℕ)) : Typ
   pub reads : ReadsText text left left'
   pub added : is_some left ≡ true → bytes' ≡ min (bytes + length text) (2 ^ 64 - 1)
 
--- whatever an opened file has left afterwards
-abbrev pub AddsOpened : (bytes bytes' : ℕ) → Option (List ℕ) → Type 0
-AddsOpened bytes bytes' left = (rest : Option (List ℕ)) × AddsBytes bytes bytes' left rest
-
 module _ (holds : List ℕ → Option (List ℕ)) where
   -- of the file of a name
   abbrev pub AddsName : List ℕ → (bytes bytes' : ℕ) → (left left' : Option (List ℕ)) → Type 0

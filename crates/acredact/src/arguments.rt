@@ -464,15 +464,15 @@ fn read_letter<'a>(items: &mut Vec<Item<'a>>, letters: &'a str) -> Result<Expect
 fn take_value<'a>(
     items: &mut Vec<Item<'a>>,
     word: Word,
-    behind: &'a str,
+    rest: &'a str,
 ) -> Result<Expects, Mistake<'a>>
-    ensures read { ReadsAs (by_taken word behind.now) items.old items.new result }
+    ensures read { ReadsAs (by_taken word rest.now) items.old items.new result }
     ensures memory { IfErr result (λ mistake. mistake ≡ Mistake.OutOfMemory) }
 {
-    if behind.is_empty() {
+    if rest.is_empty() {
         return Ok(Expects::Value(word));
     }
-    add(items, word, behind)?;
+    add(items, word, rest)?;
     Ok(Expects::Any)
 }
 

@@ -6,7 +6,7 @@ ghost use Rattle.aho_backward.specs.Searcher.{IsBackwardOf};
 ghost use Rattle.acredact.specs.Back.{BackStream};
 
 use crate::ways::{Replacing, Way};
-use aho_backward::backward::Backward;
+use chromesquid::any::Backward;
 use chromesquid::{Automaton, Sink, Source, StreamError};
 use std::alloc::Global;
 

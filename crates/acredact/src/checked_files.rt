@@ -2,10 +2,10 @@
 
 ghost use Rattle.std.specs.Prelude.{◌≡◌, OnOk, true};
 ghost use Rattle.secret_rules.specs.Ready.{CanCoverLines};
-ghost use Rattle.acredact.specs.RuledChecks.{IfCovers, IsAtFirst, LookedFile, LookedInput, LookedOpened, SeesFile, SeesFiles, StaysCovered, SaysLines, found_of, look_of_lines, verdict_seen};
+ghost use Rattle.acredact.specs.RuledChecks.{IfCovers, IsAtFirst, LookedFile, LookedInput, SeesFile, SeesFiles, StaysCovered, SaysLines, found_of, look_of_lines, verdict_seen};
 
 use crate::failure::{tell_output, tell_unread};
-use crate::files::is_input;
+use crate::files::{is_input, opened};
 use crate::findings::Findings;
 use crate::folder::Folder;
 use crate::legend::Legend;
@@ -51,24 +51,6 @@ pub fn check_files<A: Automaton, F: Folder, I: Read, W: Sink, E: Sink>(
         names.now result input.old input.new output.old output.new errors.old errors.new) }
     ensures flushed { OnOk result (W.flushed output.new ≡ true) }
 {
-    let verdict = check_each(cover, checked, names, input, output, errors)?;
-    output.flush()?;
-    Ok(verdict)
-}
-
-/// Looks at each file.
-fn check_each<A: Automaton, F: Folder, I: Read, W: Sink, E: Sink>(
-    cover: &mut LineCover<'_, '_, A>,
-    checked: &Checked<'_, '_, '_, F>,
-    names: &[&str],
-    input: &mut FromRead<I>,
-    output: &mut W,
-    errors: &mut Errors<'_, E>,
-) -> Result<Verdict, LineError>
-    requires ready { CanCoverLines A.Automaton cover.old }
-    ensures sees { IfCovers A.Automaton cover.old (SeesFiles W.Sink E.Sink F.Folder checked.now
-        names.now result input.old input.new output.old output.new errors.old errors.new) }
-{
     let mut verdict = Verdict {
         found: false,
         all: true,
@@ -79,6 +61,7 @@ fn check_each<A: Automaton, F: Folder, I: Read, W: Sink, E: Sink>(
         verdict = verdict_seen(verdict, seen);
         rest = &rest[1..];
     }
+    output.flush()?;
     Ok(verdict)
 }
 
@@ -123,25 +106,6 @@ fn check_told<A: Automaton, F: Folder, I: Read, W: Sink, E: Sink>(
         tell_output(errors, name);
         return Ok(None);
     }
-    check_apart(cover, checked, name, input, output, errors)
-}
-
-/// Looks at a file that the output does not go to, and answers whether something was found, if it was read to its end. One that was not is
-/// told.
-fn check_apart<A: Automaton, F: Folder, I: Read, W: Sink, E: Sink>(
-    cover: &mut LineCover<'_, '_, A>,
-    checked: &Checked<'_, '_, '_, F>,
-    name: &str,
-    input: &mut FromRead<I>,
-    output: &mut W,
-    errors: &mut Errors<'_, E>,
-) -> Result<Option<bool>, LineError>
-    requires ready { CanCoverLines A.Automaton cover.old }
-    ensures sees { IfCovers A.Automaton cover.old (SeesFile W.Sink E.Sink F.Folder checked.now
-        name.now result input.old input.new output.old output.new errors.old errors.new) }
-    ensures still { StaysCovered A.Automaton cover.old cover.new }
-    ensures ready { CanCoverLines A.Automaton cover.new }
-{
     match check_file(cover, checked, name, input, output)? {
         Look::Clean => Ok(Some(false)),
         Look::Found => Ok(Some(true)),
@@ -176,28 +140,13 @@ fn check_file<A: Automaton, F: Folder, I: Read, W: Sink>(
     if is_input(name) {
         return check_input(cover, findings, input, output);
     }
-    match checked.folder.open(name) {
-        Ok(file) => check_opened(cover, findings, file, output),
+    match opened(checked.folder, name) {
+        Ok(source) => {
+            let mut source = source;
+            check_input(cover, findings, &mut source, output)
+        }
         Err(reason) => Ok(Look::Unread(reason)),
     }
-}
-
-/// Looks at what a reader gives.
-fn check_opened<A: Automaton, I: Read + Drop, W: Sink>(
-    cover: &mut LineCover<'_, '_, A>,
-    findings: Findings<'_, '_, '_>,
-    reader: I,
-    output: &mut W,
-) -> Result<Look, LineError>
-    requires ready { CanCoverLines A.Automaton cover.old }
-    requires fresh { IsAtFirst findings }
-    ensures looked { IfCovers A.Automaton cover.old (LookedOpened W.Sink findings.entry
-        result (I.remaining reader) output.old output.new) }
-    ensures still { StaysCovered A.Automaton cover.old cover.new }
-    ensures ready { CanCoverLines A.Automaton cover.new }
-{
-    let mut source = FromRead::new(reader);
-    check_input(cover, findings, &mut source, output)
 }
 
 /// Looks at what the input gives.

@@ -1,7 +1,7 @@
 //! Lines of lists that may be meant otherwise than they stand there: with a blank at an end, or with quotes around them; and patterns
 //! that are too short for forms.
 
-ghost use Rattle.std.specs.Prelude.{◌≡◌, IfErr, None, OnErr, OnOk, true};
+ghost use Rattle.std.specs.Prelude.{◌≡◌, IfErr, None, OnErr, OnOk, false, true};
 ghost use Rattle.std.specs.List.{concat};
 ghost use Rattle.tool_parts.specs.Telling.{TellsBytes};
 ghost use Rattle.acredact.specs.Doubts.{AreUndoubted, IsDoubtFailure, RefusesDoubt, RefusesFirstDoubt, TellsDoubts, list_doubt_lines, doubt_in, doubt_lines, doubt_of, is_blank, is_quote, list_name};
@@ -31,9 +31,16 @@ pub fn warn_of_lists<'a, E: Sink>(
     if strict {
         return refuse_all(given, rules);
     }
+    tell_of_lists(errors, given, rules);
+    Ok(())
+}
+
+/// Tells of each pattern of a list that is doubtful, and of each that is too short for forms.
+pub fn tell_of_lists<E: Sink>(errors: &mut Errors<'_, E>, given: &[Item<'_>], rules: &[Rule])
+    ensures told { TellsDoubts E.Sink false (all_given given.now) (secrets_of rules.now) errors.old errors.new }
+{
     tell_doubtful(errors, given, rules);
     tell_short_asked(errors, given, rules);
-    Ok(())
 }
 
 /// Refuses the first pattern of a list that is doubtful, and then the first that is too short for forms.

@@ -1,19 +1,20 @@
 //! The redaction of files, one after another.
 
-ghost use Rattle.std.specs.Prelude.{◌≡◌, ◌&&◌, None, Ok, Option, OnOk, Some, false, true};
+ghost use Rattle.std.specs.Prelude.{◌≡◌, ◌&&◌, IfErr, IfOk, None, Ok, Option, OnOk, Some, false, true};
+ghost use Rattle.std.specs.Io.KnownBytes.{Keeps};
 ghost use Rattle.aho_core.specs.Patterns.{Patterns};
 ghost use Rattle.aho_backward.specs.Searcher.{IsBackwardOf};
 ghost use Rattle.aho_devices.specs.Counts.{counted};
 ghost use Rattle.tool_parts.specs.Names.{is_input};
 ghost use Rattle.tool_parts.specs.Streams.{bytes_left};
 ghost use Rattle.acredact.specs.Back.{BackCounts, BackOutcome};
-ghost use Rattle.acredact.specs.Bounds.{JobNumbers, NumbersGiven, NumbersOfFile, NumbersOfInput, NumbersOpened, NumbersTold};
+ghost use Rattle.acredact.specs.Bounds.{JobNumbers, NumbersGiven, NumbersOfFile, NumbersOfInput, NumbersTold};
 ghost use Rattle.acredact.specs.Faults.{is_unread, reading_of};
-ghost use Rattle.acredact.specs.Files.{CanDo, FileJob, FilesOutcome, InputOutcome, JobOutcome, OpenedOutcome, ToldJob, work_of};
+ghost use Rattle.acredact.specs.Files.{CanDo, FileJob, FilesOutcome, InputOutcome, JobOutcome, ToldJob, work_of};
 ghost use Rattle.acredact.specs.Secrets.{IfOf, Redactor};
-ghost use Rattle.acredact.specs.Totals.{CountsFile, CountsJob, CountsOfStream, CountsOfText, CountsOpened, CountsTold, JobCounts};
+ghost use Rattle.acredact.specs.Totals.{CountsFile, CountsJob, CountsOfStream, CountsOfText, CountsTold, JobCounts};
 ghost use Rattle.acredact.specs.Streams.{StreamOutcome};
-ghost use Rattle.acredact.specs.Volumes.{AddsFile, AddsOpened, AddsText, AddsStream, FileVolume, JobVolume, files_with};
+ghost use Rattle.acredact.specs.Volumes.{AddsFile, AddsText, AddsStream, FileVolume, JobVolume, files_with};
 ghost use Rattle.acredact.specs.Ways.{IfBy, Redacts};
 
 use crate::back::Backing;
@@ -24,8 +25,7 @@ use crate::pseudonym::Pseudonyms;
 use crate::streams::Streams;
 use crate::summary::Volume;
 use crate::ways::{Covering, Key, Naming, Replacing, Way};
-use aho_backward::backward::Backward;
-use chromesquid::any::StreamCoverStart;
+use chromesquid::any::{Backward, StreamCoverStart};
 use chromesquid::{Automaton, FromRead, FromWrite, Sink, Source, StreamError};
 use std::alloc::Global;
 use std::io::{Read, Write};
@@ -222,7 +222,7 @@ pub fn back_files<A: Automaton, B: Automaton, F: Folder, I: Read, W: Write, E: S
     redact_flushed(&mut way, job, counts, volume, streams)
 }
 
-/// Redacts each file in a way, and flushes.
+/// Redacts each file in a way, flushes, and answers whether all were read to their ends.
 fn redact_flushed<X: Way, F: Folder, I: Read, W: Write, E: Sink>(
     way: &mut X,
     job: &Job<'_, '_, F>,
@@ -240,28 +240,6 @@ fn redact_flushed<X: Way, F: Folder, I: Read, W: Write, E: Sink>(
         volume.old volume.new streams.old streams.new) }
     ensures flushed { OnOk result (streams.new.output.device.flushed ≡ true) }
 {
-    let all = redact_each(way, job, counts, volume, streams)?;
-    streams.output.flush()?;
-    Ok(all)
-}
-
-/// Redacts each file, and answers whether all were read to their ends.
-fn redact_each<X: Way, F: Folder, I: Read, W: Write, E: Sink>(
-    way: &mut X,
-    job: &Job<'_, '_, F>,
-    counts: &mut [u64],
-    volume: &mut Volume,
-    streams: &mut Streams<'_, I, W, E>,
-) -> Result<bool, StreamError>
-    requires ready { (r : Redactor) × Redacts X.Way way.old r }
-    ensures outcome { IfBy X.Way way.old (λ r. FilesOutcome W.Write E.Sink
-        (work_of F.Folder job.now r) result streams.old streams.new) }
-    ensures counted { IfBy X.Way way.old (CountsJob F.Folder job.now
-        result streams.old streams.new counts.old counts.new) }
-    ensures read { JobVolume F.Folder job.now result volume.old volume.new streams.old streams.new }
-    ensures most { OnOk result (JobNumbers F.Folder job.now counts.old counts.new
-        volume.old volume.new streams.old streams.new) }
-{
     let mut all = true;
     let mut rest = job.names;
     while !rest.is_empty() {
@@ -270,6 +248,7 @@ fn redact_each<X: Way, F: Folder, I: Read, W: Write, E: Sink>(
         all = both(all, whole);
         rest = &rest[1..];
     }
+    streams.output.flush()?;
     Ok(all)
 }
 
@@ -305,30 +284,6 @@ fn redact_told<X: Way, F: Folder, I: Read, W: Write, E: Sink>(
         tell_output(&mut streams.errors, name);
         return Ok(false);
     }
-    redact_apart(way, job, name, counts, volume, streams)
-}
-
-/// Redacts a file that the output does not go to, and answers whether it was read to its end. One that was not is told.
-fn redact_apart<X: Way, F: Folder, I: Read, W: Write, E: Sink>(
-    way: &mut X,
-    job: &Job<'_, '_, F>,
-    name: &str,
-    counts: &mut [u64],
-    volume: &mut Volume,
-    streams: &mut Streams<'_, I, W, E>,
-) -> Result<bool, StreamError>
-    requires ready { (r : Redactor) × Redacts X.Way way.old r }
-    requires apart { F.meets job.now.folder.now name.now false }
-    ensures outcome { IfBy X.Way way.old (ToldJob W.Write E.Sink F.Folder job.now
-        name.now result streams.old streams.new) }
-    ensures counted { IfBy X.Way way.old (CountsTold F.Folder job.now name.now
-        result streams.old streams.new counts.old counts.new) }
-    ensures read { FileVolume F.Folder job.now name.now result volume.old volume.new streams.old streams.new }
-    ensures most { NumbersTold F.Folder job.now name.now counts.old counts.new
-        volume.old volume.new streams.old streams.new }
-    ensures files { volume.new.files ≡ volume.old.files }
-    ensures still { IfBy X.Way way.old (Redacts X.Way way.new) }
-{
     match redact_file(
         way,
         job,
@@ -371,9 +326,23 @@ fn redact_file<X: Way, F: Folder, I: Read, W: Write>(
     if is_input(name) {
         return redact_input(way, counts, volume, input, output);
     }
-    match job.folder.open(name) {
-        Ok(file) => redact_opened(way, counts, volume, file, output),
+    match opened(job.folder, name) {
+        Ok(source) => {
+            let mut source = source;
+            redact_input(way, counts, volume, &mut source, output)
+        }
         Err(reason) => Ok(Some(reason)),
+    }
+}
+
+/// What reads the file of a name.
+pub fn opened<F: Folder>(folder: &F, name: &str) -> Result<FromRead<F::File>, Reason>
+    ensures told { IfOk result (λ source. Keeps (F.holds folder.now name.now) (bytes_left source)) }
+    ensures refused { IfErr result (F.refuses folder.now name.now) }
+{
+    match folder.open(name) {
+        Ok(file) => Ok(FromRead::new(file)),
+        Err(reason) => Err(reason),
     }
 }
 
@@ -382,28 +351,6 @@ pub fn is_input(name: &str) -> bool
     ensures is { result ≡ is_input name.now }
 {
     name == "-"
-}
-
-/// Redacts a reader to its end, and answers why it cannot be read to that, where it cannot.
-fn redact_opened<X: Way, I: Read + Drop, W: Write>(
-    way: &mut X,
-    counts: &mut [u64],
-    volume: &mut Volume,
-    reader: I,
-    output: &mut FromWrite<W>,
-) -> Result<Option<Reason>, StreamError>
-    requires ready { (r : Redactor) × Redacts X.Way way.old r }
-    ensures outcome { IfBy X.Way way.old (λ r. OpenedOutcome W.Write r
-        result (I.remaining reader) output.old output.new) }
-    ensures counted { result ≡ Ok None → IfBy X.Way way.old
-        (CountsOpened (I.remaining reader) counts.old counts.new) }
-    ensures read { result ≡ Ok None → AddsOpened volume.old.bytes volume.new.bytes (I.remaining reader) }
-    ensures most { NumbersOpened counts.old counts.new volume.old.bytes volume.new.bytes (I.remaining reader) }
-    ensures files { volume.new.files ≡ volume.old.files }
-    ensures still { IfBy X.Way way.old (Redacts X.Way way.new) }
-{
-    let mut source = FromRead::new(reader);
-    redact_input(way, counts, volume, &mut source, output)
 }
 
 /// Redacts the input to its end, and answers why it cannot be read to that, where it cannot.

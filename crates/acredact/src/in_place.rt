@@ -1,20 +1,20 @@
 //! A call that replaces each file: a new one is written beside it, and takes its place where all of it was redacted.
 
-ghost use Rattle.std.specs.Prelude.{◌≡◌, ◌≤◌, Err, IfErr, IfOk, Ok, OnErr, false, true};
+ghost use Rattle.std.specs.Prelude.{◌≡◌, ◌⊎◌, ◌≤◌, [], ◌∷◌, IfErr, IfOk, Ok, OnErr, false, true};
 ghost use Rattle.aho_core.specs.declared.error.stream.StreamError.TheVariants.{Memory};
 ghost use Rattle.chromesquid.specs.Searcher.{ForItsPatterns};
 ghost use Rattle.tool_parts.specs.Arguments.{texts};
-ghost use Rattle.tool_parts.specs.Streams.{output_bytes};
+ghost use Rattle.tool_parts.specs.Streams.{bytes_left, output_bytes};
 ghost use Rattle.tool_parts.specs.Telling.{TellsSome};
-ghost use Rattle.acredact.specs.Arguments.{AreMistaken, AsksInPlace, IfAsked};
-ghost use Rattle.acredact.specs.Calls.{IsWrongFailure, IsWrongLine};
-ghost use Rattle.acredact.specs.Files.{CanDo};
-ghost use Rattle.acredact.specs.InPlace.{AskedPlaces, FreesAll, KeepsEach, LoadedPlaces, NameCounts, NameVolume, PlaceJob, PlacesAll, PlacesCount, PlacesJob, PlacesReach, PlacesTell, ReadyPlaces, SaysOfPlaces};
+ghost use Rattle.acredact.specs.Arguments.{AreMistaken, AsksInPlace, IfAsked, all_given};
+ghost use Rattle.acredact.specs.Calls.{IsWrongFailure, IsWrongLine, call_of};
+ghost use Rattle.acredact.specs.Files.{CanDo, redactor_of, work_of};
+ghost use Rattle.acredact.specs.InPlace.{CalledPlaces, FreesAll, KeepsEach, PlaceOutcome, PlacesAll, PlacesCount, PlacesOutcome, PlacesReach, PlacesStatus, PlacesTell, ReadyPlaces};
 ghost use Rattle.acredact.specs.Into.{IsKept, TellsUnread, WarnsAll};
 ghost use Rattle.acredact.specs.Loading.{AreSome, loaded_in};
 ghost use Rattle.acredact.specs.Ready.{IsReadyBy};
-ghost use Rattle.acredact.specs.Totals.{JobCounts};
-ghost use Rattle.acredact.specs.Volumes.{JobVolume};
+ghost use Rattle.acredact.specs.Totals.{CountsOfName, JobCounts};
+ghost use Rattle.acredact.specs.Volumes.{JobVolume, ReadsVolume};
 
 use crate::arguments::{Item, Mistake, counts, items, replaces_in_place};
 use crate::counts::counts_of;
@@ -100,8 +100,8 @@ fn answer_places<F: Folder, O: Outputs, I: Read, E: Sink>(
     outputs: &mut O,
     streams: &mut Streams<'_, I, O::File, E>,
 ) -> u8
-    ensures says { SaysOfPlaces O.File.Write E.Sink F.Folder O.Outputs
-        folder.now given.now result outputs.old outputs.new streams.old streams.new }
+    ensures says { PlacesStatus O.File.Write E.Sink O.Outputs (call_of F.Folder folder.now (all_given given.now))
+        (bytes_left streams.old.input) result outputs.old outputs.new streams.old.errors streams.new.errors }
     ensures bound { result ≤ 2 }
 {
     match load_places(alloc, given, folder, outputs, streams) {
@@ -119,35 +119,21 @@ fn load_places<'a, F: Folder, O: Outputs, I: Read, E: Sink>(
     outputs: &mut O,
     streams: &mut Streams<'_, I, O::File, E>,
 ) -> Result<bool, Failure<'a>>
-    ensures outcome { AskedPlaces O.File.Write E.Sink F.Folder O.Outputs
-        folder.now given.now result outputs.old outputs.new streams.old streams.new }
+    ensures outcome { CalledPlaces O.File.Write E.Sink O.Outputs (call_of F.Folder folder.now (all_given given.now))
+        (bytes_left streams.old.input) result outputs.old outputs.new streams.old.errors streams.new.errors }
 {
     if !gives_pattern(given) {
         return Err(Failure::Arguments(Mistake::NoPattern));
     }
-    match load(alloc, given, folder, &mut streams.input) {
-        Ok(secrets) => place_loaded(alloc, given, &secrets, folder, outputs, streams),
-        Err(failure) => Err(failure),
-    }
-}
-
-/// Replaces each file by what was loaded, and answers whether all were replaced.
-fn place_loaded<'a, F: Folder, O: Outputs, I: Read, E: Sink>(
-    alloc: Global,
-    given: &[Item<'a>],
-    secrets: &Secrets,
-    folder: &F,
-    outputs: &mut O,
-    streams: &mut Streams<'_, I, O::File, E>,
-) -> Result<bool, Failure<'a>>
-    requires some { AreSome secrets.now }
-    ensures outcome { LoadedPlaces O.File.Write E.Sink F.Folder O.Outputs
-        folder.now given.now (loaded_in secrets.now) result outputs.old outputs.new streams.old streams.new }
-{
-    match prepare(alloc, given, secrets, &mut streams.errors) {
-        Ok(ready) => place_ready(alloc, given, secrets, &ready, folder, outputs, streams),
-        Err(failure) => Err(failure),
-    }
+    let secrets = match load(alloc, given, folder, &mut streams.input) {
+        Ok(secrets) => secrets,
+        Err(failure) => return Err(failure),
+    };
+    let ready = match prepare(alloc, given, &secrets, &mut streams.errors) {
+        Ok(ready) => ready,
+        Err(failure) => return Err(failure),
+    };
+    place_ready(alloc, given, &secrets, &ready, folder, outputs, streams)
 }
 
 /// Replaces each file by what is ready, tells the counts where they are asked for, and answers whether all were replaced.
@@ -184,8 +170,9 @@ fn place_each<F: Folder, O: Outputs, I: Read, E: Sink>(
     streams: &mut Streams<'_, I, O::File, E>,
 ) -> Result<bool, StreamError>
     requires ready { CanDo ⟦<AhoCorasick as Automaton>⟧ searcher.now job.now }
-    ensures outcome { ForItsPatterns searcher.now (PlacesJob O.File.Write E.Sink F.Folder O.Outputs
-        job.now result outputs.old outputs.new streams.old streams.new) }
+    ensures outcome { ForItsPatterns searcher.now (λ p. PlacesOutcome O.File.Write O.Outputs
+        (work_of F.Folder job.now (redactor_of job.now p)) E.Sink
+        result outputs.old outputs.new streams.old.errors streams.new.errors) }
     ensures counted { ForItsPatterns searcher.now (JobCounts F.Folder job.now
         result streams.old streams.new counts.old counts.new) }
     ensures read { JobVolume F.Folder job.now result volume.old volume.new streams.old streams.new }
@@ -211,11 +198,14 @@ fn place_one<F: Folder, O: Outputs, I: Read, E: Sink>(
     streams: &mut Streams<'_, I, O::File, E>,
 ) -> Result<bool, StreamError>
     requires ready { CanDo ⟦<AhoCorasick as Automaton>⟧ searcher.now job.now }
-    ensures outcome { ForItsPatterns searcher.now (PlaceJob O.File.Write E.Sink F.Folder O.Outputs
-        job.now name.now result outputs.old outputs.new streams.old streams.new) }
-    ensures counted { ForItsPatterns searcher.now (NameCounts F.Folder
-        job.now name.now result streams.old streams.new counts.old counts.new) }
-    ensures read { NameVolume F.Folder job.now name.now result volume.old volume.new streams.old streams.new }
+    ensures outcome { ForItsPatterns searcher.now (λ p. PlaceOutcome O.File.Write O.Outputs
+        (work_of F.Folder job.now (redactor_of job.now p)) E.Sink
+        name.now result outputs.old outputs.new streams.old.errors streams.new.errors) }
+    ensures counted { result ≡ Ok true → ForItsPatterns searcher.now (λ p.
+        CountsOfName (bytes_left streams.old.input) (bytes_left streams.new.input) counts.old counts.new
+        (work_of F.Folder job.now (redactor_of job.now p)) name.now) }
+    ensures read { result ≡ Ok true → ReadsVolume (F.holds job.now.folder.now) (name.now ∷ [])
+        volume.old volume.new (bytes_left streams.old.input) (bytes_left streams.new.input) }
 {
     if is_input(name) {
         tell_no_file(&mut streams.errors, name);
@@ -249,13 +239,12 @@ fn settle<O: Outputs, I: Read, E: Sink>(
 ) -> Result<bool, StreamError>
     ensures done { result ≡ Ok true → done ≡ Ok true }
     ensures input { streams.new.input ≡ streams.old.input }
-    // What was not replaced is told, once more where a line was told of it before.
+    // What was not replaced is told, but where a line was told of it before.
     ensures quiet { result ≡ Ok true → streams.new.errors ≡ streams.old.errors }
-    ensures untold { done ≡ Ok false → (result ≡ Ok false) × (streams.new.errors ≡ streams.old.errors) }
-    ensures told { result ≡ Ok false → (done ≡ Ok false → ⊥)
-        → TellsUnread E.Sink name.now streams.old.errors streams.new.errors }
-    ensures memory { OnErr result ((result ≡ Err Memory) × (done ≡ Err Memory)
-        × (streams.new.errors ≡ streams.old.errors)) }
+    ensures told { result ≡ Ok false → ((done ≡ Ok false) × (streams.new.errors ≡ streams.old.errors))
+        ⊎ TellsUnread E.Sink name.now streams.old.errors streams.new.errors }
+    ensures cut { OnErr result (streams.new.errors ≡ streams.old.errors) }
+    ensures memory { IfErr result (λ error. error ≡ Memory) }
     ensures puts { result ≡ Ok true → O.puts outputs.old outputs.new name.now
         (output_bytes O.File.Write streams.old.output) }
     ensures kept { (result ≡ Ok true → ⊥) → IsKept O.Outputs name.now outputs.old outputs.new }

@@ -71,11 +71,11 @@ fn put_label(text: &mut Vec<u8>, legend: &Legend<'_, '_>, number: usize) -> Resu
 }
 
 /// Puts the number of a pattern, from 1 on.
-fn put_given(text: &mut Vec<u8>, number: usize) -> Result<(), AllocError>
-    ensures put { OnOk result (PutsText text.old text.new (given_label number)) }
+fn put_given(text: &mut Vec<u8>, index: usize) -> Result<(), AllocError>
+    ensures put { OnOk result (PutsText text.old text.new (given_label index)) }
 {
     text.extend_from_slice(b"pattern ")?;
-    put_number(text, number.saturating_add(1) as u64)
+    put_number(text, index.saturating_add(1) as u64)
 }
 
 /// Puts the name of the rule of a number, or, where there is none, that a line is too long.

@@ -4,13 +4,15 @@ ghost use Rattle.std.specs.Prelude.{◌≡◌, ℕ, List, Option, Some, IfErr, I
 ghost use Rattle.aho_core.specs.Replacement.{pieces_of};
 ghost use Rattle.aho_devices.specs.Counts.{counted};
 ghost use Rattle.tool_parts.specs.Streams.{bytes_left};
-ghost use Rattle.acredact.specs.Arguments.{all_given, given_of};
+ghost use Rattle.acredact.specs.Arguments.{all_given, given_of, last_value};
 ghost use Rattle.acredact.specs.Calls.{rules_asked};
 ghost use Rattle.acredact.specs.Forms.{HaveForms, forms_asked};
-ghost use Rattle.acredact.specs.Loading.{AddsFile, AddsItem, AddsList, CannotLoad, CannotLoadAll, CannotLoadKey, CannotLoadOne, CannotRead, GivesEnvironment, GivesRules, GivesValues, HoldsSecrets, HoldsVariables, HoldsWhole, IsEnvironmentFailure, IsFileFailure, IsKeyFailure, IsListedFailure, IsValuesFailure, IsVariablesFailure, IsWholeFailure, IsPatternFailure, IsTextFailure, IsTextReason, LoadsKey, ReadsKey, ReadsList, ReadsRules, form_by, is_failed_text, reading_of_lists, rules_for};
+ghost use Rattle.acredact.specs.Loading.{AreGiven, AreRead, CannotLoad, CannotLoadAll, CannotLoadKey, CannotLoadOne, CannotRead, GivesEnvironment, GivesKey, GivesSecrets, GivesValues, HoldsListed, HoldsSecrets, HoldsVariables, HoldsWhole, IsEnvironmentFailure, IsFileFailure, IsKeyFailure, IsKeyGiven, IsListedFailure, IsValuesFailure, IsVariablesFailure, IsWholeFailure, IsPatternFailure, IsTextFailure, IsTextReason, OptionGives, form_by, is_failed_text, key_in, reading_of_lists, rules_for};
 ghost use Rattle.acredact.specs.Parts.{AddsSome, ArePartsBy, GivesPattern};
-ghost use Rattle.acredact.specs.Reads.{ReadsText};
+ghost use Rattle.acredact.specs.Reads.{OfName, ReadsText};
+ghost use Rattle.acredact.specs.Tables.{secrets_of};
 ghost use Rattle.acredact.specs.Values.{GiveEach, GivesValue};
+ghost use Rattle.acredact.specs.declared.arguments.Word.TheVariants.{Pseudonym};
 ghost use Rattle.acredact.specs.declared.failure.Failure.TheVariants.{Other, Pattern};
 ghost use Rattle.tool_parts.specs.declared.failure.Failure.TheVariants.{OutOfMemory as OutOfMemoryFailure};
 ghost use Rattle.acredact.specs.declared.patterns.LineFault.TheVariants.{OutOfMemory};
@@ -91,7 +93,8 @@ pub fn rules<'a, F: Folder, I: Read>(
     input: &mut FromRead<I>,
 ) -> Result<Vec<Rule>, Failure<'a>>
     ensures given { IfOk result (λ rules.
-        GivesRules F.Folder lists.now (all_given items.now) rules input.old input.new) }
+        AreGiven (reading_of_lists F.Folder lists.now) (all_given items.now)
+        (secrets_of rules.items) (bytes_left input.old) (bytes_left input.new)) }
     ensures fails { IfErr result (CannotLoadAll (reading_of_lists F.Folder lists.now) (all_given items.now)) }
 {
     match read_rules(lists, items, input) {
@@ -134,7 +137,8 @@ fn read_rules<'a, F: Folder, I: Read>(
     input: &mut FromRead<I>,
 ) -> Result<Vec<Rule>, Failure<'a>>
     ensures read { IfOk result (λ rules.
-        ReadsRules F.Folder lists.now (all_given items.now) rules input.old input.new) }
+        AreRead (reading_of_lists F.Folder lists.now) (all_given items.now)
+        (secrets_of rules.items) (bytes_left input.old) (bytes_left input.new)) }
     ensures fails { IfErr result (CannotLoadOne (reading_of_lists F.Folder lists.now) (all_given items.now)) }
 {
     let mut rules = Vec::new(lists.alloc);
@@ -163,7 +167,8 @@ pub fn key_of<'a, F: Folder, I: Read>(
     input: &mut FromRead<I>,
 ) -> Result<Option<Vec<u8>>, Failure<'a>>
     ensures key { IfOk result (λ key.
-        LoadsKey F.Folder lists.now (all_given items.now) key input.old input.new) }
+        IsKeyGiven (reading_of_lists F.Folder lists.now) (last_value Pseudonym (all_given items.now))
+        (key_in key) (bytes_left input.old) (bytes_left input.new)) }
     ensures fails { IfErr result (CannotLoadKey (reading_of_lists F.Folder lists.now) (all_given items.now)) }
 {
     match last_value(items, Word::Pseudonym) {
@@ -179,7 +184,8 @@ fn read_key<'a, F: Folder, I: Read>(
     input: &mut FromRead<I>,
 ) -> Result<Option<Vec<u8>>, Failure<'a>>
     ensures key { IfOk result (λ key.
-        ReadsKey F.Folder lists.now name.now key input.old input.new) }
+        GivesKey (reading_of_lists F.Folder lists.now) name.now
+        (key_in key) (bytes_left input.old) (bytes_left input.new)) }
     ensures fails { IfErr result (IsKeyFailure (reading_of_lists F.Folder lists.now) name.now) }
 {
     match read_list(lists, name, input) {
@@ -201,8 +207,9 @@ fn add_item<'a, F: Folder, I: Read>(
     number: usize,
     input: &mut FromRead<I>,
 ) -> Result<(), Failure<'a>>
-    ensures added { OnOk result (AddsItem F.Folder lists.now (given_of item.entry)
-        rules.old rules.new input.old input.new) }
+    ensures added { OnOk result (AddsSome (λ more. OptionGives (reading_of_lists F.Folder lists.now)
+        (given_of item.entry).word (given_of item.entry).value more (bytes_left input.old) (bytes_left input.new))
+        rules.old rules.new) }
     ensures fails { IfErr result (CannotLoad (reading_of_lists F.Folder lists.now) (given_of item.entry)) }
 {
     let name = item.value;
@@ -334,8 +341,8 @@ fn add_file<'a, F: Folder, I: Read>(
     list: usize,
     input: &mut FromRead<I>,
 ) -> Result<(), Failure<'a>>
-    ensures added { OnOk result (AddsFile F.Folder lists.now listed name.now
-        rules.old rules.new input.old input.new) }
+    ensures added { OnOk result (AddsSome (λ more. GivesSecrets (reading_of_lists F.Folder lists.now)
+        listed name.now more (bytes_left input.old) (bytes_left input.new)) rules.old rules.new) }
     ensures fails { IfErr result (IsFileFailure (reading_of_lists F.Folder lists.now) listed name.now) }
 {
     match read_list(lists, name, input) {
@@ -353,7 +360,8 @@ fn add_text<'a, F>(
     list: usize,
     text: &[u8],
 ) -> Result<(), Failure<'a>>
-    ensures added { OnOk result (AddsList lists.now listed text.now rules.old rules.new) }
+    ensures added { OnOk result (AddsSome (HoldsListed (rules_for lists.now) listed text.now)
+        rules.old rules.new) }
     ensures fails { IfErr result (IsListedFailure (rules_for lists.now) listed name.now text.now) }
 {
     match listed {
@@ -451,7 +459,8 @@ pub fn read_list<F: Folder, I: Read>(
     input: &mut FromRead<I>,
 ) -> Result<Vec<u8>, Reason>
     ensures text { IfOk result (λ text.
-        ReadsList F.Folder lists.now name.now text input.old input.new) }
+        OfName (F.holds lists.now.folder.now) name.now (ReadsText text.items)
+        (bytes_left input.old) (bytes_left input.new)) }
     ensures fails { IfErr result (CannotRead (reading_of_lists F.Folder lists.now) name.now) }
 {
     if is_input(name) {

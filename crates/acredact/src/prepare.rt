@@ -1,14 +1,17 @@
 //! What is ready before any file is read: what is searched for, what is written in the place of that, and which files are read.
 
-ghost use Rattle.std.specs.Prelude.{◌≡◌, IfErr, IfOk, OnErr, OnOk, Some, option_map, true};
+ghost use Rattle.std.specs.Prelude.{◌≡◌, ◌⊎◌, IfErr, IfOk, OnErr, OnOk, Some, option_map, true};
 ghost use Rattle.tool_parts.specs.Names.{name_bytes};
 ghost use Rattle.acredact.specs.Arguments.{all_given, has};
-ghost use Rattle.acredact.specs.Calls.{keyed_as, names_asked, text_asked};
+ghost use Rattle.acredact.specs.Builds.{patterns_by_given};
+ghost use Rattle.acredact.specs.Calls.{keyed_as, names_asked, redactor_by_given, text_asked};
+ghost use Rattle.acredact.specs.Checks.{IsBuildFailure};
+ghost use Rattle.acredact.specs.Doubts.{TellsDoubts, TellsWarnings};
 ghost use Rattle.acredact.specs.Files.{CanDo, keyed_of};
-ghost use Rattle.acredact.specs.Loading.{AreSome, key_lent};
+ghost use Rattle.acredact.specs.Loading.{AreSome, key_lent, loaded_in};
 ghost use Rattle.acredact.specs.Pieces.{IsJudged, TellsUnclean};
-ghost use Rattle.acredact.specs.Ready.{CannotBeReady, CannotBuild, CannotJudgeBy, IsJobBy, IsReadyBy, IsReadyFor, JudgesBy, TellsOfAll, TellsOfLists, redactor_loaded};
-ghost use Rattle.acredact.specs.Tables.{secrets_of};
+ghost use Rattle.acredact.specs.Ready.{CannotPrepare, IsJobFor, IsReadyBy, IsReadyFor};
+ghost use Rattle.acredact.specs.Tables.{patterns_in, secrets_of};
 ghost use Rattle.acredact.specs.declared.arguments.Word.TheVariants.{Strict};
 ghost use Rattle.acredact.specs.declared.clean.Unclean.{Unclean};
 ghost use Rattle.acredact.specs.declared.failure.Failure.TheVariants.{Unclean as UncleanPiece};
@@ -20,11 +23,11 @@ use crate::failure::{Failure, tell_unclean};
 use crate::files::Job;
 use crate::folder::Folder;
 use crate::patterns::{Rule, patterns_of, replacements_of};
-use crate::searcher::searcher_of;
 use crate::secrets::{Secrets, key_bytes};
 use crate::ways::Key;
 use chromesquid::{AhoCorasick, Automaton, MatchKind, Sink};
 use std::alloc::{AllocError, Global};
+use tool_parts::building::searcher_of;
 use tool_parts::errors::Errors;
 
 /// What is written in the place of a match, where nothing else is given.
@@ -51,36 +54,29 @@ pub fn prepare<'a, 'r, E: Sink>(
     errors: &mut Errors<'_, E>,
 ) -> Result<Ready<'r>, Failure<'a>>
     ensures ready { IfOk result (IsReadyBy given.now secrets.now) }
-    ensures told { OnOk result (TellsOfAll E.Sink given.now secrets.now errors.old errors.new) }
-    ensures fails { IfErr result (CannotBeReady given.now secrets.now) }
-    ensures untold { OnErr result (TellsOfLists E.Sink given.now secrets.now errors.old errors.new) }
+    ensures told { OnOk result (TellsWarnings E.Sink (has Strict (all_given given.now)) (all_given given.now)
+        (secrets_of secrets.now.rules.items) (redactor_by_given (all_given given.now) (loaded_in secrets.now))
+        errors.old errors.new) }
+    ensures fails { IfErr result (CannotPrepare (all_given given.now) (loaded_in secrets.now)) }
+    ensures untold { OnErr result ((errors.new ≡ errors.old) ⊎ TellsDoubts E.Sink (has Strict (all_given given.now))
+        (all_given given.now) (secrets_of secrets.now.rules.items) errors.old errors.new) }
 {
     let strict = has(given, Word::Strict);
-    match warn_of_lists(errors, given, secrets.rules.as_slice(), strict) {
+    let rules = secrets.rules.as_slice();
+    match warn_of_lists(errors, given, rules, strict) {
         Ok(()) => {}
         Err(failure) => return Err(failure),
     }
-    prepare_pieces(alloc, &*given, secrets, errors)
-}
-
-/// Makes ready what redacts, and tells of a piece that is not clean, or refuses it.
-fn prepare_pieces<'a, 'r, E: Sink>(
-    alloc: Global,
-    given: &[Item<'r>],
-    secrets: &'r Secrets,
-    errors: &mut Errors<'_, E>,
-) -> Result<Ready<'r>, Failure<'a>>
-    ensures ready { IfOk result (IsReadyBy given.now secrets.now) }
-    ensures told { OnOk result (JudgesBy E.Sink given.now secrets.now errors.old errors.new) }
-    ensures fails { IfErr result (CannotJudgeBy given.now secrets.now) }
-    ensures untold { OnErr result (errors.new ≡ errors.old) }
-{
-    let rules = secrets.rules.as_slice();
-    let ready = match ready_of(alloc, given, rules, finds_all(given)) {
+    let ready = match ready_of(alloc, &*given, rules, finds_all(given)) {
         Ok(ready) => ready,
         Err(failure) => return Err(failure),
     };
-    judged(given, secrets, ready, errors)
+    let unclean = unclean_in(given, secrets, &ready);
+    match warn(errors, unclean, strict) {
+        Ok(()) => {}
+        Err(failure) => return Err(failure),
+    }
+    Ok(ready)
 }
 
 /// Whether all finds of a text are replaced, and no match is counted.
@@ -96,7 +92,8 @@ pub fn ready_of<'a, 'r>(
     finds_all: bool,
 ) -> Result<Ready<'r>, Failure<'a>>
     ensures ready { IfOk result (IsReadyFor (all_given given.now) (secrets_of rules.now)) }
-    ensures refused { IfErr result (CannotBuild given.now rules.now) }
+    ensures refused { IfErr result (IsBuildFailure (patterns_by_given (all_given given.now)
+        (patterns_in (secrets_of rules.now)))) }
 {
     let patterns = patterns_of(alloc, rules)?;
     let replacements = replacements_of(alloc, rules, text_of(given))?;
@@ -113,31 +110,10 @@ pub fn ready_of<'a, 'r>(
     })
 }
 
-/// What is ready, where pieces that are not clean are not refused, or none is such. Else the first is told.
-fn judged<'a, 'r, E: Sink>(
-    given: &[Item<'_>],
-    secrets: &Secrets,
-    ready: Ready<'r>,
-    errors: &mut Errors<'_, E>,
-) -> Result<Ready<'r>, Failure<'a>>
-    requires ready { IsReadyBy given.now secrets.now ready }
-    ensures ready { IfOk result (IsReadyBy given.now secrets.now) }
-    ensures told { OnOk result (JudgesBy E.Sink given.now secrets.now errors.old errors.new) }
-    ensures fails { IfErr result (CannotJudgeBy given.now secrets.now) }
-    ensures untold { OnErr result (errors.new ≡ errors.old) }
-{
-    let unclean = unclean_in(given, secrets, &ready);
-    match warn(errors, unclean, has(given, Word::Strict)) {
-        Ok(()) => {}
-        Err(failure) => return Err(failure),
-    }
-    Ok(ready)
-}
-
 /// The first pattern whose piece is not clean, of what is ready.
 fn unclean_in(given: &[Item<'_>], secrets: &Secrets, ready: &Ready<'_>) -> Option<Unclean>
     requires ready { IsReadyBy given.now secrets.now ready.now }
-    ensures judged { IsJudged (redactor_loaded given.now secrets.now) result }
+    ensures judged { IsJudged (redactor_by_given (all_given given.now) (loaded_in secrets.now)) result }
 {
     let judge = Judge {
         words: ready.patterns.as_slice(),
@@ -181,7 +157,7 @@ pub fn job_of<'s, 't, F: Folder>(
     folder: &'s F,
 ) -> Job<'s, 't, F>
     ensures job { IsReadyBy given.now secrets.now ready.now
-        → IsJobBy given.now secrets.now folder.now result }
+        → IsJobFor folder.now (all_given given.now) (loaded_in secrets.now) result }
     ensures can { AreSome secrets.now → IsReadyBy given.now secrets.now ready.now
         → CanDo ⟦<AhoCorasick as Automaton>⟧ ready.now.searcher result }
 {

@@ -2,8 +2,7 @@
 
 ghost use Rattle.std.specs.Prelude.{◌≡◌, ◌⊎◌, ◌++◌, ◌∷◌, [], IfOk, OnOk, map, replicate, true};
 ghost use Rattle.aho_core.specs.Replacement.{pieces_of};
-ghost use Rattle.aho_core.specs.declared.search.Anchored.TheVariants.{No};
-ghost use Rattle.chromesquid.specs.Searcher.{Answers, IsBuiltFrom};
+ghost use Rattle.chromesquid.specs.Searcher.{IsBuiltFrom};
 ghost use Rattle.secret_rules.specs.OpenLines.{CanSearch};
 ghost use Rattle.tool_parts.specs.Names.{name_bytes};
 ghost use Rattle.tool_parts.specs.Telling.{TellsBytes};
@@ -11,29 +10,25 @@ ghost use Rattle.acredact.specs.LongLines.{long_told};
 ghost use Rattle.acredact.specs.Doubts.{last_of};
 ghost use Rattle.acredact.specs.Arguments.{all_given};
 ghost use Rattle.acredact.specs.Calls.{names_asked};
-ghost use Rattle.acredact.specs.Ruled.{AreTextsAsked, AskedRuled, KeyedRuled, KeylessRuled, LoadedRuled, SaysOfRules, UndoubtedRuled, UnruledOutcome, lent_rule, named_count, own_text, patterns_by_case};
+ghost use Rattle.acredact.specs.Ruled.{AreTextsAsked, AskedRuled, KeyedRuled, LoadedRuled, SaysOfRules, lent_rule, named_count, own_text, patterns_by_case};
 ghost use Rattle.acredact.specs.Tables.{HaveNoEmpty, patterns_in, secrets_of};
 
 use crate::arguments::{Item, Word, has};
-use crate::doubts::warn_of_lists;
 use crate::folder::Folder;
-use crate::line_rules::{failure_in, line_rules_of};
+use crate::line_rules::failure_in;
 use crate::line_size::most_of;
-use crate::load::{key_of, lists_of, rules};
-use crate::named::named_rules;
-use crate::patterns::{Rule, patterns_of, replacements_of, split_at};
-use crate::prepare::{key_by, names, text_of};
+use crate::patterns::{Rule, replacements_of};
+use crate::prepare::{key_by, text_of};
 use crate::ruled_failure::{RuledFailure, tell_long, tell_ruled};
 use crate::ruled_files::{cover_files, lined_of};
+use crate::ruled_load::{KeyedRules, lent_key, load_keyed, ready_for_lines};
 use crate::run::FAILED;
 use crate::run_counts::tell_runs;
 use crate::run_pieces::RunPieces;
-use crate::searcher::searcher_of;
-use crate::secrets::name_key;
 use crate::streams::Streams;
 use crate::summary::Volume;
 use chromesquid::any::Pieces;
-use chromesquid::{AhoCorasick, Automaton, BuildError, MatchKind, Sink};
+use chromesquid::{AhoCorasick, Automaton, Sink};
 use secret_rules::{Rule as LineRule, Rules};
 use std::alloc::{AllocError, Global};
 use std::io::{Read, Write};
@@ -52,7 +47,7 @@ pub fn redact_by_rules<F: Folder, I: Read, W: Write, E: Sink>(
     ensures bound { (result ≡ 0) ⊎ (result ≡ 2) }
     ensures flushed { result ≡ 0 → streams.new.output.device.flushed ≡ true }
 {
-    match load_ruled(alloc, given, folder, streams) {
+    match redact_given(alloc, given, folder, streams) {
         Ok(true) => 0,
         Ok(false) => FAILED,
         Err(failure) => {
@@ -62,8 +57,8 @@ pub fn redact_by_rules<F: Folder, I: Read, W: Write, E: Sink>(
     }
 }
 
-/// Loads all patterns, redacts all files by them and by rules, and answers whether all were read.
-fn load_ruled<'a, F: Folder, I: Read, W: Write, E: Sink>(
+/// Loads all patterns, rules and the key, redacts all files by them, and answers whether all were read.
+fn redact_given<'a, F: Folder, I: Read, W: Write, E: Sink>(
     alloc: Global,
     given: &[Item<'a>],
     folder: &F,
@@ -73,128 +68,41 @@ fn load_ruled<'a, F: Folder, I: Read, W: Write, E: Sink>(
         result streams.old streams.new }
     ensures flushed { OnOk result (streams.new.output.device.flushed ≡ true) }
 {
-    let lists = lists_of(alloc, given, folder);
-    match rules(&lists, given, &mut streams.input) {
-        Ok(secrets) => load_rules(alloc, given, secrets.as_slice(), folder, streams),
-        Err(failure) => Err(RuledFailure::Plain(failure)),
-    }
-}
-
-/// Loads all rules, redacts all files by them and by these patterns, and answers whether all were read.
-fn load_rules<'a, F: Folder, I: Read, W: Write, E: Sink>(
-    alloc: Global,
-    given: &[Item<'a>],
-    secrets: &[Rule],
-    folder: &F,
-    streams: &mut Streams<'_, I, W, E>,
-) -> Result<bool, RuledFailure<'a>>
-    requires some { HaveNoEmpty (secrets_of secrets.now) }
-    ensures outcome { UnruledOutcome W.Write E.Sink F.Folder folder.now (all_given given.now) secrets.now
-        result streams.old streams.new }
-    ensures flushed { OnOk result (streams.new.output.device.flushed ≡ true) }
-{
-    let lists = lists_of(alloc, given, folder);
-    match line_rules_of(&lists, given, &mut streams.input) {
-        Ok(line_rules) => load_naming(alloc, given, secrets, &line_rules, folder, streams),
+    match load_keyed(alloc, given, folder, &mut streams.input) {
+        Ok(rules) => redact_keyed(alloc, given, &rules, folder, streams),
         Err(failure) => Err(failure),
     }
 }
 
-/// Loads the key of pseudonyms, where they are asked for, redacts all files, and answers whether all were read.
-fn load_naming<'a, F: Folder, I: Read, W: Write, E: Sink>(
+/// Tells of doubtful patterns of lists, redacts all files by what was loaded, and answers whether all were read.
+fn redact_keyed<'a, F: Folder, I: Read, W: Write, E: Sink>(
     alloc: Global,
     given: &[Item<'a>],
-    secrets: &[Rule],
-    line_rules: &Rules,
+    rules: &KeyedRules,
     folder: &F,
     streams: &mut Streams<'_, I, W, E>,
 ) -> Result<bool, RuledFailure<'a>>
-    requires some { HaveNoEmpty (secrets_of secrets.now) }
-    ensures outcome { KeylessRuled W.Write E.Sink F.Folder folder.now given.now secrets.now line_rules.now
+    requires some { HaveNoEmpty (secrets_of rules.now.given.secrets.items) }
+    ensures outcome { KeyedRuled W.Write E.Sink F.Folder folder.now given.now rules.now
         result streams.old streams.new }
     ensures flushed { OnOk result (streams.new.output.device.flushed ≡ true) }
 {
-    let lists = lists_of(alloc, given, folder);
-    match key_of(&lists, given, &mut streams.input) {
-        Ok(Some(key)) => {
-            let key = key.as_slice();
-            redact_named(alloc, given, secrets, line_rules, key, folder, streams)
-        }
-        Ok(None) => redact_doubted(alloc, given, secrets, line_rules, None, folder, streams),
-        Err(failure) => Err(RuledFailure::Plain(failure)),
+    let key = lent_key(rules);
+    let secrets = rules.given.secrets.as_slice();
+    match ready_for_lines(alloc, given, secrets, &mut streams.errors) {
+        Ok(ready) => redact_by(
+            alloc,
+            given,
+            secrets,
+            &rules.given.rules,
+            key,
+            folder,
+            &ready.searcher,
+            ready.names.as_slice(),
+            streams,
+        ),
+        Err(failure) => Err(failure),
     }
-}
-
-/// Redacts all files by a key, and answers whether all were read. Where forms are asked for, each form has the pseudonym of its secret.
-fn redact_named<'a, F: Folder, I: Read, W: Write, E: Sink>(
-    alloc: Global,
-    given: &[Item<'a>],
-    secrets: &[Rule],
-    rules: &Rules,
-    key: &[u8],
-    folder: &F,
-    streams: &mut Streams<'_, I, W, E>,
-) -> Result<bool, RuledFailure<'a>>
-    requires some { HaveNoEmpty (secrets_of secrets.now) }
-    ensures outcome { KeyedRuled W.Write E.Sink F.Folder folder.now given.now secrets.now rules.now key.now
-        result streams.old streams.new }
-    ensures flushed { OnOk result (streams.new.output.device.flushed ≡ true) }
-{
-    if !has(given, Word::Forms) {
-        return redact_doubted(alloc, given, secrets, rules, Some(key), folder, streams);
-    }
-    let named = named_rules(alloc, secrets, name_key(given, key))?;
-    let secrets = named.as_slice();
-    redact_doubted(alloc, given, secrets, rules, Some(key), folder, streams)
-}
-
-/// Tells of doubtful patterns of lists, redacts all files, and answers whether all were read.
-fn redact_doubted<'a, F: Folder, I: Read, W: Write, E: Sink>(
-    alloc: Global,
-    given: &[Item<'a>],
-    secrets: &[Rule],
-    line_rules: &Rules,
-    key: Option<&[u8]>,
-    folder: &F,
-    streams: &mut Streams<'_, I, W, E>,
-) -> Result<bool, RuledFailure<'a>>
-    requires some { HaveNoEmpty (secrets_of secrets.now) }
-    ensures outcome { UndoubtedRuled W.Write E.Sink F.Folder folder.now given.now secrets.now line_rules.now
-        key.entry result streams.old streams.new }
-    ensures flushed { OnOk result (streams.new.output.device.flushed ≡ true) }
-{
-    match warn_of_lists(&mut streams.errors, given, secrets, false) {
-        Ok(()) => redact_ruled(alloc, given, secrets, line_rules, key, folder, streams),
-        Err(failure) => Err(RuledFailure::Plain(failure)),
-    }
-}
-
-/// Redacts all files, tells how many lines were too long and the counts and the summary that are asked for, and answers whether all were
-/// read.
-fn redact_ruled<'a, F: Folder, I: Read, W: Write, E: Sink>(
-    alloc: Global,
-    given: &[Item<'_>],
-    secrets: &[Rule],
-    rules: &Rules,
-    key: Option<&[u8]>,
-    folder: &F,
-    streams: &mut Streams<'_, I, W, E>,
-) -> Result<bool, RuledFailure<'a>>
-    requires some { HaveNoEmpty (secrets_of secrets.now) }
-    ensures outcome { LoadedRuled W.Write E.Sink F.Folder folder.now given.now secrets.now rules.now key.entry
-        result streams.old streams.new }
-    ensures flushed { OnOk result (streams.new.output.device.flushed ≡ true) }
-{
-    if let Some(number) = line_end_in(secrets) {
-        return Err(RuledFailure::LineEnd(number));
-    }
-    let patterns = patterns_of(alloc, secrets)?;
-    let names = names(alloc, given)?;
-    let searcher = lined_searcher(alloc, given, patterns.as_slice())?;
-    let names = names.as_slice();
-    redact_by(
-        alloc, given, secrets, rules, key, folder, &searcher, names, streams,
-    )
 }
 
 /// Redacts all files by the automaton that the searcher of these patterns holds.
@@ -286,33 +194,6 @@ fn redact_lines<'a, A: Automaton, F: Folder, I: Read, W: Write, E: Sink>(
         }
         Err(error) => Err(failure_in(alloc, rules.as_slice(), error)),
     }
-}
-
-/// The number, from 1 on, of the first pattern that holds a line end, if one does.
-pub fn line_end_in(secrets: &[Rule]) -> Option<usize> {
-    let mut number: usize = 1;
-    let mut rest = secrets;
-    while !rest.is_empty() {
-        if split_at(rest[0].pattern.as_slice(), b'\n').is_some() {
-            return Some(number);
-        }
-        number = number.saturating_add(1);
-        rest = &rest[1..];
-    }
-    None
-}
-
-/// The searcher of these patterns, by the case rule that is given: all that occurs counts.
-pub fn lined_searcher(
-    alloc: Global,
-    given: &[Item<'_>],
-    patterns: &[&[u8]],
-) -> Result<AhoCorasick, BuildError>
-    ensures of { IfOk result (λ built. IsBuiltFrom built (patterns_by_case (all_given given.now) (pieces_of patterns.now))) }
-    ensures answers { IfOk result (λ built. Answers built No) }
-{
-    let ignore_case = has(given, Word::IgnoreCase);
-    searcher_of(alloc, MatchKind::Standard, ignore_case, false, patterns)
 }
 
 /// What is written for each pattern, then for each rule, and then for lines that are too long.

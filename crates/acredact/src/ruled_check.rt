@@ -8,25 +8,22 @@ ghost use Rattle.tool_parts.specs.Names.{name_bytes};
 ghost use Rattle.acredact.specs.Arguments.{all_given, has};
 ghost use Rattle.acredact.specs.Calls.{names_asked};
 ghost use Rattle.acredact.specs.Ruled.{patterns_by_case};
-ghost use Rattle.acredact.specs.RuledChecks.{AskedCheck, SeesTo, IfCovers, LoadedCheck, SaysOfRulesCheck, UndoubtedCheck, UnruledCheck};
+ghost use Rattle.acredact.specs.RuledChecks.{AskedCheck, GivenCheck, IfCovers, LoadedCheck, SaysOfRulesCheck, SeesTo};
 ghost use Rattle.acredact.specs.Tables.{HaveNoEmpty, patterns_in, secrets_of};
 ghost use Rattle.acredact.specs.declared.arguments.Word.TheVariants.{Summary};
 
 use crate::arguments::{Item, Word, has};
 use crate::check::status_of;
 use crate::checked_files::{Checked, check_files};
-use crate::doubts::warn_of_lists;
 use crate::folder::Folder;
 use crate::legend::Legend;
-use crate::line_rules::{failure_in, line_rules_of};
+use crate::line_rules::failure_in;
 use crate::line_size::most_of;
-use crate::load::{lists_of, rules};
 use crate::look::Verdict;
-use crate::patterns::{Rule, patterns_of};
-use crate::prepare::names;
-use crate::ruled::{line_end_in, lined_searcher};
+use crate::patterns::Rule;
 use crate::ruled_failure::{RuledFailure, tell_ruled};
 use crate::ruled_files::line_cover;
+use crate::ruled_load::{GivenRules, load_rules, ready_for_lines};
 use crate::run::FAILED;
 use crate::streams::Streams;
 use chromesquid::{AhoCorasick, Automaton, Nowhere, Sink};
@@ -46,7 +43,7 @@ pub fn check_by_rules<F: Folder, I: Read, W: Write, E: Sink>(
         result streams.old streams.new }
     ensures bound { result ≤ 2 }
 {
-    match check_ruled(alloc, given, folder, streams) {
+    match check_given(alloc, given, folder, streams) {
         Ok(verdict) => status_of(verdict),
         Err(failure) => {
             tell_ruled(&mut streams.errors, &failure);
@@ -55,8 +52,8 @@ pub fn check_by_rules<F: Folder, I: Read, W: Write, E: Sink>(
     }
 }
 
-/// Loads all patterns, and looks at all files by them and by rules.
-fn check_ruled<'a, F: Folder, I: Read, W: Write, E: Sink>(
+/// Loads all patterns and rules, and looks at all files by them.
+fn check_given<'a, F: Folder, I: Read, W: Write, E: Sink>(
     alloc: Global,
     given: &[Item<'a>],
     folder: &F,
@@ -69,86 +66,42 @@ fn check_ruled<'a, F: Folder, I: Read, W: Write, E: Sink>(
     ensures flushed { has Summary (all_given given.now) ≡ true
         → OnOk result (streams.new.output.device.flushed ≡ true) }
 {
-    let lists = lists_of(alloc, given, folder);
-    match rules(&lists, given, &mut streams.input) {
-        Ok(secrets) => check_secrets(alloc, given, secrets.as_slice(), folder, streams),
-        Err(failure) => Err(RuledFailure::Plain(failure)),
-    }
-}
-
-/// Loads all rules, and looks at all files by them and by these patterns.
-fn check_secrets<'a, F: Folder, I: Read, W: Write, E: Sink>(
-    alloc: Global,
-    given: &[Item<'a>],
-    secrets: &[Rule],
-    folder: &F,
-    streams: &mut Streams<'_, I, W, E>,
-) -> Result<Verdict, RuledFailure<'a>>
-    requires some { HaveNoEmpty (secrets_of secrets.now) }
-    ensures outcome { UnruledCheck W.Write E.Sink F.Folder folder.now (all_given given.now) secrets.now
-        result streams.old streams.new }
-    ensures unwritten { has Summary (all_given given.now) ≡ false
-        → streams.new.output ≡ streams.old.output }
-    ensures flushed { has Summary (all_given given.now) ≡ true
-        → OnOk result (streams.new.output.device.flushed ≡ true) }
-{
-    let lists = lists_of(alloc, given, folder);
-    match line_rules_of(&lists, given, &mut streams.input) {
-        Ok(line_rules) => check_doubted(alloc, given, secrets, &line_rules, folder, streams),
+    match load_rules(alloc, given, folder, &mut streams.input) {
+        Ok(rules) => check_loaded(alloc, given, &rules, folder, streams),
         Err(failure) => Err(failure),
     }
 }
 
-/// Tells of doubtful patterns of lists, and looks at all files.
-fn check_doubted<'a, F: Folder, I: Read, W: Write, E: Sink>(
+/// Tells of doubtful patterns of lists, and looks at all files by what was loaded.
+fn check_loaded<'a, F: Folder, I: Read, W: Write, E: Sink>(
     alloc: Global,
     given: &[Item<'a>],
-    secrets: &[Rule],
-    line_rules: &Rules,
+    rules: &GivenRules,
     folder: &F,
     streams: &mut Streams<'_, I, W, E>,
 ) -> Result<Verdict, RuledFailure<'a>>
-    requires some { HaveNoEmpty (secrets_of secrets.now) }
-    ensures outcome { UndoubtedCheck W.Write E.Sink F.Folder folder.now given.now secrets.now line_rules.now
+    requires some { HaveNoEmpty (secrets_of rules.now.secrets.items) }
+    ensures outcome { GivenCheck W.Write E.Sink F.Folder folder.now given.now rules.now
         result streams.old streams.new }
     ensures unwritten { has Summary (all_given given.now) ≡ false
         → streams.new.output ≡ streams.old.output }
     ensures flushed { has Summary (all_given given.now) ≡ true
         → OnOk result (streams.new.output.device.flushed ≡ true) }
 {
-    match warn_of_lists(&mut streams.errors, given, secrets, false) {
-        Ok(()) => check_lines(alloc, given, secrets, line_rules, folder, streams),
-        Err(failure) => Err(RuledFailure::Plain(failure)),
+    let secrets = rules.secrets.as_slice();
+    match ready_for_lines(alloc, given, secrets, &mut streams.errors) {
+        Ok(ready) => check_by(
+            alloc,
+            given,
+            secrets,
+            &rules.rules,
+            folder,
+            &ready.searcher,
+            ready.names.as_slice(),
+            streams,
+        ),
+        Err(failure) => Err(failure),
     }
-}
-
-/// Looks at all files.
-fn check_lines<'a, F: Folder, I: Read, W: Write, E: Sink>(
-    alloc: Global,
-    given: &[Item<'_>],
-    secrets: &[Rule],
-    line_rules: &Rules,
-    folder: &F,
-    streams: &mut Streams<'_, I, W, E>,
-) -> Result<Verdict, RuledFailure<'a>>
-    requires some { HaveNoEmpty (secrets_of secrets.now) }
-    ensures outcome { LoadedCheck W.Write E.Sink F.Folder folder.now given.now secrets.now line_rules.now
-        result streams.old streams.new }
-    ensures unwritten { has Summary (all_given given.now) ≡ false
-        → streams.new.output ≡ streams.old.output }
-    ensures flushed { has Summary (all_given given.now) ≡ true
-        → OnOk result (streams.new.output.device.flushed ≡ true) }
-{
-    if let Some(number) = line_end_in(secrets) {
-        return Err(RuledFailure::LineEnd(number));
-    }
-    let patterns = patterns_of(alloc, secrets)?;
-    let names = names(alloc, given)?;
-    let searcher = lined_searcher(alloc, given, patterns.as_slice())?;
-    let names = names.as_slice();
-    check_by(
-        alloc, given, secrets, line_rules, folder, &searcher, names, streams,
-    )
 }
 
 /// Looks at all files by the automaton that the searcher of these patterns holds.
@@ -248,46 +201,15 @@ fn check_to<A: Automaton, F: Folder, I: Read, W: Write, E: Sink>(
         → OnOk result (streams.new.output.device.flushed ≡ true) }
 {
     if checked.tells {
-        return check_telling(cover, checked, names, streams);
+        return check_files(
+            cover,
+            checked,
+            names,
+            &mut streams.input,
+            &mut streams.output,
+            &mut streams.errors,
+        );
     }
-    check_silent(cover, checked, names, streams)
-}
-
-/// Looks at all files, and tells to the output what is found.
-fn check_telling<A: Automaton, F: Folder, I: Read, W: Write, E: Sink>(
-    cover: &mut LineCover<'_, '_, A>,
-    checked: &Checked<'_, '_, '_, F>,
-    names: &[&str],
-    streams: &mut Streams<'_, I, W, E>,
-) -> Result<Verdict, LineError>
-    requires ready { CanCoverLines A.Automaton cover.old }
-    ensures sees { IfCovers A.Automaton cover.old (SeesTo W.Write E.Sink F.Folder checked.now
-        names.now result streams.old streams.new) }
-    ensures flushed { OnOk result (streams.new.output.device.flushed ≡ true) }
-{
-    check_files(
-        cover,
-        checked,
-        names,
-        &mut streams.input,
-        &mut streams.output,
-        &mut streams.errors,
-    )
-}
-
-/// Looks at all files, and writes nothing.
-fn check_silent<A: Automaton, F: Folder, I: Read, W: Write, E: Sink>(
-    cover: &mut LineCover<'_, '_, A>,
-    checked: &Checked<'_, '_, '_, F>,
-    names: &[&str],
-    streams: &mut Streams<'_, I, W, E>,
-) -> Result<Verdict, LineError>
-    requires ready { CanCoverLines A.Automaton cover.old }
-    requires silent { checked.now.tells ≡ false }
-    ensures sees { IfCovers A.Automaton cover.old (SeesTo W.Write E.Sink F.Folder checked.now
-        names.now result streams.old streams.new) }
-    ensures unwritten { streams.new.output ≡ streams.old.output }
-{
     let mut nowhere = Nowhere;
     check_files(
         cover,

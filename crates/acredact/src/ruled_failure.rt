@@ -64,11 +64,11 @@ pub fn tell_ruled<E: Sink>(errors: &mut Errors<'_, E>, failure: &RuledFailure<'_
 }
 
 /// Tells as a line which pattern holds a line end.
-fn tell_line_end<E: Sink>(errors: &mut Errors<'_, E>, number: usize)
-    ensures told { TellsBytes E.Sink errors.old errors.new (line_end_line number) }
+fn tell_line_end<E: Sink>(errors: &mut Errors<'_, E>, at: usize)
+    ensures told { TellsBytes E.Sink errors.old errors.new (line_end_line at) }
 {
     let why = b" holds a line end: it stands in no line, and rules go line by line\n";
-    tell_numbered(errors, b": pattern ", number, why);
+    tell_numbered(errors, b": pattern ", at, why);
 }
 
 /// Tells as a line how many lines have more bytes than this.

@@ -3,11 +3,11 @@
 ghost use Rattle.std.specs.Prelude.{◌≡◌, IfOk, IfSome, None, Ok, OnOk, false, true};
 ghost use Rattle.secret_rules.specs.OpenLines.{CanSearch};
 ghost use Rattle.secret_rules.specs.Ready.{CanCoverLines, most_of, rules_of, searched_automaton, words_of};
-ghost use Rattle.acredact.specs.Ruled.{AreSearchedBy, DoesFile, DoesFiles, IfLined, IsAnyLined, LeavesLined, LinesBy, LinesDone, NamedDone, OpenedDone, StaysLined, unread_of};
-ghost use Rattle.acredact.specs.Volumes.{AddsFile, AddsOpened, AddsStream, AddsText, AllVolume, OneVolume};
+ghost use Rattle.acredact.specs.Ruled.{AreSearchedBy, DoesFile, DoesFiles, IfLined, IsAnyLined, LeavesLined, LinesBy, LinesDone, NamedDone, StaysLined, unread_of};
+ghost use Rattle.acredact.specs.Volumes.{AddsFile, AddsStream, AddsText, AllVolume, OneVolume};
 
 use crate::failure::{tell_output, tell_unread};
-use crate::files::{add_file, both, is_input};
+use crate::files::{add_file, both, is_input, opened};
 use crate::folder::Folder;
 use crate::meter::{Known, Lent, Metered, Taken};
 use crate::streams::Streams;
@@ -123,25 +123,6 @@ pub fn cover_files<A: Automaton, P: Pieces, F: Folder, I: Read, W: Write, E: Sin
     ensures read { AllVolume F.Folder folder.now names.now result volume.old volume.new streams.old streams.new }
     ensures flushed { OnOk result (streams.new.output.device.flushed ≡ true) }
 {
-    let all = cover_each(lined, folder, names, counts, volume, streams)?;
-    streams.output.flush()?;
-    Ok(all)
-}
-
-/// Redacts each file, and answers whether all were read to their ends.
-fn cover_each<A: Automaton, P: Pieces, F: Folder, I: Read, W: Write, E: Sink>(
-    lined: &mut Lined<'_, '_, A, P>,
-    folder: &F,
-    names: &[&str],
-    counts: &mut [u64],
-    volume: &mut Volume,
-    streams: &mut Streams<'_, I, W, E>,
-) -> Result<bool, LineError>
-    requires ready { IsAnyLined A.Automaton P.Pieces lined.old }
-    ensures outcome { IfLined A.Automaton P.Pieces lined.old (DoesFiles W.Write E.Sink F.Folder
-        folder.now names.now result counts.old counts.new streams.old streams.new) }
-    ensures read { AllVolume F.Folder folder.now names.now result volume.old volume.new streams.old streams.new }
-{
     let mut all = true;
     let mut rest = names;
     while !rest.is_empty() {
@@ -150,6 +131,7 @@ fn cover_each<A: Automaton, P: Pieces, F: Folder, I: Read, W: Write, E: Sink>(
         all = both(all, whole);
         rest = &rest[1..];
     }
+    streams.output.flush()?;
     Ok(all)
 }
 
@@ -174,26 +156,6 @@ fn cover_told<A: Automaton, P: Pieces, F: Folder, I: Read, W: Write, E: Sink>(
         tell_output(&mut streams.errors, name);
         return Ok(false);
     }
-    cover_apart(lined, folder, name, counts, volume, streams)
-}
-
-/// Redacts a file that the output does not go to, and answers whether it was read to its end. One that was not is told.
-fn cover_apart<A: Automaton, P: Pieces, F: Folder, I: Read, W: Write, E: Sink>(
-    lined: &mut Lined<'_, '_, A, P>,
-    folder: &F,
-    name: &str,
-    counts: &mut [u64],
-    volume: &mut Volume,
-    streams: &mut Streams<'_, I, W, E>,
-) -> Result<bool, LineError>
-    requires ready { IsAnyLined A.Automaton P.Pieces lined.old }
-    requires apart { F.meets folder.now name.now false }
-    ensures outcome { IfLined A.Automaton P.Pieces lined.old (DoesFile W.Write E.Sink F.Folder
-        folder.now name.now result counts.old counts.new streams.old streams.new) }
-    ensures read { OneVolume F.Folder folder.now name.now result volume.old volume.new streams.old streams.new }
-    ensures files { volume.new.files ≡ volume.old.files }
-    ensures still { StaysLined A.Automaton P.Pieces lined.old lined.new }
-{
     match cover_file(
         lined,
         folder,
@@ -232,29 +194,13 @@ fn cover_file<A: Automaton, P: Pieces, F: Folder, I: Read, W: Write>(
     if is_input(name) {
         return cover_input(lined, counts, volume, input, output);
     }
-    match folder.open(name) {
-        Ok(file) => cover_opened(lined, counts, volume, file, output),
+    match opened(folder, name) {
+        Ok(source) => {
+            let mut source = source;
+            cover_input(lined, counts, volume, &mut source, output)
+        }
         Err(reason) => Ok(Some(reason)),
     }
-}
-
-/// Redacts a reader to its end, and answers why it cannot be read to that, where it cannot.
-fn cover_opened<A: Automaton, P: Pieces, I: Read + Drop, W: Write>(
-    lined: &mut Lined<'_, '_, A, P>,
-    counts: &mut [u64],
-    volume: &mut Volume,
-    reader: I,
-    output: &mut FromWrite<W>,
-) -> Result<Option<Reason>, LineError>
-    requires ready { IsAnyLined A.Automaton P.Pieces lined.old }
-    ensures outcome { IfLined A.Automaton P.Pieces lined.old (OpenedDone W.Write
-        result counts.old counts.new (I.remaining reader) output.old output.new) }
-    ensures read { result ≡ Ok None → AddsOpened volume.old.bytes volume.new.bytes (I.remaining reader) }
-    ensures files { volume.new.files ≡ volume.old.files }
-    ensures still { StaysLined A.Automaton P.Pieces lined.old lined.new }
-{
-    let mut source = FromRead::new(reader);
-    cover_input(lined, counts, volume, &mut source, output)
 }
 
 /// Redacts the input to its end, and answers why it cannot be read to that, where it cannot.

@@ -5,19 +5,19 @@ ghost use Rattle.chromesquid.specs.Searcher.{ForItsPatterns};
 ghost use Rattle.tool_parts.specs.Arguments.{texts};
 ghost use Rattle.tool_parts.specs.Streams.{WritesBytes};
 ghost use Rattle.tool_parts.specs.Telling.{Tells, TellsBytes, TellsSome};
-ghost use Rattle.acredact.specs.Arguments.{AreMistaken, AsksToRedact, GivesNoPattern, IfAsked, IfChecking, IfNoCheck, IfRuled, IfRulesCheck, IsCheck, RefusesUnclean, all_given, any_check_asked, counts_asked, counts_given, has};
+ghost use Rattle.acredact.specs.Arguments.{AreMistaken, AsksToRedact, GivesNoPattern, IfAsked, IfChecking, IfNoCheck, IfRight, IfRuled, IfRulesCheck, IsCheck, RefusesUnclean, all_given, any_check_asked, counts_asked, counts_given, has};
 ghost use Rattle.acredact.specs.Back.{FilesJob};
 ghost use Rattle.acredact.specs.Bounds.{JobNumbers};
 ghost use Rattle.acredact.specs.Calls.{AskedOutcome, BeginsAsked, CountsAsked, HidesAsked, IsCountsFailure, IsCountsLine, IsPrintFailure, IsRefusedLine, IsWrongLine, LeavesNoneAsked, LoadOutcome, NumbersToldAsked, OutputFails, ReadyOutcome, RedactsAsked, TellsAsked, TellsAnyCounts, WarnsAsked, gives_pattern, gives_value};
-ghost use Rattle.acredact.specs.Checks.{MatchedAsked, SaysOfCheck, TellsListsAsked, TellsUncheckedAsked, UnmatchedAsked};
+ghost use Rattle.acredact.specs.Checks.{MatchedAsked, TellsListsAsked, TellsUncheckedAsked, UnmatchedAsked};
 ghost use Rattle.acredact.specs.Counts.{PutsText, lines_of_rules, secret_lines};
 ghost use Rattle.acredact.specs.Failures.{IsFailureLine};
 ghost use Rattle.acredact.specs.Files.{CanDo};
 ghost use Rattle.acredact.specs.Loading.{AreSome, loaded_in};
 ghost use Rattle.acredact.specs.Ready.{IsReadyBy};
-ghost use Rattle.acredact.specs.RuledChecks.{RuledFindingsBegin, RuledFound, RuledClean, SaysOfRulesCheck, ListsByRules};
-ghost use Rattle.acredact.specs.Ruled.{NotesAsked, RuledAsked, RuledBegins, RuledCountsAsked, RuledTells, SaysOfRules};
-ghost use Rattle.acredact.specs.Statuses.{IsIdle, SaysOfRedaction};
+ghost use Rattle.acredact.specs.RuledChecks.{ListsByRules, RuledClean, RuledFindingsBegin, RuledFound};
+ghost use Rattle.acredact.specs.Ruled.{NotesAsked, RuledAsked, RuledBegins, RuledCountsAsked, RuledTells};
+ghost use Rattle.acredact.specs.Statuses.{IsIdle, SaysOfCall, SaysOfRedaction};
 ghost use Rattle.acredact.specs.Sums.{sums_of};
 ghost use Rattle.acredact.specs.Tables.{secrets_of};
 ghost use Rattle.acredact.specs.Summaries.{counts_told_by, summary_told_by, totals_text};
@@ -167,6 +167,27 @@ pub fn run<F: Folder, I: Read, W: Write, E: Sink>(
     ensures bound { result ≤ 2 }
     ensures one { result ≡ 1 → IsCheck arguments.now }
 {
+    answer_to(alloc, arguments, folder, streams)
+}
+
+/// Reads the arguments, does what they ask for, and answers the exit status.
+fn answer_to<F: Folder, I: Read, W: Write, E: Sink>(
+    alloc: Global,
+    arguments: &[String],
+    folder: &F,
+    streams: &mut Streams<'_, I, W, E>,
+) -> u8
+    ensures wrong { AreMistaken arguments.now → result ≡ 2 }
+    ensures idle { AreMistaken arguments.now → IsIdle streams.old streams.new }
+    ensures tells_wrong { AreMistaken arguments.now → TellsSome E.Sink
+        (IsWrongLine (texts arguments.now)) streams.old.errors streams.new.errors }
+    ensures says { IfRight arguments.now (λ given.
+        SaysOfCall W.Write E.Sink F.Folder folder.now given result streams.old streams.new) }
+    ensures flushed { IfNoCheck arguments.now (result ≡ 0
+        → streams.new.output.device.flushed ≡ true) }
+    ensures bound { result ≤ 2 }
+    ensures one { result ≡ 1 → IsCheck arguments.now }
+{
     match items(alloc, arguments) {
         Ok(given) => answer(alloc, given.as_slice(), folder, streams),
         Err(mistake) => report(&Failure::Arguments(mistake), &mut streams.errors),
@@ -180,13 +201,7 @@ fn answer<F: Folder, I: Read, W: Write, E: Sink>(
     folder: &F,
     streams: &mut Streams<'_, I, W, E>,
 ) -> u8
-    ensures redacted { SaysOfRedaction W.Write E.Sink F.Folder folder.now (all_given given.now)
-        result streams.old streams.new }
-    ensures checked { SaysOfCheck E.Sink F.Folder folder.now (all_given given.now)
-        result streams.old streams.new }
-    ensures ruled { SaysOfRules W.Write E.Sink F.Folder folder.now (all_given given.now)
-        result streams.old streams.new }
-    ensures ruled_check { SaysOfRulesCheck W.Write E.Sink F.Folder folder.now (all_given given.now)
+    ensures says { SaysOfCall W.Write E.Sink F.Folder folder.now (all_given given.now)
         result streams.old streams.new }
     ensures flushed { any_check_asked (all_given given.now) ≡ false → result ≡ 0
         → streams.new.output.device.flushed ≡ true }
@@ -207,6 +222,21 @@ fn answer<F: Folder, I: Read, W: Write, E: Sink>(
             &mut streams.errors,
         );
     }
+    redact_plain(alloc, given, folder, streams)
+}
+
+/// Does what the options and files ask for, where that is no check and there are no rules, and answers the exit status.
+fn redact_plain<F: Folder, I: Read, W: Write, E: Sink>(
+    alloc: Global,
+    given: &[Item<'_>],
+    folder: &F,
+    streams: &mut Streams<'_, I, W, E>,
+) -> u8
+    ensures says { SaysOfRedaction W.Write E.Sink F.Folder folder.now (all_given given.now)
+        result streams.old streams.new }
+    ensures flushed { result ≡ 0 → streams.new.output.device.flushed ≡ true }
+    ensures bound { (result ≡ 0) ⊎ (result ≡ 2) }
+{
     match redact_asked(alloc, given, folder, streams) {
         Ok(true) => 0,
         Ok(false) => FAILED,
@@ -225,11 +255,11 @@ pub fn report<E: Sink>(failure: &Failure<'_>, errors: &mut Errors<'_, E>) -> u8
 }
 
 /// Tells why there are no arguments, or no memory to begin with, and answers the exit status.
-pub fn refuse<E: Sink>(failure: failure::Failure, errors: &mut Errors<'_, E>) -> u8
+pub fn refuse<E: Sink>(error: failure::Failure, errors: &mut Errors<'_, E>) -> u8
     ensures failed { result ≡ 2 }
-    ensures told { TellsSome E.Sink (IsRefusedLine failure) errors.old errors.new }
+    ensures told { TellsSome E.Sink (IsRefusedLine error) errors.old errors.new }
 {
-    match failure {
+    match error {
         failure::Failure::Usage => report(&Failure::NotText, errors),
         other => report(&Failure::Other(other), errors),
     }

@@ -1,10 +1,11 @@
 //! What is loaded before any file is read: the rules of all patterns, and the key of pseudonyms.
 
-ghost use Rattle.std.specs.Prelude.{◌≡◌, Option, IfErr, IfOk};
+ghost use Rattle.std.specs.Prelude.{◌≡◌, Option, Some, IfErr, IfOk};
 ghost use Rattle.tool_parts.specs.Streams.{bytes_left};
 ghost use Rattle.acredact.specs.Arguments.{all_given, has};
 ghost use Rattle.acredact.specs.Calls.{AreLoadedBy, CannotLoadBy, LoadsBeside};
-ghost use Rattle.acredact.specs.Loading.{AreSome, LoadsByKey, key_in, key_lent};
+ghost use Rattle.acredact.specs.Loading.{AreSome, key_in, key_lent, loaded_by, loaded_in};
+ghost use Rattle.acredact.specs.Tables.{secrets_of};
 ghost use Rattle.acredact.specs.declared.arguments.Word.TheVariants.{IgnoreCase};
 
 use crate::arguments::{Item, Word, has};
@@ -72,7 +73,8 @@ fn with_key(
     rules: Vec<Rule>,
     key: Vec<u8>,
 ) -> Result<Secrets, AllocError>
-    ensures loaded { IfOk result (LoadsByKey given.now rules.items key.items) }
+    ensures loaded { IfOk result (λ made. loaded_in made
+        ≡ loaded_by (all_given given.now) (secrets_of rules.items) (Some key.items)) }
 {
     if !has(given, Word::Forms) {
         return Ok(Secrets {

@@ -39,14 +39,14 @@ pub fn put_amounts(text: &mut Vec<u8>, volume: Volume, counts: &[u64]) -> Result
 }
 
 /// Numbers with commas between them.
-fn put_list(text: &mut Vec<u8>, numbers: &[u64]) -> Result<(), AllocError>
-    ensures put { OnOk result (PutsText text.old text.new (listed numbers.now)) }
+fn put_list(text: &mut Vec<u8>, counts: &[u64]) -> Result<(), AllocError>
+    ensures put { OnOk result (PutsText text.old text.new (listed counts.now)) }
 {
-    if numbers.is_empty() {
+    if counts.is_empty() {
         return Ok(());
     }
-    put_number(text, numbers[0])?;
-    put_more(text, &numbers[1..])
+    put_number(text, counts[0])?;
+    put_more(text, &counts[1..])
 }
 
 /// Numbers with a comma in front of each.

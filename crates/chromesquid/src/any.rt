@@ -2,6 +2,7 @@
 
 pub use aho_automaton::automaton::{Counted, find_in, find_in_by};
 pub use aho_automaton::patience::Patience;
+pub use aho_backward::backward::Backward;
 pub use aho_cover::pieces::{PatternPieces, Pieces};
 pub use aho_cover::start::StreamCoverStart;
 pub use aho_cover::stream::{

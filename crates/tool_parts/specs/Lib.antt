@@ -1,5 +1,6 @@
 pub mod Asked
 pub mod Automata
+pub mod Building
 pub mod Failures
 pub mod Streams
 pub mod Answers

@@ -5,6 +5,7 @@
 #![tactic(auto)]
 
 pub mod arguments;
+pub mod building;
 pub mod closed;
 pub mod command;
 pub mod errors;

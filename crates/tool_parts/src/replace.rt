@@ -12,7 +12,7 @@ ghost use Rattle.tool_parts.specs.Streams.{CountsFaults};
 
 use crate::failure::Failure;
 use crate::print::flush;
-use crate::searcher::searcher_of;
+use crate::searcher::searcher_by;
 use chromesquid::noncontiguous::NFA;
 use chromesquid::{AhoCorasick, AhoCorasickBuilder, FromRead, FromWrite};
 use std::alloc::{AllocError, Global};
@@ -49,7 +49,7 @@ pub fn replace<R: Read, W: Write>(
     let patterns = pairs.patterns.as_slice();
     let pieces = pairs.pieces.as_slice();
     let automaton = build(alloc, patterns)?;
-    let searcher = searcher_of(alloc, AhoCorasickBuilder::new(), automaton, patterns);
+    let searcher = searcher_by(alloc, AhoCorasickBuilder::new(), automaton, patterns);
     replace_all(alloc, &searcher, pieces, input, output)?;
     flush(output)
 }

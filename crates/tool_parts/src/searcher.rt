@@ -28,7 +28,7 @@ pub(crate) fn bytes_of(alloc: Global, arguments: &[String]) -> Result<Vec<&[u8]>
 }
 
 /// The searcher of these patterns by the automaton of them, built as it is asked for. What memory is refused for is left out.
-pub(crate) fn searcher_of(
+pub(crate) fn searcher_by(
     alloc: Global,
     builder: AhoCorasickBuilder,
     automaton: NFA,
@@ -77,5 +77,5 @@ pub(crate) fn searcher_for(
     ensures start { HasStartKind Unanchored result }
 {
     let builder = builder_for(task, text_len >= automaton.memory_usage());
-    searcher_of(alloc, builder, automaton, patterns)
+    searcher_by(alloc, builder, automaton, patterns)
 }

@@ -1,5 +1,5 @@
 -- The digits at the front are a number.
-use Rattle.std.proofs.Common.{◌∙◌, ap, sym, List, ℕ}
+use Rattle.std.proofs.Common.{◌∙◌, List, ap, sym, ℕ}
 use Rattle.aho_build.proofs.StoppedBuilds.{IfErr-given}
 use Rattle.acgrep.specs.Arguments.{AreRefused, letters_by, said, with_number}
 use Rattle.acgrep.specs.Mistakes.{IsTold, wrong_letters}

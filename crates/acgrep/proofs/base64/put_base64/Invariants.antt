@@ -1,6 +1,5 @@
 -- With what is left written behind it, what was written is all.
-use Rattle.std.proofs.Common.{ℕ, List, length}
-use Rattle.std.specs.Prelude.{Option}
+use Rattle.std.proofs.Common.{List, Option, length, ℕ}
 use Rattle.std.specs.Io.KnownBytes.{Appends}
 use Rattle.acgrep.specs.Base64.{base64_of}
 use Rattle.acgrep.proofs.base64.put_base64.Given as goal

@@ -1,5 +1,5 @@
 -- A line that is due is written.
-use Rattle.std.proofs.Common.{◌≡◌, [], ◌∷◌, Some, refl, subst}
+use Rattle.std.proofs.Common.{◌∷◌, ◌≡◌, Some, [], refl, subst}
 use Rattle.std.proofs.KnownBytes.{Appends-nil}
 use Rattle.aho_devices.specs.Counts.{AppendsBeginning}
 use Rattle.acgrep.specs.Contexts.{WalksSome, walk_of}

@@ -1,5 +1,5 @@
 -- The name that is told is that of the file.
-use Rattle.std.proofs.Common.{◌≡◌, ℕ, true, false, refl, sym, ap, subst, ◌∙◌}
+use Rattle.std.proofs.Common.{◌∙◌, ◌≡◌, ap, false, refl, subst, sym, true, ℕ}
 use Rattle.aho_core.specs.Patterns.{Patterns}
 use Rattle.tool_parts.specs.Names.{is_input}
 use Rattle.acgrep.specs.Files.{SearchesFile, SearchesReader, shown_name}

@@ -1,5 +1,5 @@
 -- The name is that of standard input, or of a file.
-use Rattle.std.proofs.Common.{Bool, List, ℕ, ap, false, subst, sym, ◌∙◌}
+use Rattle.std.proofs.Common.{◌∙◌, Bool, List, ap, false, subst, sym, ℕ}
 use Rattle.acgrep.specs.Files.{IsNamed}
 use Rattle.acgrep.specs.Told.{TellsOutcome}
 use Rattle.acgrep.specs.ToldByRules.{IsMarkTold}

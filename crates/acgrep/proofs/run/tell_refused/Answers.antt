@@ -1,5 +1,5 @@
 -- What is told of wrong arguments.
-use Rattle.std.proofs.Common.{inl, inr, refl, sym, subst}
+use Rattle.std.proofs.Common.{inl, inr, refl, subst, sym}
 use Rattle.std.specs.List.{concat}
 use Rattle.tool_parts.proofs.Lines.{some-one, some-weaker}
 use Rattle.acgrep.specs.Mistakes.{TellsRefused}

@@ -1,10 +1,8 @@
 -- What is told is what the other arguments ask for.
-use Rattle.std.proofs.Common.{◌≡◌, List, length, ap, refl, subst, ◌∙◌}
-use Rattle.std.specs.Prelude.{◌==◌, Some}
-use Rattle.tool_parts.specs.Arguments.{texts}
+use Rattle.std.proofs.Common.{List, length, ap, refl, ◌∙◌}
+use Rattle.std.specs.Prelude.{◌==◌}
 use Rattle.acredact.specs.Apart.{told_by}
-use Rattle.acredact.specs.Arguments.{all_asked, all_given}
-use Rattle.acredact.specs.Mistakes.{IsMistakeOfCall}
+use Rattle.acredact.specs.Arguments.{all_given}
 use Rattle.acredact.proofs.SetApart.{none_is}
 use Rattle.acredact.proofs.apart.tell_apart.Goals as goal
 
@@ -12,14 +10,10 @@ pub returns-in-Ok-clause-which : goal.returns-in-Ok-clause-which
 returns-in-Ok-clause-which g c =
     let items = c.in-Ok.given.items in (
       all_given items,
-      subst (λ (l : List _). all_asked (texts l) ≡ Some (all_given items)) c.as_slice.ensures.value c.in-Ok.ensures.given,
+      rw c.as_slice.ensures.value at c.in-Ok.ensures.given,
       c.told_by-told.ensures.told ∙ ap (λ l. told_by (all_given l) c.is_empty.result) c.as_slice-in-Ok.ensures.value
           ∙ ap (told_by (all_given items)) (c.is_empty.ensures ∙ ap (λ (l : List _). length l == 0) c.as_slice-names.ensures.value ∙ none_is c.args.apart.now.names.items),
     )
 
 pub returns-in-Err-clause-wrong : goal.returns-in-Err-clause-wrong
-returns-in-Err-clause-wrong g c = (
-  c.in-Err.mistake,
-  refl,
-  subst (λ (l : List _). IsMistakeOfCall (texts l) c.in-Err.mistake) c.as_slice.ensures.value c.in-Err.ensures.wrong,
-)
+returns-in-Err-clause-wrong g c = (c.in-Err.mistake, refl, rw c.as_slice.ensures.value at c.in-Err.ensures.wrong)

@@ -1,5 +1,5 @@
 -- Of one more it is told.
-use Rattle.std.proofs.Common.{rules, ◌≡◌, ℕ, List, [], ◌++◌, length, refl, sym, ap, subst, ◌∙◌, append-nil, append_assoc}
+use Rattle.std.proofs.Common.{rules, ◌≡◌, [], ◌++◌, length, refl, sym, ap, subst, ◌∙◌, append-nil, append_assoc}
 use Rattle.std.proofs.lemmas.List.{nil_from_length}
 use Rattle.tool_parts.specs.Telling.{TellsBytes}
 use Rattle.tool_parts.proofs.Tellings.{tells-later}
@@ -18,7 +18,7 @@ loop-name-preserved g c =
     let others = unnamed_lines (bytes_of_names c.in-Some.behind.now) in (
       done ++ unnamed_line name,
       is ∙ ap (λ l. done ++ unnamed_lines (bytes_of_names l)) c.in-Some.ensures.cases.0 ∙ sym (append_assoc done (unnamed_line name) others),
-      tells-later g.E.Sink told (subst (λ (l : List ℕ). TellsBytes g.E.Sink c.loop-name.errors c.tell_shown.new.errors (unnamed_line l)) c.as_slice.ensures.value c.tell_shown.ensures.told),
+      tells-later g.E.Sink told (rw c.as_slice.ensures.value at c.tell_shown.ensures.told),
     )
 
 pub returns : goal.returns

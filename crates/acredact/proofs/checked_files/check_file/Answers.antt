@@ -13,9 +13,9 @@ returns-then-is_input-clause-looked g c = λ covering covered.
 
 pub returns-in-Ok-clause-looked : goal.returns-in-Ok-clause-looked
 returns-in-Ok-clause-looked g c = λ covering covered.
-    let opened = c.check_opened.ensures.looked covering covered in
-    looked_opened (quest_in g.F.Folder c.args.checked.now covering) c.args.name.now _ _ _ _ c.check_opened.result (sym c.is_input.ensures.is ∙ c.if-is_input.false) refl _ opened.0 c.in-Ok.ensures.told
-    (subst (λ (n : List ℕ). LookedText covering (labels_of c.args.checked.now.legend) n c.check_opened.result (g.F.File.Read.remaining c.in-Ok.file) opened.0 (g.W.Sink.taken c.args.output.now) (g.W.Sink.taken c.check_opened.new.output)) c.as_bytes.ensures.value opened.1)
+    looked_opened (quest_in g.F.Folder c.args.checked.now covering) c.args.name.now _ _ _ _ c.check_input-in-Ok.result (sym c.is_input.ensures.is ∙ c.if-is_input.false) refl _ _ c.in-Ok.ensures.told
+    (subst (λ (n : List ℕ). LookedText covering (labels_of c.args.checked.now.legend) n c.check_input-in-Ok.result (bytes_left c.in-Ok.source) (bytes_left c.check_input-in-Ok.new.input) (g.W.Sink.taken c.args.output.now) (g.W.Sink.taken c.check_input-in-Ok.new.output))
+    c.as_bytes.ensures.value (c.check_input-in-Ok.ensures.looked covering covered))
 
 pub returns-in-Err-clause-looked : goal.returns-in-Err-clause-looked
 returns-in-Err-clause-looked g c = λ covering covered.

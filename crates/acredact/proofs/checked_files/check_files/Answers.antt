@@ -1,26 +1,53 @@
--- A flush keeps what was written.
-use Rattle.std.proofs.Common.{rules, ◌≡◌, sym, subst}
+-- A file more was looked at.
+use Rattle.std.proofs.Common.{rules, ◌≡◌, ◌≤◌, length, subst, sym}
 use Rattle.std.specs.Prelude.{Result, Err}
 use Rattle.tool_parts.specs.Names.{name_bytes}
 use Rattle.secret_rules.specs.declared.error.LineError.{LineError}
 use Rattle.secret_rules.specs.declared.error.LineError.TheVariants.{Stream}
 use Rattle.acredact.specs.RuledChecks.{SeesFiles, quest_in}
 use Rattle.acredact.specs.declared.look.Verdict.{Verdict}
-use Rattle.acredact.proofs.LookedFiles.{seen_failed, seen_kept}
+use Rattle.acredact.proofs.Done.{names_cut, names_end}
+use Rattle.acredact.proofs.LookedFiles.{seen_failed, seen_kept, so_far_all, so_far_fails, so_far_next, so_far_none}
 use Rattle.acredact.proofs.checked_files.check_files.Goals as goal
 
-pub returns-in_err-verdict-clause-sees : goal.returns-in_err-verdict-clause-sees
-returns-in_err-verdict-clause-sees g c =
-    let is : c.from_residual.result ≡ Err c.in_err-verdict.field-0.0 = search rules in λ covering covered.
-    subst (λ (r : Result Verdict LineError). SeesFiles g.W.Sink g.E.Sink g.F.Folder c.args.checked.now c.args.names.now r c.args.input.now c.check_each.new.input c.args.output.now c.check_each.new.output c.args.errors.now c.check_each.new.errors covering) (sym is)
-    (c.in_err-verdict.ensures.sees covering covered)
+pub loop-rest-init : goal.loop-rest-init
+loop-rest-init g c = record {
+  can = c.requires.ready;
+  seen = λ covering covered. (covered, so_far_none g.E.Sink (quest_in g.F.Folder c.args.checked.now covering) (name_bytes c.args.names.now) _ _ _);
+}
+
+pub loop-rest-preserved : goal.loop-rest-preserved
+loop-rest-preserved g c =
+    let some : 1 ≤ length c.loop-rest.rest.now = search rules in
+    record {
+      can = c.in_ok-seen.ensures.ready;
+      seen = λ covering covered.
+          let so = c.loop-rest.invariant.seen covering covered in (
+            c.in_ok-seen.ensures.still covering so.0,
+            so_far_next g.E.Sink (quest_in g.F.Folder c.args.checked.now covering) (name_bytes c.args.names.now) _ _ _ c.loop-rest.verdict _ c.in_ok-seen.seen _ _ _ _ _ _ _ _ _ so.1 (names_cut c.loop-rest.rest.now _ some)
+                (c.in_ok-seen.ensures.sees covering so.0) c.verdict_seen-verdict.ensures.seen,
+          );
+    }
+
+pub returns-in_err-seen-clause-sees : goal.returns-in_err-seen-clause-sees
+returns-in_err-seen-clause-sees g c =
+    let is : c.from_residual.result ≡ Err c.in_err-seen.field-0.0 = search rules in
+    let some : 1 ≤ length c.loop-rest.rest.now = search rules in λ covering covered.
+    let so = c.loop-rest.invariant.seen covering covered in
+    subst (λ (r : Result Verdict LineError). SeesFiles g.W.Sink g.E.Sink g.F.Folder c.args.checked.now c.args.names.now r c.args.input.now c.check_told.new.input c.args.output.now c.check_told.new.output c.args.errors.now c.check_told.new.errors covering) (sym is)
+    (so_far_fails g.E.Sink (quest_in g.F.Folder c.args.checked.now covering) (name_bytes c.args.names.now) _ _ _ c.loop-rest.verdict _ _ _ _ _ _ _ _ _ _ so.1 (names_cut c.loop-rest.rest.now _ some)
+    (c.in_err-seen.ensures.sees covering so.0))
 
 pub returns-in_err-flush-clause-sees : goal.returns-in_err-flush-clause-sees
 returns-in_err-flush-clause-sees g c =
-    let is : c.from_residual-in_err-flush.result ≡ Err (Stream c.in_err-flush.field-0.0) = search rules in λ covering covered.
-    subst (λ (r : Result Verdict LineError). SeesFiles g.W.Sink g.E.Sink g.F.Folder c.args.checked.now c.args.names.now r c.args.input.now c.check_each.new.input c.args.output.now c.flush.new.self c.args.errors.now c.check_each.new.errors covering) (sym is)
-    (seen_failed g.E.Sink (quest_in g.F.Folder c.args.checked.now covering) (name_bytes c.args.names.now) _ _ _ _ _ _ _ _ _ c.in_err-flush.ensures.kept (c.in_ok-verdict.ensures.sees covering covered))
+    let is : c.from_residual-in_err-flush.result ≡ Err (Stream c.in_err-flush.field-0.0) = search rules in
+    let none : length c.loop-rest.rest.now ≡ 0 = search rules in λ covering covered.
+    subst (λ (r : Result Verdict LineError). SeesFiles g.W.Sink g.E.Sink g.F.Folder c.args.checked.now c.args.names.now r c.args.input.now c.loop-rest.input c.args.output.now c.flush.new.self c.args.errors.now c.loop-rest.errors covering) (sym is)
+    (seen_failed g.E.Sink (quest_in g.F.Folder c.args.checked.now covering) (name_bytes c.args.names.now) c.loop-rest.verdict _ _ _ _ _ _ _ _ c.in_err-flush.ensures.kept
+    (so_far_all g.E.Sink (quest_in g.F.Folder c.args.checked.now covering) (name_bytes c.args.names.now) _ c.loop-rest.verdict _ _ _ _ _ _ (c.loop-rest.invariant.seen covering covered).1 (names_end c.loop-rest.rest.now none)))
 
 pub returns-clause-sees : goal.returns-clause-sees
-returns-clause-sees g c = λ covering covered.
-    seen_kept g.E.Sink (quest_in g.F.Folder c.args.checked.now covering) (name_bytes c.args.names.now) _ _ _ _ _ _ _ _ c.in_ok-flush.ensures.kept (c.in_ok-verdict.ensures.sees covering covered)
+returns-clause-sees g c =
+    let none : length c.loop-rest.rest.now ≡ 0 = search rules in λ covering covered.
+    seen_kept g.E.Sink (quest_in g.F.Folder c.args.checked.now covering) (name_bytes c.args.names.now) c.loop-rest.verdict _ _ _ _ _ _ _ c.in_ok-flush.ensures.kept
+    (so_far_all g.E.Sink (quest_in g.F.Folder c.args.checked.now covering) (name_bytes c.args.names.now) _ c.loop-rest.verdict _ _ _ _ _ _ (c.loop-rest.invariant.seen covering covered).1 (names_end c.loop-rest.rest.now none))

@@ -1,6 +1,5 @@
 -- The piece at the place of the loop, or none of all.
-use Rattle.std.proofs.Common.{List, ℕ, ap, below_more, arith, sym, subst, length}
-use Rattle.aho_laws.specs.CoverLaws.{IsCleanPiece}
+use Rattle.std.proofs.Common.{ap, below_more, arith, length}
 use Rattle.acredact.specs.Pieces.{pieces_by}
 use Rattle.acredact.proofs.Flaws.{clean_all, pieces_count, rule_piece, unclean_at}
 use Rattle.acredact.proofs.clean.first_unclean.Goals as goal
@@ -16,7 +15,7 @@ pub loop-at-preserved : goal.loop-at-preserved
 loop-at-preserved g c = (
   omega (arith, c.loop-at-test.true),
   λ p of are. below_more _ _ (c.loop-at.invariant.1 p of are)
-      (subst (λ (l : List ℕ). IsCleanPiece p l) (sym (rule_piece c.args.judge.now.rules.now c.args.judge.now.usual.now c.loop-at.at c.index-judge-at.result c.loop-at-test.true)) (c.in-None.ensures.flaw p of are)),
+      (rw (rule_piece c.args.judge.now.rules.now c.args.judge.now.usual.now c.loop-at.at c.index-judge-at.result c.loop-at-test.true) (c.in-None.ensures.flaw p of are)),
 )
 
 pub returns : goal.returns

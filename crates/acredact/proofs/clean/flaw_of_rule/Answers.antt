@@ -1,15 +1,14 @@
 -- The piece is the rule's own, or the usual one.
-use Rattle.std.proofs.Common.{rules, ◌≡◌, List, ℕ, subst}
-use Rattle.acredact.specs.Pieces.{IsFlawOrNone}
+use Rattle.std.proofs.Common.{rules, ◌≡◌}
 use Rattle.acredact.specs.Tables.{piece_by, secret_of}
 use Rattle.acredact.proofs.clean.flaw_of_rule.Goals as goal
 
 pub returns-in-Some : goal.returns-in-Some
 returns-in-Some g c =
     let is : c.as_slice.result.now ≡ piece_by c.args.judge.now.usual.now (secret_of c.args.rule.now) = search rules in
-    record { flaw = λ p of are. subst (λ (l : List ℕ). IsFlawOrNone p l c.flaw_of.result) is (c.flaw_of.ensures.flaw p of are) }
+    record { flaw = λ p of are. rw is at (c.flaw_of.ensures.flaw p of are) }
 
 pub returns-in-None : goal.returns-in-None
 returns-in-None g c =
     let is : c.args.judge.now.usual.now ≡ piece_by c.args.judge.now.usual.now (secret_of c.args.rule.now) = search rules in
-    record { flaw = λ p of are. subst (λ (l : List ℕ). IsFlawOrNone p l c.flaw_unless.result) is (c.flaw_unless.ensures.flaw p of are) }
+    record { flaw = λ p of are. rw is at (c.flaw_unless.ensures.flaw p of are) }

@@ -4,11 +4,9 @@ use Rattle.std.specs.Prelude.{None}
 use Rattle.std.proofs.lemmas.List.Elements.{All-nil}
 use Rattle.std.proofs.lemmas.Grind.{common_steps}
 use Rattle.std.proofs.lemmas.List.{nil_from_length}
-use Rattle.acredact.specs.Arguments.{all_given}
-use Rattle.acredact.specs.Doubts.{AreUndoubted, RefusesDoubt, doubt_of}
+use Rattle.acredact.specs.Doubts.{AreUndoubted, doubt_of}
 use Rattle.acredact.specs.Tables.{secret_of, secrets_of}
-use Rattle.acredact.specs.declared.patterns.Rule.{Rule}
-use Rattle.acredact.proofs.Doubting.{first_rule, undoubted_next}
+use Rattle.acredact.proofs.Doubting.{first_rule, front_next}
 use Rattle.acredact.proofs.doubts.refuse_doubtful.Goals as goal
 
 pub loop-rest-init : goal.loop-rest-init
@@ -19,8 +17,8 @@ loop-rest-preserved c =
     let (front, is, before) = c.loop-rest.invariant in
     let some : 1 ≤ length c.loop-rest.rest.now = search rules in
     let rule = get_or c.loop-rest.rest.now 0 c.index-rest-0.result in
-    let none : doubt_of (secret_of rule) ≡ None = subst (λ (r : Rule). doubt_of (secret_of r) ≡ None) c.index-rest-0.is c.in-Ok.ensures.none in
-    let next = undoubted_next _ front c.loop-rest.rest.now c.index-rest-0.result some (is, before) none in
+    let none : doubt_of (secret_of rule) ≡ None = rw c.index-rest-0.is at c.in-Ok.ensures.none in
+    let next = front_next (λ secret. doubt_of secret ≡ None) _ front c.loop-rest.rest.now c.index-rest-0.result some (is, before) none in
     (front ++ (secret_of rule ∷ []), next.0, next.1)
 
 pub returns-in-Err-clause-refused : goal.returns-in-Err-clause-refused
@@ -34,7 +32,7 @@ returns-in-Err-clause-refused c =
       rest = secrets_of (drop 1 c.loop-rest.rest.now);
       are = first_rule _ front c.loop-rest.rest.now c.index-rest-0.result some is;
       before = before;
-      of = subst (λ (r : Rule). RefusesDoubt (all_given c.args.given.now) (secret_of r) c.in-Err.failure) c.index-rest-0.is c.in-Err.ensures.refused;
+      of = rw c.index-rest-0.is at c.in-Err.ensures.refused;
     }
 
 pub returns : goal.returns

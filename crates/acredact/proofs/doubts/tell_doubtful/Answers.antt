@@ -5,11 +5,10 @@ use Rattle.std.proofs.lemmas.List.{nil_from_length}
 use Rattle.tool_parts.specs.Telling.{TellsBytes}
 use Rattle.tool_parts.proofs.Tellings.{tells-later}
 use Rattle.acredact.specs.Arguments.{all_given}
-use Rattle.acredact.specs.Doubts.{list_doubt_lines, doubt_lines}
-use Rattle.acredact.specs.Tables.{secret_of, secrets_of}
-use Rattle.acredact.specs.declared.patterns.Rule.{Rule}
+use Rattle.acredact.specs.Doubts.{doubt_lines, list_doubt_lines}
+use Rattle.acredact.specs.Tables.{secrets_of}
 use Rattle.acredact.proofs.Done.{tells_none}
-use Rattle.acredact.proofs.Doubting.{doubts_next}
+use Rattle.acredact.proofs.Doubting.{told_next}
 use Rattle.acredact.proofs.doubts.tell_doubtful.Goals as goal
 
 pub loop-rest-init : goal.loop-rest-init
@@ -19,10 +18,10 @@ pub loop-rest-preserved : goal.loop-rest-preserved
 loop-rest-preserved g c =
     let (done, is, told) = c.loop-rest.invariant in
     let some : 1 ≤ length c.loop-rest.rest.now = search rules in
-    let lines = λ (rule : Rule). concat (doubt_lines (all_given c.args.given.now) (secret_of rule)) in (
+    let given = all_given c.args.given.now in (
       _,
-      doubts_next _ _ done c.loop-rest.rest.now c.index-rest-0.result some is,
-      subst (λ (rule : Rule). TellsBytes g.E.Sink c.args.errors.now c.tell_doubt.new.errors (done ++ lines rule)) c.index-rest-0.is (tells-later g.E.Sink told c.tell_doubt.ensures.told),
+      told_next (list_doubt_lines given) (list_doubt_lines given) (doubt_lines given) (λ secret secrets. refl) _ done c.loop-rest.rest.now c.index-rest-0.result some is,
+      rw c.index-rest-0.is at (tells-later g.E.Sink told c.tell_doubt.ensures.told),
     )
 
 pub returns : goal.returns

@@ -12,8 +12,7 @@ returns-then-is_input-clause-outcome g c = λ red by. file_input g.W.Write (work
 
 pub returns-in-Ok-clause-outcome : goal.returns-in-Ok-clause-outcome
 returns-in-Ok-clause-outcome g c = λ red by.
-    let opened = c.redact_opened.ensures.outcome red by in
-    file_opened g.W.Write (work_of g.F.Folder c.args.job.now red) _ _ _ _ _ _ (sym c.is_input.ensures.is ∙ c.if-is_input.false) refl _ opened.0 c.in-Ok.ensures.told opened.1
+    file_opened g.W.Write (work_of g.F.Folder c.args.job.now red) _ _ _ _ _ _ (sym c.is_input.ensures.is ∙ c.if-is_input.false) refl _ _ c.in-Ok.ensures.told (c.redact_input-in-Ok.ensures.outcome red by)
 
 pub returns-in-Err-clause-outcome : goal.returns-in-Err-clause-outcome
 returns-in-Err-clause-outcome g c = λ red by.
@@ -25,8 +24,7 @@ returns-then-is_input-clause-counted g c = λ red by whole.
 
 pub returns-in-Ok-clause-counted : goal.returns-in-Ok-clause-counted
 returns-in-Ok-clause-counted g c = λ red by whole.
-    let opened = c.redact_opened.ensures.counted whole red by in
-    opened_counts (work_of g.F.Folder c.args.job.now red) c.args.name.now _ _ _ _ (sym c.is_input.ensures.is ∙ c.if-is_input.false) refl _ opened.0 c.in-Ok.ensures.told opened.1
+    opened_counts (work_of g.F.Folder c.args.job.now red) c.args.name.now _ _ _ _ (sym c.is_input.ensures.is ∙ c.if-is_input.false) refl _ _ c.in-Ok.ensures.told (c.redact_input-in-Ok.ensures.counted whole red by)
 
 pub returns-then-is_input-clause-read : goal.returns-then-is_input-clause-read
 returns-then-is_input-clause-read g c = λ whole.
@@ -34,8 +32,7 @@ returns-then-is_input-clause-read g c = λ whole.
 
 pub returns-in-Ok-clause-read : goal.returns-in-Ok-clause-read
 returns-in-Ok-clause-read g c = λ whole.
-    let opened = c.redact_opened.ensures.read whole in
-    opened_bytes (g.F.Folder.holds c.args.job.now.folder.now) c.args.name.now _ _ _ _ (sym c.is_input.ensures.is ∙ c.if-is_input.false) refl _ opened.0 c.in-Ok.ensures.told opened.1
+    opened_bytes (g.F.Folder.holds c.args.job.now.folder.now) c.args.name.now _ _ _ _ (sym c.is_input.ensures.is ∙ c.if-is_input.false) refl _ _ c.in-Ok.ensures.told (c.redact_input-in-Ok.ensures.read whole)
 
 pub returns-then-is_input-clause-most : goal.returns-then-is_input-clause-most
 returns-then-is_input-clause-most g c =
@@ -43,8 +40,7 @@ returns-then-is_input-clause-most g c =
 
 pub returns-in-Ok-clause-most : goal.returns-in-Ok-clause-most
 returns-in-Ok-clause-most g c =
-    let opened = c.redact_opened.ensures.most in
-    opened_numbers (g.F.Folder.holds c.args.job.now.folder.now) c.args.name.now _ _ _ _ _ _ (sym c.is_input.ensures.is ∙ c.if-is_input.false) refl _ opened.0 c.in-Ok.ensures.told opened.1
+    opened_numbers (g.F.Folder.holds c.args.job.now.folder.now) c.args.name.now _ _ _ _ _ _ (sym c.is_input.ensures.is ∙ c.if-is_input.false) refl _ _ c.in-Ok.ensures.told c.redact_input-in-Ok.ensures.most
 
 pub returns-in-Err-clause-most : goal.returns-in-Err-clause-most
 returns-in-Err-clause-most g c = no_numbers (g.F.Folder.holds c.args.job.now.folder.now) c.args.name.now _ c.args.counts.now _

@@ -1,7 +1,7 @@
 -- The forms of all rules stand behind these.
-use Rattle.std.proofs.Common.{◌≡◌, List, ap, subst, ◌∙◌}
+use Rattle.std.proofs.Common.{◌≡◌, List, ap, ◌∙◌}
 use Rattle.std.specs.Prelude.{Some}
-use Rattle.acredact.specs.Forms.{HideSecrets, asked_forms, forms_asked, forms_from, forms_named, nested_named}
+use Rattle.acredact.specs.Forms.{asked_forms, forms_asked, forms_from, forms_named, nested_named}
 use Rattle.acredact.specs.Tables.{secrets_of}
 use Rattle.acredact.specs.declared.forms.Asked.{Asked}
 use Rattle.acredact.specs.declared.patterns.Rule.{Rule}
@@ -15,5 +15,5 @@ returns c =
     (c.as_slice.ensures.value ∙ c.in_ok-forms.ensures.forms ∙ ap forms_named c.as_bytes.ensures.value)
     (c.as_slice-2.ensures.value ∙ c.in_ok-nested.ensures.nested ∙ ap nested_named c.as_bytes-2.ensures.value) in
     let made = c.in_ok-more.ensures.made ∙ ap (λ (l : List Rule). forms_from (asked_forms given) 0 (secrets_of l)) c.as_slice-3.ensures.value in
-    let hidden = subst (λ (l : List Rule). HideSecrets (asked_forms given) (secrets_of l)) c.as_slice-3.ensures.value c.in_ok-more.ensures.hidden in
+    let hidden = rw c.as_slice-3.ensures.value at c.in_ok-more.ensures.hidden in
     record { formed = have_forms (asked_forms given) _ c.args.rules.now.items _ _ c.append.result asked made hidden c.append.ensures.items }

@@ -1,9 +1,7 @@
 -- The patterns hide what the inner form makes of the rule's own pattern.
-use Rattle.std.proofs.Common.{List, [], ℕ, subst}
-use Rattle.std.specs.List.{All}
+use Rattle.std.proofs.Common.{[]}
 use Rattle.std.proofs.lemmas.List.Elements.{All-cons, All-nil}
 use Rattle.std.proofs.lemmas.Result.{on_ok_weaker}
-use Rattle.secret_forms.specs.Forms.{HidesNested, form_patterns}
 use Rattle.acredact.specs.Forms.{HidesNestedForm}
 use Rattle.acredact.proofs.forms.add_twice.Goals as goal
 
@@ -11,7 +9,5 @@ pub returns-in-Ok-clause-hidden : goal.returns-in-Ok-clause-hidden
 returns-in-Ok-clause-hidden c =
     let pattern = c.args.rule.now.pattern.items in
     let nested = c.args.nested in
-    let law : HidesNestedForm pattern nested =
-    subst (λ (b : List ℕ). HidesNestedForm b nested) c.as_slice.ensures.value
-    (subst (λ (l : List (List ℕ)). All (HidesNested l nested.outer) (form_patterns c.as_slice.result.now nested.inner)) c.in-Ok.ensures.value c.in-Ok.ensures.law) in
+    let law : HidesNestedForm pattern nested = rw c.as_slice.ensures.value at (rw c.in-Ok.ensures.value at c.in-Ok.ensures.law) in
     on_ok_weaker c.add_patterns.result (λ added. All-cons (HidesNestedForm pattern) nested [] law (All-nil (HidesNestedForm pattern))) c.add_patterns.ensures.added

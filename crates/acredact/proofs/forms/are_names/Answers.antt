@@ -1,35 +1,28 @@
 -- One name after another, and at the end the last one.
-use Rattle.std.proofs.Common.{rules, ◌≡◌, [], ◌∷◌, ◌++◌, refl, sym, ap, ◌∙◌, true, false}
+use Rattle.std.proofs.Common.{rules, ◌≡◌, Bool, sym, ap, ◌∙◌, true, false}
+use Rattle.std.specs.Prelude.{◌&&◌}
 use Rattle.std.specs.List.{list_all}
+use Rattle.std.proofs.Math.Bool.{and-true}
 use Rattle.acredact.specs.Forms.{is_asked, names_in}
-use Rattle.acredact.proofs.FormNames.{all_by, all_fails, names_last, names_more}
+use Rattle.acredact.proofs.Lines.{line_at, line_end}
 use Rattle.acredact.proofs.forms.are_names.Goals as goal
-
-pub loop-name-init : goal.loop-name-init
-loop-name-init c = ([], refl, refl)
 
 pub loop-name-preserved : goal.loop-name-preserved
 loop-name-preserved c =
-    let (front, is, known) = c.loop-name.invariant in
-    let name : is_asked c.in-Some.name.now ≡ true = search rules in (
-      front ++ (c.in-Some.name.now ∷ []),
-      names_more _ front _ c.in-Some.name.now c.in-Some.behind.now is c.in-Some.ensures.split c.in-Some.ensures.first,
-      all_by is_asked front c.in-Some.name.now known ∙ name,
-    )
+    let name : is_asked c.in-Some.name.now ≡ true = search rules in
+    c.loop-name.invariant ∙ ap (list_all is_asked) (line_at 44 _ c.in-Some.name.now c.in-Some.behind.now c.in-Some.ensures.split c.in-Some.ensures.first)
+    ∙ ap (λ (b : Bool). b && list_all is_asked (names_in c.in-Some.behind.now)) name
 
 pub returns-then-not-is_asked : goal.returns-then-not-is_asked
 returns-then-not-is_asked c =
-    let (front, is, known) = c.loop-name.invariant in
     let fails : is_asked c.in-Some.name.now ≡ false = search rules in
     record {
-      are = sym (ap (list_all is_asked) (names_more _ front _ c.in-Some.name.now c.in-Some.behind.now is c.in-Some.ensures.split c.in-Some.ensures.first)
-          ∙ all_fails is_asked front c.in-Some.name.now (names_in c.in-Some.behind.now) known fails);
+      are = sym (c.loop-name.invariant ∙ ap (list_all is_asked) (line_at 44 _ c.in-Some.name.now c.in-Some.behind.now c.in-Some.ensures.split c.in-Some.ensures.first)
+          ∙ ap (λ (b : Bool). b && list_all is_asked (names_in c.in-Some.behind.now)) fails);
     }
 
 pub returns : goal.returns
-returns c =
-    let (front, is, known) = c.loop-name.invariant in
-    record {
-      are = c.is_asked-2.ensures.asked
-          ∙ sym (ap (list_all is_asked) (names_last _ front c.loop-name.rest.now is c.in_default.ensures.none) ∙ all_by is_asked front c.loop-name.rest.now known);
-    }
+returns c = record {
+  are = c.is_asked-2.ensures.asked
+      ∙ sym (c.loop-name.invariant ∙ ap (list_all is_asked) (line_end 44 c.loop-name.rest.now c.in_default.ensures.none) ∙ and-true (is_asked c.loop-name.rest.now));
+}

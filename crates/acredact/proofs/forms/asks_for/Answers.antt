@@ -1,35 +1,28 @@
 -- One name after another, and at the end the last one.
-use Rattle.std.proofs.Common.{rules, ◌≡◌, [], ◌∷◌, ◌++◌, refl, sym, ap, ◌∙◌, true, false}
+use Rattle.std.proofs.Common.{rules, ◌≡◌, Bool, sym, ap, ◌∙◌, true, false}
+use Rattle.std.specs.Prelude.{◌||◌}
 use Rattle.std.specs.List.{list_any}
-use Rattle.acredact.specs.Forms.{names_form, names_in}
-use Rattle.acredact.proofs.FormNames.{any_by, any_found, names_last, names_more}
+use Rattle.std.proofs.Math.Bool.{or-false}
+use Rattle.acredact.specs.Forms.{asks_for, names_form}
+use Rattle.acredact.proofs.Lines.{line_at, line_end}
 use Rattle.acredact.proofs.forms.asks_for.Goals as goal
-
-pub loop-name-init : goal.loop-name-init
-loop-name-init c = ([], refl, refl)
 
 pub loop-name-preserved : goal.loop-name-preserved
 loop-name-preserved c =
-    let (front, is, known) = c.loop-name.invariant in
-    let other : names_form c.in-Some.name.now c.args.form ≡ false = search rules in (
-      front ++ (c.in-Some.name.now ∷ []),
-      names_more _ front _ c.in-Some.name.now c.in-Some.behind.now is c.in-Some.ensures.split c.in-Some.ensures.first,
-      any_by (λ name. names_form name c.args.form) front c.in-Some.name.now known ∙ other,
-    )
+    let other : names_form c.in-Some.name.now c.args.form ≡ false = search rules in
+    c.loop-name.invariant ∙ ap (list_any (λ name. names_form name c.args.form)) (line_at 44 _ c.in-Some.name.now c.in-Some.behind.now c.in-Some.ensures.split c.in-Some.ensures.first)
+    ∙ ap (λ (b : Bool). b || asks_for c.in-Some.behind.now c.args.form) other
 
 pub returns-then-names_form : goal.returns-then-names_form
 returns-then-names_form c =
-    let (front, is, known) = c.loop-name.invariant in
     let found : names_form c.in-Some.name.now c.args.form ≡ true = search rules in
     record {
-      asks = sym (ap (list_any (λ name. names_form name c.args.form)) (names_more _ front _ c.in-Some.name.now c.in-Some.behind.now is c.in-Some.ensures.split c.in-Some.ensures.first)
-          ∙ any_found (λ name. names_form name c.args.form) front c.in-Some.name.now (names_in c.in-Some.behind.now) known found);
+      asks = sym (c.loop-name.invariant ∙ ap (list_any (λ name. names_form name c.args.form)) (line_at 44 _ c.in-Some.name.now c.in-Some.behind.now c.in-Some.ensures.split c.in-Some.ensures.first)
+          ∙ ap (λ (b : Bool). b || asks_for c.in-Some.behind.now c.args.form) found);
     }
 
 pub returns : goal.returns
-returns c =
-    let (front, is, known) = c.loop-name.invariant in
-    record {
-      asks = c.names_form-2.ensures.names
-          ∙ sym (ap (list_any (λ name. names_form name c.args.form)) (names_last _ front c.loop-name.rest.now is c.in_default.ensures.none) ∙ any_by (λ name. names_form name c.args.form) front c.loop-name.rest.now known);
-    }
+returns c = record {
+  asks = c.names_form-2.ensures.names
+      ∙ sym (c.loop-name.invariant ∙ ap (list_any (λ name. names_form name c.args.form)) (line_end 44 c.loop-name.rest.now c.in_default.ensures.none) ∙ or-false (names_form c.loop-name.rest.now c.args.form));
+}

@@ -1,11 +1,10 @@
--- No name in front of what is left is this form's.
-use Rattle.std.proofs.Common.{◌≡◌, ◌++◌, ℕ, List, length, false}
-use Rattle.std.specs.List.{list_any}
-use Rattle.acredact.specs.Forms.{names_form, names_in}
+-- Some name is this form's where one of those that are left is.
+use Rattle.std.proofs.Common.{◌≡◌, length}
+use Rattle.acredact.specs.Forms.{asks_for}
 use Rattle.acredact.proofs.forms.asks_for.Given as goal
 
 abbrev pub invariant-loop-name : goal.invariant-loop-name
-invariant-loop-name l = (front : List (List ℕ)) × (names_in l.fn.value ≡ front ++ names_in l.rest) × (list_any (λ name. names_form name l.fn.form) front ≡ false)
+invariant-loop-name l = asks_for l.fn.value l.fn.form ≡ asks_for l.rest l.fn.form
 
 abbrev pub decreases-loop-name : goal.decreases-loop-name
 decreases-loop-name l = length l.rest

@@ -1,9 +1,8 @@
 -- One rule more.
-use Rattle.std.proofs.Common.{rules, ◌≡◌, ◌≤◌, get_or, length, subst}
-use Rattle.acredact.specs.Forms.{HidesSecret, asked_forms, forms_of}
+use Rattle.std.proofs.Common.{rules, ◌≡◌, ◌≤◌, get_or, length, ◌+◌, refl}
+use Rattle.acredact.specs.Forms.{HidesSecret, asked_forms, forms_from, forms_of}
 use Rattle.acredact.specs.Tables.{secret_of}
-use Rattle.acredact.specs.declared.patterns.Rule.{Rule}
-use Rattle.acredact.proofs.FormRules.{forms_next, hidden_end, hidden_next}
+use Rattle.acredact.proofs.FormRules.{hidden_end, hidden_next, rules_next}
 use Rattle.acredact.proofs.forms.forms_of_rules.Goals as goal
 
 pub loop-rest-preserved : goal.loop-rest-preserved
@@ -12,11 +11,11 @@ loop-rest-preserved c =
     let some : 1 ≤ length c.loop-rest.rest.now = search rules in
     let added = c.in_ok-add_forms_of.ensures.added in
     let rule = get_or c.loop-rest.rest.now 0 c.index-rest-0.result in
-    let of : added.more ≡ forms_of (asked_forms c.args.asked) c.loop-rest.number (secret_of rule) =
-    subst (λ (r : Rule). added.more ≡ forms_of (asked_forms c.args.asked) c.loop-rest.number (secret_of r)) c.index-rest-0.is added.of in
-    let hidden : HidesSecret (asked_forms c.args.asked) (secret_of rule) = subst (λ (r : Rule). HidesSecret (asked_forms c.args.asked) (secret_of r)) c.index-rest-0.is c.in_ok-add_forms_of.ensures.hidden in
+    let of : added.more ≡ forms_of (asked_forms c.args.asked) c.loop-rest.number (secret_of rule) = rw c.index-rest-0.is at added.of in
+    let hidden : HidesSecret (asked_forms c.args.asked) (secret_of rule) = rw c.index-rest-0.is at c.in_ok-add_forms_of.ensures.hidden in
     record {
-      made = forms_next (asked_forms c.args.asked) c.loop-rest.rest.now c.index-rest-0.result c.loop-rest.number _ _ _ added.more some inv.made added.grown of;
+      made = rules_next (forms_from (asked_forms c.args.asked) c.loop-rest.number) (forms_from (asked_forms c.args.asked) (c.loop-rest.number + 1)) (forms_of (asked_forms c.args.asked) c.loop-rest.number) (λ secret secrets. refl) c.loop-rest.rest.now c.index-rest-0.result
+          _ _ _ added.more some inv.made added.grown of;
       count = search rules;
       hidden = hidden_next (asked_forms c.args.asked) c.loop-rest.rest.now c.args.rules.now c.index-rest-0.result some inv.hidden hidden;
     }

@@ -1,30 +1,23 @@
 -- One name after another, and at the end the last one.
-use Rattle.std.proofs.Common.{◌≡◌, ℕ, List, [], ◌∷◌, ◌++◌, sym, ap, ◌∙◌}
+use Rattle.std.proofs.Common.{ℕ, List, [], ◌∷◌, ◌++◌, sym, ap, ◌∙◌, append_assoc}
 use Rattle.std.specs.List.{filter_map}
 use Rattle.std.proofs.lemmas.List.Elements.{filter_map-append}
-use Rattle.acredact.specs.Forms.{nested_called}
+use Rattle.acredact.specs.Forms.{names_in, nested_called}
 use Rattle.acredact.specs.declared.forms.Nested.{Nested}
-use Rattle.acredact.proofs.FormNames.{names_last, names_more}
+use Rattle.acredact.proofs.Lines.{line_at, line_end}
 use Rattle.acredact.proofs.forms.nested_named.Goals as goal
-
--- what the next name gives is added
-called_next : (old new : List Nested) (front : List (List ℕ)) (name : List ℕ) → old ≡ filter_map nested_called front → new ≡ old ++ filter_map nested_called (name ∷ [])
-    → new ≡ filter_map nested_called (front ++ (name ∷ []))
-called_next old new front name known grown =
-    grown ∙ ap (λ l. l ++ filter_map nested_called (name ∷ [])) known ∙ sym (filter_map-append nested_called front (name ∷ []))
 
 pub loop-name-preserved : goal.loop-name-preserved
 loop-name-preserved c =
-    let (front, is, known) = c.loop-name.invariant in (
-      front ++ (c.in-Some.name.now ∷ []),
-      names_more _ front _ c.in-Some.name.now c.in-Some.behind.now is c.in-Some.ensures.split c.in-Some.ensures.first,
-      called_next _ _ front c.in-Some.name.now known c.in_ok-push_nested.ensures.pushed,
-    )
+    let old = c.loop-name.nested.items in
+    let one = filter_map nested_called (c.in-Some.name.now ∷ []) in
+    let others = names_in c.in-Some.behind.now in
+    ap (λ (l : List Nested). l ++ filter_map nested_called others) c.in_ok-push_nested.ensures.pushed ∙ append_assoc old one (filter_map nested_called others)
+    ∙ ap (λ (l : List Nested). old ++ l) (sym (filter_map-append nested_called (c.in-Some.name.now ∷ []) others))
+    ∙ ap (λ (l : List (List ℕ)). old ++ filter_map nested_called l) (sym (line_at 44 _ c.in-Some.name.now c.in-Some.behind.now c.in-Some.ensures.split c.in-Some.ensures.first)) ∙ c.loop-name.invariant
 
 pub returns : goal.returns
-returns c =
-    let (front, is, known) = c.loop-name.invariant in
-    record {
-      nested = called_next _ _ front c.loop-name.rest.now known c.in_ok-push_nested-2.ensures.pushed
-          ∙ sym (ap (filter_map nested_called) (names_last _ front c.loop-name.rest.now is c.in_default.ensures.none));
-    }
+returns c = record {
+  nested = c.in_ok-push_nested-2.ensures.pushed
+      ∙ ap (λ (l : List (List ℕ)). c.loop-name.nested.items ++ filter_map nested_called l) (sym (line_end 44 c.loop-name.rest.now c.in_default.ensures.none)) ∙ c.loop-name.invariant;
+}

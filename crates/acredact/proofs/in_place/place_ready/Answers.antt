@@ -1,8 +1,6 @@
 -- The files' outcome, and then the counts.
 use Rattle.std.proofs.Common.{rules, ◌≡◌, ◌∙◌, List, ℕ, ap, subst, sym}
-use Rattle.std.specs.Prelude.{Bool, Err, Ok, Result}
-use Rattle.aho_core.specs.declared.error.stream.StreamError.{StreamError}
-use Rattle.aho_core.specs.declared.error.stream.StreamError.TheVariants.{Memory}
+use Rattle.std.specs.Prelude.{Bool, Err, Ok}
 use Rattle.tool_parts.specs.Failures.{failure_of_stream}
 use Rattle.tool_parts.specs.Streams.{bytes_left}
 use Rattle.tool_parts.specs.declared.failure.Failure.TheVariants.{OutOfMemory}
@@ -11,14 +9,13 @@ use Rattle.acredact.specs.Calls.{call_of, reading_by, redactor_by_given, work_by
 use Rattle.acredact.specs.Counts.{zeros}
 use Rattle.acredact.specs.Doubts.{TellsWarnings}
 use Rattle.acredact.specs.Files.{Work}
-use Rattle.acredact.specs.InPlace.{CalledPlaces, PlacesOutcome}
+use Rattle.acredact.specs.InPlace.{PlacesOutcome}
 use Rattle.acredact.specs.Loading.{AreLoaded, key_in, loaded_as, loaded_in}
 use Rattle.acredact.specs.Summaries.{no_volume}
 use Rattle.acredact.specs.Tables.{secrets_of}
 use Rattle.acredact.specs.Totals.{CountsOfNames}
 use Rattle.acredact.specs.Volumes.{ReadsVolume}
 use Rattle.acredact.specs.declared.arguments.Word.TheVariants.{Strict}
-use Rattle.acredact.specs.declared.failure.Failure.{Failure}
 use Rattle.acredact.specs.declared.failure.Failure.TheVariants.{Other}
 use Rattle.acredact.specs.declared.patterns.Rule.{Rule}
 use Rattle.acredact.proofs.Calls.{job_does}
@@ -31,10 +28,9 @@ place_each-requires g c = record { ready = c.job_of-job.ensures.can c.requires.s
 pub returns-in_err-counted : goal.returns-in_err-counted
 returns-in_err-counted g c = record {
   outcome = λ left first loaded warnings.
-      let call = call_of g.F.Folder c.args.folder.now (all_given c.args.given.now) in
       let is : c.from_residual.result ≡ Err (Other OutOfMemory) = search rules in
-      subst (λ (r : Result Bool Failure). CalledPlaces g.O.File.Write g.E.Sink g.O.Outputs call left r c.args.outputs.now c.args.outputs.now first c.args.streams.now.errors) (sym is)
-      (places_uncounted g.O.File.Write g.E.Sink g.O.Outputs call left (loaded_in c.args.secrets.now) (bytes_left c.args.streams.now.input) loaded c.args.outputs.now first c.args.streams.now.errors warnings);
+      rw is
+      (places_uncounted g.O.File.Write g.E.Sink g.O.Outputs (call_of g.F.Folder c.args.folder.now (all_given c.args.given.now)) left (loaded_in c.args.secrets.now) (bytes_left c.args.streams.now.input) loaded _ first _ warnings);
 }
 
 pub returns-in_err-all : goal.returns-in_err-all
@@ -43,12 +39,10 @@ returns-in_err-all g c = record {
       let call = call_of g.F.Folder c.args.folder.now (all_given c.args.given.now) in
       let load = loaded_in c.args.secrets.now in
       let is : c.from_residual-in_err-all.result ≡ Err (Other (failure_of_stream c.in_err-all.field-0.0)) = search rules in
-      let places = job_does g.F.Folder c.args.folder.now call.given load c.job_of-job.result (c.job_of-job.ensures.job c.requires.ready)
-      (λ (w : Work). PlacesOutcome g.O.File.Write g.O.Outputs w g.E.Sink Memory (Err c.in_err-all.field-0.0) c.args.outputs.now c.place_each.new.outputs c.args.streams.now.errors c.place_each.new.streams.errors) (c.in_err-all.ensures.outcome _ c.requires.ready.of) in
-      let (lines, cut, told) = places.cut in
-      subst (λ (r : Result Bool Failure). CalledPlaces g.O.File.Write g.E.Sink g.O.Outputs call left r c.args.outputs.now c.place_each.new.outputs first c.place_each.new.streams.errors) (sym is)
-      (places_cut g.O.File.Write g.E.Sink g.O.Outputs call left load (bytes_left c.args.streams.now.input) loaded c.args.outputs.now c.place_each.new.outputs first c.args.streams.now.errors c.place_each.new.streams.errors warnings
-      _ (ap (λ (e : StreamError). Other (failure_of_stream e)) places.memory_ends) lines cut told);
+      rw is
+      (places_cut g.O.File.Write g.E.Sink g.O.Outputs call left load (bytes_left c.args.streams.now.input) loaded _ _ first _ _ warnings c.in_err-all.field-0.0
+      (job_does g.F.Folder c.args.folder.now call.given load c.job_of-job.result (c.job_of-job.ensures.job c.requires.ready)
+      (λ (w : Work). PlacesOutcome g.O.File.Write g.O.Outputs w g.E.Sink (Err c.in_err-all.field-0.0) c.args.outputs.now c.place_each.new.outputs c.args.streams.now.errors c.place_each.new.streams.errors) (c.in_err-all.ensures.outcome _ c.requires.ready.of)));
 }
 
 pub returns : goal.returns
@@ -70,7 +64,7 @@ returns g c = record {
       c.args.outputs.now c.place_each.new.outputs first c.args.streams.now.errors c.place_each.new.streams.errors c.tell_counted.new.errors
       (subst (λ (l : List Rule). TellsWarnings g.E.Sink (has Strict call.given) call.given (secrets_of l) (redactor_by_given call.given (loaded_as l key)) first c.args.streams.now.errors) (sym value) warnings)
       c.in_ok-all.all c.tell_counted.result
-      (as_asked (λ w. PlacesOutcome g.O.File.Write g.O.Outputs w g.E.Sink Memory (Ok c.in_ok-all.all) c.args.outputs.now c.place_each.new.outputs c.args.streams.now.errors c.place_each.new.streams.errors)
+      (as_asked (λ w. PlacesOutcome g.O.File.Write g.O.Outputs w g.E.Sink (Ok c.in_ok-all.all) c.args.outputs.now c.place_each.new.outputs c.args.streams.now.errors c.place_each.new.streams.errors)
       (c.in_ok-all.ensures.outcome _ c.requires.ready.of))
       (λ whole. (
         subst (λ (l : List ℕ). CountsOfNames old new l counts work work.names) none

@@ -1,11 +1,10 @@
 -- The new file is made and filled, or it is told why not.
-use Rattle.std.proofs.Common.{rules, ◌≡◌, [], inl, inr, sym, subst, refl, true, false, arith}
-use Rattle.std.specs.Prelude.{IfSome}
+use Rattle.std.proofs.Common.{rules, ◌≡◌, inl, inr, refl, true, false, arith}
 use Rattle.tool_parts.specs.Names.{is_input}
 use Rattle.acredact.specs.Calls.{call_of}
 use Rattle.acredact.specs.Into.{IsOutputLine, IsRuledOutputLine}
-use Rattle.acredact.proofs.Put.{no_check_of, ruled_no_check}
-use Rattle.acredact.proofs.Statuses.{tells_one}
+use Rattle.acredact.proofs.Put.{no_check_of}
+use Rattle.acredact.proofs.Statuses.{any_redaction, any_ruled, tells_one}
 use Rattle.acredact.proofs.into.make_and_run.Goals as goal
 
 pub returns-then-is_input : goal.returns-then-is_input
@@ -26,32 +25,31 @@ returns-then-is_input g c =
 pub returns-in-Ok : goal.returns-in-Ok
 returns-in-Ok g c =
     let named : is_input c.args.name.now ≡ false = search rules in
-    let made = subst (λ file. g.O.Outputs.makes c.args.outputs.now c.make.new.self c.args.name.now (g.O.File.Write.contents file)) (sym c.new.ensures.writer) c.in-Ok.ensures.made in
     record {
       writes = λ given right asks zero. record {
         named = named;
         file = c.new.result;
         meanwhile = c.make.new.self;
-        made = made;
-        empty = subst (λ file. IfSome (g.O.File.Write.contents file) (λ held. held ≡ [])) (sym c.new.ensures.writer) c.in-Ok.ensures.empty;
+        made = rw c.new.ensures.writer c.in-Ok.ensures.made;
+        empty = rw c.new.ensures.writer c.in-Ok.ensures.empty;
         redacts = c.run_into.ensures.redacts given right asks zero;
         strict = λ refuses. c.run_into.ensures.strict given right asks refuses zero;
         quiet = λ none. c.run_into.ensures.quiet given right asks none zero;
         counts = λ counted. c.run_into.ensures.counts given right asks counted zero;
-        flushed = c.run_into.ensures.flushed (no_check_of _ given right asks) zero;
+        flushed = c.run_into.ensures.flushed (no_check_of _ given right (λ checks. any_redaction given checks asks)) zero;
         puts = c.run_into.ensures.puts zero;
       };
       leaves = λ failed. inr (inr (record { held = _; meanwhile = c.make.new.self; made = c.in-Ok.ensures.made; kept = c.run_into.ensures.kept failed }));
-      tells = λ given right asks failed. inr (c.new.result, c.make.new.self, made, c.run_into.ensures.tells given right asks failed);
+      tells = λ given right asks failed. inr (c.new.result, c.make.new.self, rw c.new.ensures.writer c.in-Ok.ensures.made, c.run_into.ensures.tells given right asks failed);
       ruled_writes = λ given right asks zero. record {
         named = named;
         file = c.new.result;
         meanwhile = c.make.new.self;
-        made = made;
-        empty = subst (λ file. IfSome (g.O.File.Write.contents file) (λ held. held ≡ [])) (sym c.new.ensures.writer) c.in-Ok.ensures.empty;
+        made = rw c.new.ensures.writer c.in-Ok.ensures.made;
+        empty = rw c.new.ensures.writer c.in-Ok.ensures.empty;
         redacts = c.run_into.ensures.ruled given right asks zero;
         notes = c.run_into.ensures.ruled_quiet given right asks zero;
-        flushed = c.run_into.ensures.flushed (ruled_no_check _ given right asks) zero;
+        flushed = c.run_into.ensures.flushed (no_check_of _ given right (λ checks. any_ruled given checks asks)) zero;
         puts = c.run_into.ensures.puts zero;
       };
       ruled_tells = c.run_into.ensures.ruled_tells;

@@ -1,10 +1,10 @@
 -- The text is right, and its values are added.
-use Rattle.std.proofs.Common.{rules, ◌≡◌, inr, List, ℕ, false, sym, ap, subst, ◌∙◌}
+use Rattle.std.proofs.Common.{rules, ◌≡◌, inr, false, sym, ap, ◌∙◌}
 use Rattle.std.specs.Prelude.{None}
 use Rattle.std.specs.List.{filter_map}
 use Rattle.std.proofs.lemmas.Result.{IfErr-weaker, on_ok_weaker}
 use Rattle.aho_core.specs.Replacement.{pieces_of}
-use Rattle.acredact.specs.Loading.{GivesValues, IsValuesFailure, form_by, rules_for, values_in_text}
+use Rattle.acredact.specs.Loading.{form_by, rules_for, values_in_text}
 use Rattle.acredact.specs.Tables.{lines_in, stripped_by}
 use Rattle.acredact.specs.Values.{first_fault, value_in_line}
 use Rattle.acredact.specs.declared.patterns.Form.{Form}
@@ -24,7 +24,7 @@ returns-clause-added g c =
     (λ added. record {
       more = added.more;
       grown = added.grown;
-      of = record { unmarked = sym c.in-None.ensures.mark; right = right; given = subst (λ (l : List (List ℕ)). GivesValues how l added.more) values added.of };
+      of = record { unmarked = sym c.in-None.ensures.mark; right = right; given = rw values at added.of };
     })
     c.add_values.ensures.added
 
@@ -36,5 +36,5 @@ returns-clause-fails g c =
     let values : pieces_of c.as_slice.result.now ≡ values_in_text how text =
     ap pieces_of c.as_slice.ensures.value ∙ c.in_ok-values.ensures.values ∙ ap (λ (f : Form). filter_map (λ line. value_in_line (stripped_by f line)) (lines_in text)) form in
     IfErr-weaker c.add_values.result _ _
-    (λ failure fails. inr (inr (subst (λ (l : List (List ℕ)). IsValuesFailure how c.args.name.now l failure) values fails)))
+    (λ failure fails. inr (inr (rw values at fails)))
     c.add_values.ensures.fails

@@ -1,19 +1,14 @@
 -- What an item more gives is loaded.
-use Rattle.std.proofs.Common.{rules, ◌≡◌, ◌≤◌, List, [], ap, length, subst, sym}
-use Rattle.tool_parts.specs.Streams.{bytes_left}
-use Rattle.acredact.specs.Arguments.{all_given}
-use Rattle.acredact.specs.Loading.{OptionGives, reading_of_lists}
-use Rattle.acredact.specs.Tables.{Secret, secrets_of}
-use Rattle.acredact.proofs.Loaded.{GivenSoFar, fails_here, fails_next, given_end, given_next, given_none}
+use Rattle.std.proofs.Common.{rules, ◌≡◌, ◌≤◌, [], ap, length}
+use Rattle.acredact.specs.Loading.{reading_of_lists}
+use Rattle.acredact.specs.Tables.{secrets_of}
+use Rattle.acredact.proofs.Loaded.{fails_here, fails_next, given_end, given_next, given_none}
 use Rattle.acredact.proofs.load.read_rules.Goals as goal
 
 pub loop-rest-init : goal.loop-rest-init
 loop-rest-init g c =
     let none : secrets_of c.new-rules.result.items ≡ [] = ap secrets_of c.new-rules.ensures.items in
-    let reading = reading_of_lists g.F.Folder c.args.lists.now in (
-      subst (λ (l : List Secret). GivenSoFar (λ item. OptionGives reading item.word item.value) (all_given c.args.items.now) (bytes_left c.args.input.now) (all_given c.args.items.now) l (bytes_left c.args.input.now)) (sym none) (given_none _ _ _),
-      λ failure fails. fails,
-    )
+    (rw none (given_none _ _ _), λ failure fails. fails)
 
 pub loop-rest-preserved : goal.loop-rest-preserved
 loop-rest-preserved g c =

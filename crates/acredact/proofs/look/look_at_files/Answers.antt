@@ -1,11 +1,9 @@
 -- A file more is looked at.
-use Rattle.std.proofs.Common.{rules, ◌≡◌, ◌≤◌, ◌-◌, ℕ, List, drop, length, subst, sym, take}
-use Rattle.std.specs.Prelude.{Err, Result}
-use Rattle.std.specs.declared.alloc.AllocError.{AllocError}
+use Rattle.std.proofs.Common.{rules, ◌≡◌, ◌≤◌, ◌-◌, length, List, ℕ, subst}
+use Rattle.std.specs.Prelude.{Err}
 use Rattle.tool_parts.specs.Names.{name_bytes}
 use Rattle.tool_parts.specs.Streams.{bytes_left}
-use Rattle.acredact.specs.Checks.{SeesFiles, quest_of}
-use Rattle.acredact.specs.declared.look.Verdict.{Verdict}
+use Rattle.acredact.specs.Checks.{quest_of}
 use Rattle.acredact.proofs.Checks.{SeenSoFar, seen_all, seen_cut, seen_more, seen_none}
 use Rattle.acredact.proofs.Done.{names_cut, names_end}
 use Rattle.acredact.proofs.look.look_at_files.Goals as goal
@@ -16,29 +14,18 @@ loop-rest-init g c = λ p of. seen_none g.E.Sink (quest_of g.F.Folder c.args.fil
 pub loop-rest-preserved : goal.loop-rest-preserved
 loop-rest-preserved g c = λ p of.
     let quest = quest_of g.F.Folder c.args.files.now.folder.now c.args.files.now.words p in
-    let names = name_bytes c.args.files.now.names.now in
     let some : 1 ≤ length c.loop-rest.rest.now = search rules in
-    let so = subst (λ (l : List (List ℕ)). SeenSoFar g.E.Sink quest names c.args.errors.now (bytes_left c.args.input.now) l c.loop-rest.verdict (bytes_left c.loop-rest.input) c.loop-rest.errors)
+    let so = subst (λ (l : List (List ℕ)). SeenSoFar g.E.Sink quest (name_bytes c.args.files.now.names.now) c.args.errors.now (bytes_left c.args.input.now) l c.loop-rest.verdict (bytes_left c.loop-rest.input) c.loop-rest.errors)
     (names_cut c.loop-rest.rest.now _ some) (c.loop-rest.invariant p of) in
-    let rest = name_bytes (take (length c.loop-rest.rest.now - 1) (drop 1 c.loop-rest.rest.now)) in
-    subst (λ (v : Verdict). SeenSoFar g.E.Sink quest names c.args.errors.now (bytes_left c.args.input.now) rest v (bytes_left c.look_at_file.new.input) c.tell_look.new.errors) (sym c.verdict_with-verdict.ensures.with)
-    (seen_more g.E.Sink quest names c.args.errors.now (bytes_left c.args.input.now) _ rest c.loop-rest.verdict c.in_ok-look.look _ _ _ _ so (c.in_ok-look.ensures.looks p of) c.tell_look.ensures.told c.tell_look.ensures.quiet)
+    rw c.verdict_with-verdict.ensures.with
+    (seen_more g.E.Sink quest _ _ _ _ _ c.loop-rest.verdict c.in_ok-look.look _ _ _ _ so (c.in_ok-look.ensures.looks p of) c.tell_look.ensures.told c.tell_look.ensures.quiet)
 
 pub returns-in_err-look : goal.returns-in_err-look
 returns-in_err-look g c =
     let is : c.from_residual.result ≡ Err c.in_err-look.field-0.0 = search rules in
-    record {
-      sees = λ p of.
-          subst (λ (r : Result Verdict AllocError). SeesFiles g.E.Sink (quest_of g.F.Folder c.args.files.now.folder.now c.args.files.now.words p) (name_bytes c.args.files.now.names.now) r (bytes_left c.args.input.now) (bytes_left c.look_at_file.new.input) c.args.errors.now c.loop-rest.errors) (sym is)
-          (seen_cut g.E.Sink _ _ _ _ _ _ c.loop-rest.verdict _ _ _ (c.loop-rest.invariant p of));
-    }
+    record { sees = λ p of. rw is (seen_cut g.E.Sink _ _ _ _ _ _ c.loop-rest.verdict _ _ _ (c.loop-rest.invariant p of)) }
 
 pub returns : goal.returns
 returns g c =
     let none : length c.loop-rest.rest.now ≡ 0 = search rules in
-    record {
-      sees = λ p of.
-          seen_all g.E.Sink _ _ _ _ c.loop-rest.verdict _ _
-          (subst (λ (l : List (List ℕ)). SeenSoFar g.E.Sink (quest_of g.F.Folder c.args.files.now.folder.now c.args.files.now.words p) (name_bytes c.args.files.now.names.now) c.args.errors.now (bytes_left c.args.input.now) l c.loop-rest.verdict (bytes_left c.loop-rest.input) c.loop-rest.errors)
-          (names_end c.loop-rest.rest.now none) (c.loop-rest.invariant p of));
-    }
+    record { sees = λ p of. seen_all g.E.Sink _ _ _ _ c.loop-rest.verdict _ _ (rw (names_end c.loop-rest.rest.now none) at (c.loop-rest.invariant p of)) }

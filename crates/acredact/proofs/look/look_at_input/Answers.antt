@@ -1,13 +1,10 @@
 -- The input is looked at from its beginning.
-use Rattle.std.proofs.Common.{◌≢◌, ap, sym, subst, ◌∙◌}
-use Rattle.std.specs.Prelude.{Bool, IfOk, Result}
-use Rattle.std.specs.declared.alloc.AllocError.{AllocError}
+use Rattle.std.proofs.Common.{◌≢◌, ap, sym, ◌∙◌}
+use Rattle.std.specs.Prelude.{Bool}
 use Rattle.aho_devices.specs.Counts.{counted}
 use Rattle.tool_parts.specs.Streams.{bytes_left}
 use Rattle.tool_parts.proofs.Ends.{at_end}
-use Rattle.acredact.specs.Faults.{IsReadReason}
-use Rattle.acredact.specs.Looks.{IsLook, is_failed_look, sought}
-use Rattle.acredact.specs.declared.look.Look.{Look}
+use Rattle.acredact.specs.Looks.{is_failed_look, sought}
 use Rattle.acredact.proofs.Looks.{look_failed, look_is}
 use Rattle.acredact.proofs.look.look_at_input.Goals as goal
 
@@ -20,8 +17,7 @@ returns g c =
     let none = c.restart.ensures.empty_reads in
     let ends = λ (some : c.counts_in.new.source.empty_reads ≢ 0). at_end _ (λ bytes known. c.counts_in.new.source.ended bytes some known) in
     record {
-      looks = λ p of.
-          subst (λ (r : Result Look AllocError). IfOk r (λ look. IsLook (sought p c.args.words) IsReadReason look (bytes_left c.args.input.now) (bytes_left c.counts_in.new.source))) (sym c.look_of.ensures.look)
+      looks = λ p of. rw c.look_of.ensures.look
           (look_is _ (sought p c.args.words) _ _ (bytes_left c.args.input.now) left none ends c.counts_in.result (c.counts_in.ensures.looks p of));
       failed =
           (c.counts_in.ensures.looks c.requires.ready.patterns c.requires.ready.of).read_failed ∙ ap (counted _) c.restart.ensures.failures

@@ -1,14 +1,10 @@
 -- Memory alone may be wanting before the cover, and what it writes to never fails.
 use Rattle.std.proofs.Common.{rules, ◌≡◌, ◌∙◌, ◌<◌, ℕ, List, true, length, refl, ap, sym, subst, arith}
-use Rattle.std.specs.Prelude.{Bool, Err, Result, replicate, slice_index}
+use Rattle.std.specs.Prelude.{Err, replicate, slice_index}
 use Rattle.std.proofs.lemmas.List.{get_or-replicate, length-map, length-replicate}
-use Rattle.aho_core.specs.declared.error.stream.StreamError.{StreamError}
 use Rattle.aho_core.specs.declared.error.stream.StreamError.TheVariants.{Memory}
 use Rattle.aho_devices.specs.contracts.write.NowhereSink.TheImpl.{ghosts as NowhereGhosts}
-use Rattle.aho_core.specs.Replacement.{pieces_of}
-use Rattle.aho_cover.specs.Covers.{CountsRunsWith, CountsWrittenWith}
-use Rattle.aho_cover.specs.Pieces.{fixed_rule}
-use Rattle.acredact.specs.Looks.{LooksAt, sought}
+use Rattle.acredact.specs.Looks.{sought}
 use Rattle.acredact.proofs.Looks.{looks_counted, looks_cut, looks_memory}
 use Rattle.acredact.proofs.Redactions.{some_of}
 use Rattle.acredact.proofs.Suited.{only_memory}
@@ -23,26 +19,21 @@ pub returns-in_err-start : goal.returns-in_err-start
 returns-in_err-start g c =
     let is : c.from_residual.result ≡ Err c.in_err-start.field-0.0 = search rules in
     let memory : c.in_err-start.field-0.0 ≡ Memory = only_memory g.A.Automaton c.args.automaton.now _ c.requires.ready.begins (c.requires.ready.standard refl) c.in_err-start.ensures.only c.in_err-start.ensures.refuses in
-    record {
-      looks = λ p of. subst (λ (r : Result Bool StreamError). LooksAt g.R.Source (sought p true) r c.args.source.now c.args.source.now) (sym (is ∙ ap Err memory)) (looks_memory g.R.Source (sought p true) c.args.source.now);
-    }
+    record { looks = λ p of. rw (is ∙ ap Err memory) (looks_memory g.R.Source (sought p true) c.args.source.now) }
 
 pub returns-in_err-counts : goal.returns-in_err-counts
 returns-in_err-counts g c =
     let is : c.from_residual-in_err-counts.result ≡ Err Memory = search rules in
-    record {
-      looks = λ p of. subst (λ (r : Result Bool StreamError). LooksAt g.R.Source (sought p true) r c.args.source.now c.args.source.now) (sym is) (looks_memory g.R.Source (sought p true) c.args.source.now);
-    }
+    record { looks = λ p of. rw is (looks_memory g.R.Source (sought p true) c.args.source.now) }
 
 pub returns-in_err-cover_with : goal.returns-in_err-cover_with
 returns-in_err-cover_with g c =
     let start = c.in_ok-start.start in
     let call = c.in_err-cover_with in
     let is : c.from_residual-in_err-cover_with.result ≡ Err call.field-0.0 = search rules in
-    let written = subst (λ (b : Bool). CountsWrittenWith g.R.Source NowhereGhosts (g.A.Automaton.is_of start.automaton.now) b (fixed_rule (pieces_of c.new-pieces.result.pieces.now)) c.args.source.now c.cover_with.new.source _ _ c.as_mut_slice-tally.result.now c.cover_with.new.counts)
-    c.in_ok-start.ensures.unbegun.chosen call.ensures.counted.begun in
+    let written = rw c.in_ok-start.ensures.unbegun.chosen at call.ensures.counted.begun in
     record {
-      looks = λ p of. subst (λ (r : Result Bool StreamError). LooksAt g.R.Source (sought p true) r c.args.source.now c.cover_with.new.source) (sym is)
+      looks = λ p of. rw is
           (looks_cut g.R.Source NowhereGhosts p (g.A.Automaton.is_of start.automaton.now) _ _ _ _ _ _ _ call.field-0.0 written call.ensures.errors call.ensures.only (λ sink. refl) (λ sink. refl));
     }
 
@@ -52,8 +43,7 @@ returns g c =
     let call = c.in_ok-cover_with in
     let zeros = c.as_mut_slice-tally.result.now in
     let are : zeros ≡ replicate c.patterns_len.result 0 = c.as_mut_slice-tally.ensures.value ∙ c.in_ok-counts.ensures.items_if_clones_equal (λ y same. same) in
-    let whole = subst (λ (b : Bool). CountsRunsWith g.R.Source (g.A.Automaton.is_of start.automaton.now) b c.args.source.now c.cover_with.new.source zeros c.cover_with.new.counts)
-    c.in_ok-start.ensures.unbegun.chosen call.ensures.counted.counted in
+    let whole = rw c.in_ok-start.ensures.unbegun.chosen at call.ensures.counted.counted in
     record {
       looks = λ p of.
           let lengths = (g.met.A.Automaton.laws _ _ of).lengths_are in

@@ -1,10 +1,9 @@
 -- One line more is added, and at the end the last one.
-use Rattle.std.proofs.Common.{rules, ◌≡◌, ◌≤◌, [], ◌∷◌, ◌++◌, length, length-append, sym, subst, ◌∙◌, append_assoc, arith}
-use Rattle.std.specs.Prelude.{Err, IfErr, nat_eq}
+use Rattle.std.proofs.Common.{rules, ◌≡◌, ◌≤◌, [], ◌∷◌, ◌++◌, length, length-append, ◌∙◌, append_assoc, arith}
+use Rattle.std.specs.Prelude.{Err, nat_eq}
 use Rattle.std.specs.List.{slice_split}
 use Rattle.std.proofs.lemmas.Result.{IfErr-weaker, on_ok_weaker}
-use Rattle.acredact.specs.LineFaults.{IsListFault}
-use Rattle.acredact.specs.Tables.{IsAddedList, lines_in, secrets_of}
+use Rattle.acredact.specs.Tables.{lines_in}
 use Rattle.acredact.proofs.Lines.{added_line, err_both, fault_at, line_last, line_more, lines_of_some}
 use Rattle.acredact.proofs.patterns.add_lines.Goals as goal
 
@@ -26,18 +25,14 @@ returns-in_err-add_numbered-clause-fault c =
     let rest = slice_split (λ b. nat_eq b 10) c.in-Some.more.now in
     let lines : lines_in c.args.text.now ≡ front ++ (line ∷ rest) =
     lines_of_some c.args.text.now some ∙ line_more _ front _ line c.in-Some.more.now is c.in-Some.ensures.split c.in-Some.ensures.first ∙ append_assoc front (line ∷ []) rest in
-    subst (λ r. IfErr r (IsListFault c.args.form (lines_in c.args.text.now))) (sym same)
-    (fault_at c.args.form _ front rest line _ _ lines counts c.in_err-add_numbered.ensures.number c.in_err-add_numbered.ensures.fault)
+    rw same (fault_at c.args.form _ front rest line _ _ lines counts c.in_err-add_numbered.ensures.number c.in_err-add_numbered.ensures.fault)
 
 pub returns-clause-added : goal.returns-clause-added
 returns-clause-added c =
     let (front, is, added, counts) = c.loop-line.invariant in
     let some : 1 ≤ length c.args.text.now = search rules in
     on_ok_weaker c.add_numbered-2.result
-    (λ last.
-    subst (IsAddedList c.args.form (secrets_of c.args.rules.now.items) (secrets_of c.add_numbered-2.new.rules.items))
-    (sym (lines_of_some c.args.text.now some ∙ line_last _ front c.loop-line.rest.now is c.in_default.ensures.none))
-    (added_line _ _ _ _ _ front c.loop-line.rest.now counts added last))
+    (λ last. rw (lines_of_some c.args.text.now some ∙ line_last _ front c.loop-line.rest.now is c.in_default.ensures.none) (added_line _ _ _ _ _ front c.loop-line.rest.now counts added last))
     c.add_numbered-2.ensures.added
 
 pub returns-clause-fault : goal.returns-clause-fault

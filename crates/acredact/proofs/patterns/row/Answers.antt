@@ -1,11 +1,9 @@
 -- What stands behind the TAB is at fault.
-use Rattle.std.proofs.Common.{rules, ◌≡◌, inr, sym, subst, true}
-use Rattle.std.specs.Prelude.{Err, IfErr}
-use Rattle.acredact.specs.LineFaults.{IsLineFault}
+use Rattle.std.proofs.Common.{rules, ◌≡◌, inr}
+use Rattle.std.specs.Prelude.{Err}
 use Rattle.acredact.proofs.patterns.row.Goals as goal
 
 pub returns-in_err-replacement-clause-fault : goal.returns-in_err-replacement-clause-fault
 returns-in_err-replacement-clause-fault c =
     let same : c.from_residual-in_err-replacement.result ≡ Err c.in_err-replacement.field-0.0 = search rules in
-    subst (λ r. IfErr r (IsLineFault true c.args.line.now)) (sym same)
-    (inr (inr (c.in-Some.before.now, c.in-Some.behind.now, c.in-Some.ensures.split, c.in-Some.ensures.first, inr (inr c.in_err-replacement.ensures.fault))))
+    rw same (inr (inr (c.in-Some.before.now, c.in-Some.behind.now, c.in-Some.ensures.split, c.in-Some.ensures.first, inr (inr c.in_err-replacement.ensures.fault))))

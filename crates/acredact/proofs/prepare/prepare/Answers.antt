@@ -1,41 +1,37 @@
--- Of patterns of lists it is told first, or one is refused.
-use Rattle.std.proofs.Common.{inl, inr, subst, sym}
-use Rattle.std.proofs.lemmas.Result.{IfErr-weaker, on_err_weaker, on_ok_weaker}
-use Rattle.std.specs.Prelude.{Bool, List}
-use Rattle.tool_parts.specs.declared.errors.Errors.{Errors}
-use Rattle.acredact.specs.Arguments.{all_given, has}
-use Rattle.acredact.specs.Doubts.{IsDoubtFailure, TellsDoubts}
-use Rattle.acredact.specs.Tables.{secrets_of}
-use Rattle.acredact.specs.declared.arguments.Word.TheVariants.{Strict}
-use Rattle.acredact.specs.declared.patterns.Rule.{Rule}
+-- Of patterns of lists it is told first, or one is refused; and then of a piece.
+use Rattle.std.proofs.Common.{◌∙◌, inl, inr, refl, sym}
 use Rattle.acredact.proofs.prepare.prepare.Goals as goal
 
+pub unclean_in-unclean-requires : goal.unclean_in-unclean-requires
+unclean_in-unclean-requires g c = record { ready = rw c.as_slice-rules.ensures.value at c.in-Ok-ready_of.ensures.ready }
+
+pub returns-clause-ready : goal.returns-clause-ready
+returns-clause-ready g c = rw c.as_slice-rules.ensures.value at c.in-Ok-ready_of.ensures.ready
+
 pub returns-clause-told : goal.returns-clause-told
-returns-clause-told g c =
-    let doubts = subst (λ (b : Bool). TellsDoubts g.E.Sink b (all_given c.args.given.now) (secrets_of c.as_slice.result.now) c.args.errors.now c.warn_of_lists.new.errors) c.has-strict.ensures.has c.in-Ok.ensures.told in
-    on_ok_weaker c.prepare_pieces.result
-    (λ pieces. (
-      c.warn_of_lists.new.errors,
-      subst (λ (l : List Rule). TellsDoubts g.E.Sink (has Strict (all_given c.args.given.now)) (all_given c.args.given.now) (secrets_of l) c.args.errors.now c.warn_of_lists.new.errors) c.as_slice.ensures.value doubts,
-      pieces,
-    ))
-    c.prepare_pieces.ensures.told
-
-pub returns-clause-fails : goal.returns-clause-fails
-returns-clause-fails g c = IfErr-weaker c.prepare_pieces.result _ _ (λ failure cannot. inr cannot) c.prepare_pieces.ensures.fails
-
-pub returns-clause-untold : goal.returns-clause-untold
-returns-clause-untold g c =
-    let doubts = subst (λ (b : Bool). TellsDoubts g.E.Sink b (all_given c.args.given.now) (secrets_of c.as_slice.result.now) c.args.errors.now c.warn_of_lists.new.errors) c.has-strict.ensures.has c.in-Ok.ensures.told in
-    on_err_weaker c.prepare_pieces.result
-    (λ same. inr (subst (λ (e : Errors _). TellsDoubts g.E.Sink (has Strict (all_given c.args.given.now)) (all_given c.args.given.now) (secrets_of c.args.secrets.now.rules.items) c.args.errors.now e) (sym same)
-    (subst (λ (l : List Rule). TellsDoubts g.E.Sink (has Strict (all_given c.args.given.now)) (all_given c.args.given.now) (secrets_of l) c.args.errors.now c.warn_of_lists.new.errors) c.as_slice.ensures.value doubts)))
-    c.prepare_pieces.ensures.untold
+returns-clause-told g c = (
+  c.warn_of_lists.new.errors,
+  rw (c.has-strict.ensures.has, c.as_slice-rules.ensures.value) at c.in-Ok.ensures.told,
+  (c.unclean_in-unclean.result, c.unclean_in-unclean.ensures.judged, rw c.has-strict.ensures.has at c.in-Ok-warn.ensures.told),
+)
 
 pub returns-in-Err-clause-fails : goal.returns-in-Err-clause-fails
-returns-in-Err-clause-fails g c =
-    inl (subst (λ (l : List Rule). IsDoubtFailure (has Strict (all_given c.args.given.now)) (all_given c.args.given.now) (secrets_of l) c.in-Err.failure) c.as_slice.ensures.value
-    (subst (λ (b : Bool). IsDoubtFailure b (all_given c.args.given.now) (secrets_of c.as_slice.result.now) c.in-Err.failure) c.has-strict.ensures.has c.in-Err.ensures.refused))
+returns-in-Err-clause-fails g c = inl (rw (c.has-strict.ensures.has, c.as_slice-rules.ensures.value) at c.in-Err.ensures.refused)
 
 pub returns-in-Err-clause-untold : goal.returns-in-Err-clause-untold
 returns-in-Err-clause-untold g c = inl c.in-Err.ensures.untold
+
+pub returns-in-Err-ready_of-clause-fails : goal.returns-in-Err-ready_of-clause-fails
+returns-in-Err-ready_of-clause-fails g c = inr (inr (rw c.as_slice-rules.ensures.value at c.in-Err-ready_of.ensures.refused))
+
+pub returns-in-Err-ready_of-clause-untold : goal.returns-in-Err-ready_of-clause-untold
+returns-in-Err-ready_of-clause-untold g c = inr (rw (c.has-strict.ensures.has, c.as_slice-rules.ensures.value) at c.in-Ok.ensures.told)
+
+pub returns-in-Err-warn-clause-fails : goal.returns-in-Err-warn-clause-fails
+returns-in-Err-warn-clause-fails g c =
+    let (piece, is, fails, asked) = c.in-Err-warn.ensures.refused in
+    let here = rw is at c.unclean_in-unclean.ensures.judged in
+    inr (inl (piece, fails, sym c.has-strict.ensures.has ∙ asked, here.0, here.1))
+
+pub returns-in-Err-warn-clause-untold : goal.returns-in-Err-warn-clause-untold
+returns-in-Err-warn-clause-untold g c = inr (rw c.in-Err-warn.ensures.untold (rw (c.has-strict.ensures.has, c.as_slice-rules.ensures.value) at c.in-Ok.ensures.told))

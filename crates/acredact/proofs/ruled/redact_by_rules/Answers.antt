@@ -10,15 +10,15 @@ use Rattle.acredact.proofs.ruled.redact_by_rules.Goals as goal
 
 pub returns-in-Ok-true-clause-says : goal.returns-in-Ok-true-clause-says
 returns-in-Ok-true-clause-says g c = λ asks.
-    let whole : c.load_ruled.result ≡ Ok true = search rules in
+    let whole : c.redact_given.result ≡ Ok true = search rules in
     ruled_done g.E.Sink (call_of g.F.Folder c.args.folder.now (all_given c.args.given.now)) _ _ _ _ _ _
-    (subst (λ (r : Result Bool RuledFailure). AskedRuled g.W.Write g.E.Sink g.F.Folder c.args.folder.now (all_given c.args.given.now) r c.args.streams.now c.load_ruled.new.streams) whole c.load_ruled.ensures.outcome)
+    (subst (λ (r : Result Bool RuledFailure). AskedRuled g.W.Write g.E.Sink g.F.Folder c.args.folder.now (all_given c.args.given.now) r c.args.streams.now c.redact_given.new.streams) whole c.redact_given.ensures.outcome)
 
 pub returns-in-Ok-false-clause-says : goal.returns-in-Ok-false-clause-says
 returns-in-Ok-false-clause-says g c = λ asks.
-    let partly : c.load_ruled.result ≡ Ok false = search rules in
+    let partly : c.redact_given.result ≡ Ok false = search rules in
     ruled_partly g.E.Sink (call_of g.F.Folder c.args.folder.now (all_given c.args.given.now)) _ _ _ _ _ _
-    (subst (λ (r : Result Bool RuledFailure). AskedRuled g.W.Write g.E.Sink g.F.Folder c.args.folder.now (all_given c.args.given.now) r c.args.streams.now c.load_ruled.new.streams) partly c.load_ruled.ensures.outcome)
+    (subst (λ (r : Result Bool RuledFailure). AskedRuled g.W.Write g.E.Sink g.F.Folder c.args.folder.now (all_given c.args.given.now) r c.args.streams.now c.redact_given.new.streams) partly c.redact_given.ensures.outcome)
 
 pub returns-in-Err-clause-says : goal.returns-in-Err-clause-says
 returns-in-Err-clause-says g c = λ asks.

@@ -12,9 +12,9 @@ pub returns-in-Ok-clause-says : goal.returns-in-Ok-clause-says
 returns-in-Ok-clause-says g c = λ asks.
     let call = call_of g.F.Folder c.args.folder.now (all_given c.args.given.now) in
     record {
-      says = subst (λ (status : ℕ). Between g.W.Write (RuledCheckStatus g.E.Sink call status) c.args.streams.now c.check_ruled.new.streams) (sym c.status_of.ensures.status)
+      says = subst (λ (status : ℕ). Between g.W.Write (RuledCheckStatus g.E.Sink call status) c.args.streams.now c.check_given.new.streams) (sym c.status_of.ensures.status)
           (check_done g.E.Sink call c.in-Ok.verdict.found c.in-Ok.verdict.all _ _ _ _ _ _ c.in-Ok.ensures.outcome);
-      unwritten = c.check_ruled.ensures.unwritten;
+      unwritten = c.check_given.ensures.unwritten;
       flushed = λ summary less. c.in-Ok.ensures.flushed summary;
     }
 
@@ -26,6 +26,6 @@ returns-in-Err-clause-says g c = λ asks.
     let told = c.tell_ruled.ensures.told in
     record {
       says = check_failed g.E.Sink (call_of g.F.Folder c.args.folder.now (all_given c.args.given.now)) c.in-Err.failure told.0 _ _ _ _ _ _ _ c.in-Err.ensures.outcome told.1 told.2;
-      unwritten = c.check_ruled.ensures.unwritten;
+      unwritten = c.check_given.ensures.unwritten;
       flushed = λ summary (less : 2 < 2). absurd (omega (arith, less));
     }

@@ -11,12 +11,11 @@ returns-then-is_input-clause-outcome g c = λ ruling lined.
 
 pub returns-in-Ok-clause-outcome : goal.returns-in-Ok-clause-outcome
 returns-in-Ok-clause-outcome g c = λ ruling lined.
-    let opened = c.cover_opened.ensures.outcome ruling lined in
-    named_opened (ruled_in g.F.Folder c.args.folder.now ruling) c.args.name.now _ _ _ _ _ _ _ (sym c.is_input.ensures.is ∙ c.if-is_input.false) refl _ opened.0 c.in-Ok.ensures.told opened.1
+    named_opened (ruled_in g.F.Folder c.args.folder.now ruling) c.args.name.now _ _ _ _ _ _ _ (sym c.is_input.ensures.is ∙ c.if-is_input.false) refl _ _ c.in-Ok.ensures.told (c.cover_input-in-Ok.ensures.outcome ruling lined)
 
 pub returns-in-Err-clause-outcome : goal.returns-in-Err-clause-outcome
 returns-in-Err-clause-outcome g c = λ ruling lined.
-    named_refused (ruled_in g.F.Folder c.args.folder.now ruling) c.args.name.now _ _ _ _ (sym c.is_input.ensures.is ∙ c.if-is_input.false)
+    named_refused (ruled_in g.F.Folder c.args.folder.now ruling) c.args.name.now _ _ _ _
 
 pub returns-then-is_input-clause-read : goal.returns-then-is_input-clause-read
 returns-then-is_input-clause-read g c = λ whole.
@@ -24,5 +23,4 @@ returns-then-is_input-clause-read g c = λ whole.
 
 pub returns-in-Ok-clause-read : goal.returns-in-Ok-clause-read
 returns-in-Ok-clause-read g c = λ whole.
-    let opened = c.cover_opened.ensures.read whole in
-    opened_bytes (g.F.Folder.holds c.args.folder.now) c.args.name.now _ _ _ _ (sym c.is_input.ensures.is ∙ c.if-is_input.false) refl _ opened.0 c.in-Ok.ensures.told opened.1
+    opened_bytes (g.F.Folder.holds c.args.folder.now) c.args.name.now _ _ _ _ (sym c.is_input.ensures.is ∙ c.if-is_input.false) refl _ _ c.in-Ok.ensures.told (c.cover_input-in-Ok.ensures.read whole)

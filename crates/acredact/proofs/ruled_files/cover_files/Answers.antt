@@ -1,24 +1,68 @@
--- A flush keeps what was written.
-use Rattle.std.proofs.Common.{rules, ◌≡◌, sym, subst}
-use Rattle.std.specs.Prelude.{Bool, Result, Err}
+-- A file more is done.
+use Rattle.std.proofs.Common.{rules, ◌≡◌, ◌∙◌, ◌≤◌, ℕ, List, ap, length, subst, sym, true}
+use Rattle.std.specs.Prelude.{Bool, Result, Err, Ok}
 use Rattle.tool_parts.specs.Names.{name_bytes}
+use Rattle.tool_parts.specs.Streams.{bytes_left}
 use Rattle.secret_rules.specs.declared.error.LineError.{LineError}
 use Rattle.secret_rules.specs.declared.error.LineError.TheVariants.{Stream}
 use Rattle.acredact.specs.Ruled.{DoesFiles, ruled_in}
-use Rattle.acredact.proofs.RuledFiles.{flush_failed, flush_kept}
+use Rattle.acredact.specs.Volumes.{files_with}
+use Rattle.acredact.proofs.Done.{both_so, names_cut, names_end}
+use Rattle.acredact.proofs.Metering.{VolumeSoFar, all_read, far_read, far_unread}
+use Rattle.acredact.proofs.RuledFiles.{flush_failed, flush_kept, lined_all, lined_fails, lined_next, lined_none}
 use Rattle.acredact.proofs.ruled_files.cover_files.Goals as goal
 
-pub returns-in_err-all-clause-outcome : goal.returns-in_err-all-clause-outcome
-returns-in_err-all-clause-outcome g c =
-    let is : c.from_residual.result ≡ Err c.in_err-all.field-0.0 = search rules in λ ruling lined.
-    subst (λ (r : Result Bool LineError). DoesFiles g.W.Write g.E.Sink g.F.Folder c.args.folder.now c.args.names.now r c.args.counts.now c.cover_each.new.counts c.args.streams.now c.cover_each.new.streams ruling) (sym is) (c.in_err-all.ensures.outcome ruling lined)
+pub loop-rest-init : goal.loop-rest-init
+loop-rest-init g c = (
+  λ _. far_unread (g.F.Folder.holds c.args.folder.now) _ _ _,
+  λ ruling lined. (lined, lined_none g.E.Sink (ruled_in g.F.Folder c.args.folder.now ruling) (name_bytes c.args.names.now) _ _ _ _),
+)
+
+pub loop-rest-preserved : goal.loop-rest-preserved
+loop-rest-preserved g c = (
+  λ whole.
+      let some : 1 ≤ length c.loop-rest.rest.now = search rules in
+      let both = both_so c.loop-rest.all c.in_ok-whole.whole _ c.both-all.ensures.both whole in
+      let files = c.add_file.ensures.files ∙ ap (λ (b : Bool). files_with b c.cover_told.new.volume.files) both.1 ∙ ap (files_with true) c.in_ok-whole.ensures.files in
+      far_read (g.F.Folder.holds c.args.folder.now) _ _ _ _ _ c.loop-rest.volume _ _ _ _
+      (subst (λ (l : List (List ℕ)). VolumeSoFar (g.F.Folder.holds c.args.folder.now) (name_bytes c.args.names.now) l c.args.volume.now c.loop-rest.volume (bytes_left c.args.streams.now.input) (bytes_left c.loop-rest.streams.input))
+      (names_cut c.loop-rest.rest.now _ some) (c.loop-rest.invariant.0 both.0))
+      (c.in_ok-whole.ensures.read (ap Ok both.1)) c.add_file.ensures.bytes files,
+  λ ruling lined.
+      let some : 1 ≤ length c.loop-rest.rest.now = search rules in
+      let so = c.loop-rest.invariant.1 ruling lined in (
+        c.in_ok-whole.ensures.still ruling so.0,
+        lined_next g.E.Sink (ruled_in g.F.Folder c.args.folder.now ruling) (name_bytes c.args.names.now) _ _ _ c.loop-rest.all c.in_ok-whole.whole _ _ _ _ _ _ _ _ _ _ _ _ _ so.1 (names_cut c.loop-rest.rest.now _ some)
+            (c.in_ok-whole.ensures.outcome ruling so.0) c.both-all.ensures.both,
+      ),
+)
+
+pub returns-in_err-whole-clause-outcome : goal.returns-in_err-whole-clause-outcome
+returns-in_err-whole-clause-outcome g c =
+    let is : c.from_residual.result ≡ Err c.in_err-whole.field-0.0 = search rules in
+    let some : 1 ≤ length c.loop-rest.rest.now = search rules in λ ruling lined.
+    let so = c.loop-rest.invariant.1 ruling lined in
+    subst (λ (r : Result Bool LineError). DoesFiles g.W.Write g.E.Sink g.F.Folder c.args.folder.now c.args.names.now r c.args.counts.now c.cover_told.new.counts c.args.streams.now c.cover_told.new.streams ruling) (sym is)
+    (lined_fails g.E.Sink (ruled_in g.F.Folder c.args.folder.now ruling) (name_bytes c.args.names.now) _ _ _ c.loop-rest.all _ _ _ _ _ _ _ _ _ _ _ _ _ so.1 (names_cut c.loop-rest.rest.now _ some)
+    (c.in_err-whole.ensures.outcome ruling so.0))
 
 pub returns-in_err-flush-clause-outcome : goal.returns-in_err-flush-clause-outcome
 returns-in_err-flush-clause-outcome g c =
-    let is : c.from_residual-in_err-flush.result ≡ Err (Stream c.in_err-flush.field-0.0) = search rules in λ ruling lined.
-    subst (λ (r : Result Bool LineError). DoesFiles g.W.Write g.E.Sink g.F.Folder c.args.folder.now c.args.names.now r c.args.counts.now c.cover_each.new.counts c.args.streams.now (record c.cover_each.new.streams { output = c.flush.new.self }) ruling) (sym is)
-    (flush_failed g.E.Sink (ruled_in g.F.Folder c.args.folder.now ruling) (name_bytes c.args.names.now) _ _ _ _ _ _ _ _ _ _ _ c.in_err-flush.ensures.kept (c.in_ok-all.ensures.outcome ruling lined))
+    let is : c.from_residual-in_err-flush.result ≡ Err (Stream c.in_err-flush.field-0.0) = search rules in
+    let none : length c.loop-rest.rest.now ≡ 0 = search rules in λ ruling lined.
+    subst (λ (r : Result Bool LineError). DoesFiles g.W.Write g.E.Sink g.F.Folder c.args.folder.now c.args.names.now r c.args.counts.now c.loop-rest.counts c.args.streams.now (record c.loop-rest.streams { output = c.flush.new.self }) ruling) (sym is)
+    (flush_failed g.E.Sink (ruled_in g.F.Folder c.args.folder.now ruling) (name_bytes c.args.names.now) c.loop-rest.all _ _ _ _ _ _ _ _ _ _ c.in_err-flush.ensures.kept
+    (lined_all g.E.Sink (ruled_in g.F.Folder c.args.folder.now ruling) (name_bytes c.args.names.now) _ c.loop-rest.all _ _ _ _ _ _ _ _ (c.loop-rest.invariant.1 ruling lined).1 (names_end c.loop-rest.rest.now none)))
 
 pub returns-clause-outcome : goal.returns-clause-outcome
-returns-clause-outcome g c = λ ruling lined.
-    flush_kept g.E.Sink (ruled_in g.F.Folder c.args.folder.now ruling) (name_bytes c.args.names.now) _ _ _ _ _ _ _ _ _ _ c.in_ok-flush.ensures.kept (c.in_ok-all.ensures.outcome ruling lined)
+returns-clause-outcome g c =
+    let none : length c.loop-rest.rest.now ≡ 0 = search rules in λ ruling lined.
+    flush_kept g.E.Sink (ruled_in g.F.Folder c.args.folder.now ruling) (name_bytes c.args.names.now) c.loop-rest.all _ _ _ _ _ _ _ _ _ c.in_ok-flush.ensures.kept
+    (lined_all g.E.Sink (ruled_in g.F.Folder c.args.folder.now ruling) (name_bytes c.args.names.now) _ c.loop-rest.all _ _ _ _ _ _ _ _ (c.loop-rest.invariant.1 ruling lined).1 (names_end c.loop-rest.rest.now none))
+
+pub returns-clause-read : goal.returns-clause-read
+returns-clause-read g c =
+    let none : length c.loop-rest.rest.now ≡ 0 = search rules in λ whole.
+    all_read (g.F.Folder.holds c.args.folder.now) _ _ _ _ _
+    (subst (λ (l : List (List ℕ)). VolumeSoFar (g.F.Folder.holds c.args.folder.now) (name_bytes c.args.names.now) l c.args.volume.now c.loop-rest.volume (bytes_left c.args.streams.now.input) (bytes_left c.loop-rest.streams.input))
+    (names_end c.loop-rest.rest.now none) (c.loop-rest.invariant.0 (let is = whole in cc)))

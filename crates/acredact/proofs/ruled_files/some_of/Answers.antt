@@ -1,5 +1,5 @@
 -- An automaton without a pattern is not needed.
-use Rattle.std.proofs.Common.{rules, ◌≡◌, ℕ, length, refl}
+use Rattle.std.proofs.Common.{rules, ◌≡◌, length}
 use Rattle.acredact.proofs.RuledText.{no_words}
 use Rattle.acredact.proofs.ruled_files.some_of.Goals as goal
 

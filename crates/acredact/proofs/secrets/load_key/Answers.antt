@@ -1,10 +1,10 @@
 -- The key is that of the call, where there is one.
-use Rattle.std.proofs.Common.{inr, refl, subst}
-use Rattle.std.specs.Prelude.{None, Option, Some}
+use Rattle.std.proofs.Common.{inr, refl}
+use Rattle.std.specs.Prelude.{None, Some}
 use Rattle.tool_parts.specs.Streams.{bytes_left}
 use Rattle.acredact.specs.Arguments.{all_given, last_value}
 use Rattle.acredact.specs.Calls.{rules_asked}
-use Rattle.acredact.specs.Loading.{CannotLoadKey, IsKeyGiven, key_in, reading_of_lists}
+use Rattle.acredact.specs.Loading.{CannotLoadKey, IsKeyGiven}
 use Rattle.acredact.specs.declared.arguments.Word.TheVariants.{Pseudonym}
 use Rattle.acredact.proofs.Ready.{reading_from}
 use Rattle.acredact.proofs.secrets.load_key.Goals as goal
@@ -19,7 +19,7 @@ returns-in_ok-with_key-in-Ok-Some-clause-loaded g c = λ left given.
     let asked = last_value Pseudonym (all_given c.args.given.now) in
     let old = bytes_left c.args.input.now in
     let new = bytes_left c.key_of.new.input in
-    let of_lists = subst (λ (k : Option _). IsKeyGiven (reading_of_lists g.F.Folder c.lists_of-lists.result) asked (key_in k) old new) c.in-Ok-Some.field-0-is c.in-Ok-Some.ensures.key in
+    let of_lists = rw c.in-Ok-Some.field-0-is at c.in-Ok-Some.ensures.key in
     let key = reading_from g.F.Folder c.lists_of-lists.result c.args.folder.now (rules_asked (all_given c.args.given.now)) c.lists_of-lists.ensures.folder c.lists_of-lists.ensures.rules
     (λ r. IsKeyGiven r asked (Some c.in-Ok-Some.key.items) old new) of_lists in
     record { between = old; secrets = _; given_all = given; key = Some c.in-Ok-Some.key.items; key_given = key; is = c.in_ok-with_key-in-Ok-Some.ensures.loaded }
@@ -29,7 +29,7 @@ returns-in-Ok-None-clause-loaded g c = λ left given.
     let asked = last_value Pseudonym (all_given c.args.given.now) in
     let old = bytes_left c.args.input.now in
     let new = bytes_left c.key_of.new.input in
-    let of_lists = subst (λ (k : Option _). IsKeyGiven (reading_of_lists g.F.Folder c.lists_of-lists.result) asked (key_in k) old new) c.in-Ok-None.field-0-is c.in-Ok-None.ensures.key in
+    let of_lists = rw c.in-Ok-None.field-0-is at c.in-Ok-None.ensures.key in
     let key = reading_from g.F.Folder c.lists_of-lists.result c.args.folder.now (rules_asked (all_given c.args.given.now)) c.lists_of-lists.ensures.folder c.lists_of-lists.ensures.rules
     (λ r. IsKeyGiven r asked None old new) of_lists in
     record { between = old; secrets = _; given_all = given; key = None; key_given = key; is = refl }

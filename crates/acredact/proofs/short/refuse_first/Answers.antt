@@ -1,14 +1,12 @@
 -- The next is, or is not.
-use Rattle.std.proofs.Common.{rules, arith, ◌≡◌, ◌≤◌, ◌+◌, [], ◌∷◌, ◌++◌, length, length-append, drop, get_or, true, false, refl, sym, ap, subst, ◌∙◌, append-nil}
+use Rattle.std.proofs.Common.{rules, arith, ◌≡◌, ◌≤◌, ◌+◌, [], ◌∷◌, ◌++◌, length, length-append, drop, get_or, false, refl, sym, ap, subst, ◌∙◌, append-nil}
 use Rattle.std.proofs.lemmas.List.Elements.{All-nil}
 use Rattle.std.proofs.lemmas.Grind.{common_steps}
 use Rattle.std.proofs.lemmas.List.{nil_from_length}
 use Rattle.acredact.specs.Short.{AreLong, is_formless}
 use Rattle.acredact.specs.Tables.{secret_of, secrets_of}
 use Rattle.acredact.specs.declared.failure.Failure.TheVariants.{Short}
-use Rattle.acredact.specs.declared.patterns.Rule.{Rule}
-use Rattle.acredact.proofs.Doubting.{first_rule}
-use Rattle.acredact.proofs.Shortest.{long_next}
+use Rattle.acredact.proofs.Doubting.{first_rule, front_next}
 use Rattle.acredact.proofs.short.refuse_first.Goals as goal
 
 pub loop-rest-init : goal.loop-rest-init
@@ -19,8 +17,8 @@ loop-rest-preserved c =
     let inv = c.loop-rest.invariant in
     let some : 1 ≤ length c.loop-rest.rest.now = grind (arith, common_steps, c.is_empty.ensures, c.loop-rest-test.true) in
     let rule = get_or c.loop-rest.rest.now 0 c.index-rest-0.result in
-    let long : is_formless (secret_of rule) ≡ false = subst (λ (r : Rule). is_formless (secret_of r) ≡ false) c.index-rest-0.is (sym c.is_formless.ensures.short ∙ c.if-is_formless.false) in
-    let next = long_next _ inv.front c.loop-rest.rest.now c.index-rest-0.result some (inv.are, inv.before) long in
+    let long : is_formless (secret_of rule) ≡ false = rw c.index-rest-0.is at (sym c.is_formless.ensures.short ∙ c.if-is_formless.false) in
+    let next = front_next (λ secret. is_formless secret ≡ false) _ inv.front c.loop-rest.rest.now c.index-rest-0.result some (inv.are, inv.before) long in
     record {
       count = search rules;
       front = inv.front ++ (secret_of rule ∷ []);
@@ -42,7 +40,7 @@ returns-then-is_formless c =
         rest = secrets_of (drop 1 c.loop-rest.rest.now);
         are = first_rule _ inv.front c.loop-rest.rest.now c.index-rest-0.result some inv.are;
         before = inv.before;
-        short = subst (λ (r : Rule). is_formless (secret_of r) ≡ true) c.index-rest-0.is (sym c.is_formless.ensures.short ∙ c.if-is_formless.true);
+        short = rw c.index-rest-0.is at (sym c.is_formless.ensures.short ∙ c.if-is_formless.true);
         is = ap Short inv.many;
       };
     }

@@ -1,14 +1,13 @@
 -- Of one more it is told.
-use Rattle.std.proofs.Common.{rules, ◌≡◌, ◌≤◌, [], ◌++◌, length, refl, sym, ap, subst, ◌∙◌, append-nil, arith}
+use Rattle.std.proofs.Common.{rules, ◌≡◌, ◌≤◌, [], ◌++◌, length, refl, sym, ap, subst, ◌∙◌, append-nil, arith, ◌+◌}
 use Rattle.std.specs.List.{concat}
 use Rattle.std.proofs.lemmas.List.{nil_from_length}
 use Rattle.tool_parts.specs.Telling.{TellsBytes}
 use Rattle.tool_parts.proofs.Tellings.{tells-later}
 use Rattle.acredact.specs.Short.{lines_of_short, short_lines}
-use Rattle.acredact.specs.Tables.{secret_of, secrets_of}
-use Rattle.acredact.specs.declared.patterns.Rule.{Rule}
+use Rattle.acredact.specs.Tables.{secrets_of}
 use Rattle.acredact.proofs.Done.{tells_none}
-use Rattle.acredact.proofs.Shortest.{short_next}
+use Rattle.acredact.proofs.Doubting.{told_next}
 use Rattle.acredact.proofs.short.tell_each.Goals as goal
 
 pub loop-rest-init : goal.loop-rest-init
@@ -18,12 +17,11 @@ pub loop-rest-preserved : goal.loop-rest-preserved
 loop-rest-preserved g c =
     let inv = c.loop-rest.invariant in
     let some : 1 ≤ length c.loop-rest.rest.now = search rules in
-    let lines = λ (rule : Rule). concat (lines_of_short c.loop-rest.number (secret_of rule)) in
     record {
       count = search rules;
       done = _;
-      are = short_next _ inv.done c.loop-rest.number c.loop-rest.rest.now c.index-rest-0.result some inv.are;
-      told = subst (λ (rule : Rule). TellsBytes g.E.Sink c.args.errors.now c.tell_if_short.new.errors (inv.done ++ lines rule)) c.index-rest-0.is (tells-later g.E.Sink inv.told c.tell_if_short.ensures.told);
+      are = told_next (short_lines c.loop-rest.number) (short_lines (c.loop-rest.number + 1)) (lines_of_short c.loop-rest.number) (λ secret secrets. refl) _ inv.done c.loop-rest.rest.now c.index-rest-0.result some inv.are;
+      told = rw c.index-rest-0.is at (tells-later g.E.Sink inv.told c.tell_if_short.ensures.told);
     }
 
 pub returns : goal.returns

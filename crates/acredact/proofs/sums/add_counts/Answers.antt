@@ -1,9 +1,8 @@
 -- One count more.
-use Rattle.std.proofs.Common.{rules, ◌≡◌, ◌≤◌, get_or, length, refl, subst, arith}
+use Rattle.std.proofs.Common.{rules, ◌≡◌, ◌≤◌, get_or, length, refl, arith}
 use Rattle.std.proofs.lemmas.Grind.{common_steps}
 use Rattle.acredact.specs.Sums.{HaveGrown, counts_for, share}
 use Rattle.acredact.specs.Tables.{secret_of, secrets_of}
-use Rattle.acredact.specs.declared.patterns.Rule.{Rule}
 use Rattle.acredact.proofs.Summing.{grown_nothing, grown_then, sum_next, sum_none, sum_past}
 use Rattle.acredact.proofs.sums.add_counts.Goals as goal
 
@@ -23,7 +22,7 @@ loop-rest-preserved c =
     let more : 1 ≤ length c.loop-rest.left.now = search rules in
     let first = get_or c.loop-rest.rest.now 0 c.index-rest-0.result in
     let added : HaveGrown (λ number. share (counts_for c.loop-rest.place (secret_of first)) number (get_or c.loop-rest.left.now 0 0)) c.loop-rest.sums c.add_count.new.sums =
-    subst (λ (r : Rule). HaveGrown (λ number. share (counts_for c.loop-rest.place (secret_of r)) number (get_or c.loop-rest.left.now 0 0)) c.loop-rest.sums c.add_count.new.sums) c.index-rest-0.is c.add_count.ensures.grown in
+    rw c.index-rest-0.is at c.add_count.ensures.grown in
     record {
       count = search rules;
       grown = λ sums later. c.loop-rest.invariant.grown sums

@@ -1,6 +1,5 @@
 -- The counts are added to zeros.
-use Rattle.std.proofs.Common.{rules, ◌≡◌, ℕ, List, length, subst, ◌∙◌}
-use Rattle.acredact.specs.Sums.{HaveGrown, sum_for}
+use Rattle.std.proofs.Common.{rules, ◌≡◌, length, ◌∙◌}
 use Rattle.acredact.specs.Tables.{secrets_of}
 use Rattle.acredact.proofs.Summing.{sums_are, written_over}
 use Rattle.acredact.proofs.sums.sums_of.Goals as goal
@@ -11,5 +10,5 @@ returns c =
     record {
       sums = written_over c.in_ok-sums.sums.len c.add_counts.new.sums _ sized
           ∙ sums_are (secrets_of c.args.rules.now) c.args.counts.now c.in_ok-sums.sums.items c.add_counts.new.sums c.in_ok-sums.ensures.zeros
-          (subst (λ (l : List ℕ). HaveGrown (λ number. sum_for number 0 (secrets_of c.args.rules.now) c.args.counts.now) l c.add_counts.new.sums) c.as_mut_slice.ensures.value c.add_counts.ensures.grown);
+          (rw c.as_mut_slice.ensures.value at c.add_counts.ensures.grown);
     }

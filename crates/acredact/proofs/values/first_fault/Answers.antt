@@ -5,8 +5,8 @@ use Rattle.std.specs.List.{slice_split}
 use Rattle.acredact.specs.Tables.{stripped_by}
 use Rattle.acredact.specs.Values.{bad_or, fault_of_line, first_fault}
 use Rattle.acredact.specs.declared.patterns.LineFault.{LineFault}
-use Rattle.acredact.proofs.Lines.{lines_of_some}
-use Rattle.acredact.proofs.Valued.{fault_here, fault_later, line_at, line_end}
+use Rattle.acredact.proofs.Lines.{line_at, line_end, lines_of_some}
+use Rattle.acredact.proofs.Valued.{fault_here, fault_later}
 use Rattle.acredact.proofs.values.first_fault.Goals as goal
 
 pub loop-line-preserved : goal.loop-line-preserved
@@ -18,7 +18,7 @@ loop-line-preserved c =
     sym (c.fault_of_line.ensures.fault ∙ ap (fault_of_line c.args.allow_empty) c.stripped_by.ensures.line) ∙ is in
     let next : min (number + 1) (2 ^ 64 - 1) ≡ c.saturating_add-number.result = omega (arith, c.saturating_add-number.ensures) in
     c.loop-line.invariant
-    ∙ ap (first_fault c.args.allow_empty c.args.form number) (line_at _ c.in-Some.line.now c.in-Some.more.now c.in-Some.ensures.split c.in-Some.ensures.first)
+    ∙ ap (first_fault c.args.allow_empty c.args.form number) (line_at 10 _ c.in-Some.line.now c.in-Some.more.now c.in-Some.ensures.split c.in-Some.ensures.first)
     ∙ fault_later c.args.allow_empty c.args.form number c.in-Some.line.now lines none
     ∙ ap (λ (n : ℕ). first_fault c.args.allow_empty c.args.form n lines) next
 
@@ -32,7 +32,7 @@ returns-in-Some-fault_of_line c =
     record {
       first = sym (ap (first_fault c.args.allow_empty c.args.form 1) (lines_of_some c.args.text.now some)
           ∙ c.loop-line.invariant
-          ∙ ap (first_fault c.args.allow_empty c.args.form number) (line_at _ c.in-Some.line.now c.in-Some.more.now c.in-Some.ensures.split c.in-Some.ensures.first)
+          ∙ ap (first_fault c.args.allow_empty c.args.form number) (line_at 10 _ c.in-Some.line.now c.in-Some.more.now c.in-Some.ensures.split c.in-Some.ensures.first)
           ∙ fault_here c.args.allow_empty c.args.form number c.in-Some.line.now lines _ fault);
     }
 
@@ -46,5 +46,5 @@ returns c =
       first = c.bad_of.ensures.bad ∙ ap (λ (f : Option LineFault). bad_or number f None) fault
           ∙ sym (ap (first_fault c.args.allow_empty c.args.form 1) (lines_of_some c.args.text.now some)
           ∙ c.loop-line.invariant
-          ∙ ap (first_fault c.args.allow_empty c.args.form number) (line_end c.loop-line.rest.now c.in_default.ensures.none));
+          ∙ ap (first_fault c.args.allow_empty c.args.form number) (line_end 10 c.loop-line.rest.now c.in_default.ensures.none));
     }

@@ -5,8 +5,8 @@ use Rattle.std.specs.List.{filter_map, slice_split}
 use Rattle.aho_core.specs.Replacement.{pieces_of}
 use Rattle.acredact.specs.Tables.{stripped_by}
 use Rattle.acredact.specs.Values.{lent, value_in_line, values_with}
-use Rattle.acredact.proofs.Lines.{lines_of_some}
-use Rattle.acredact.proofs.Valued.{line_at, line_end, values_more}
+use Rattle.acredact.proofs.Lines.{line_at, line_end, lines_of_some}
+use Rattle.acredact.proofs.Valued.{values_more}
 use Rattle.acredact.proofs.values.values_in_text.Goals as goal
 
 pub loop-line-preserved : goal.loop-line-preserved
@@ -17,7 +17,7 @@ loop-line-preserved c =
     let value : lent c.value_in_line.result ≡ take c.in-Some.line.now = c.value_in_line.ensures.value ∙ ap value_in_line c.stripped_by.ensures.line in
     ap (λ (l : List (List ℕ)). l ++ others) (c.in_ok-push_value.ensures.pushed ∙ ap (values_with old) value)
     ∙ values_more old others _ (take c.in-Some.line.now)
-    (ap (λ (l : List (List ℕ)). old ++ filter_map take l) (sym (line_at _ c.in-Some.line.now c.in-Some.more.now c.in-Some.ensures.split c.in-Some.ensures.first)) ∙ c.loop-line.invariant)
+    (ap (λ (l : List (List ℕ)). old ++ filter_map take l) (sym (line_at 10 _ c.in-Some.line.now c.in-Some.more.now c.in-Some.ensures.split c.in-Some.ensures.first)) ∙ c.loop-line.invariant)
 
 pub returns : goal.returns
 returns c =
@@ -28,6 +28,6 @@ returns c =
     let value : lent c.value_in_line-2.result ≡ take last = c.value_in_line-2.ensures.value ∙ ap value_in_line c.stripped_by-2.ensures.line in
     record {
       values = c.in_ok-push_value-2.ensures.pushed ∙ ap (values_with old) value ∙ sym (append-nil (values_with old (take last)))
-          ∙ values_more old [] _ (take last) (ap (λ (l : List (List ℕ)). old ++ filter_map take l) (sym (line_end last c.in_default.ensures.none)) ∙ c.loop-line.invariant)
+          ∙ values_more old [] _ (take last) (ap (λ (l : List (List ℕ)). old ++ filter_map take l) (sym (line_end 10 last c.in_default.ensures.none)) ∙ c.loop-line.invariant)
           ∙ sym (ap (filter_map take) (lines_of_some c.args.text.now some));
     }

@@ -10,8 +10,8 @@ use Rattle.tool_parts.proofs.Replacings.{begins_whole, leaves_write, ok_given, r
 use Rattle.tool_parts.proofs.Searched.{built_to_replace, piece_each}
 use Rattle.tool_parts.proofs.replace.replace.Goals as goal
 
-pub searcher_of-searcher-requires : goal.searcher_of-searcher-requires
-searcher_of-searcher-requires g c =
+pub searcher_by-searcher-requires : goal.searcher_by-searcher-requires
+searcher_by-searcher-requires g c =
     record { of = rw c.new.ensures.new (c.in_ok-automaton.ensures.of (record { patterns = pieces_of c.as_slice-patterns.result.now; pieces = [] }) refl) }
 
 pub replace_all-requires : goal.replace_all-requires
@@ -19,8 +19,8 @@ replace_all-requires g c =
     let asked = replacing_for (map string_bytes c.args.arguments.now) in
     let patterns = shown c.as_slice-patterns.ensures.value c.in_ok-pairs.ensures.patterns in
     record {
-      one_each = piece_each (patterns_to_replace asked) c.searcher_of-searcher.result c.as_slice-pieces.result.now
-          (built_to_replace asked c.new.result c.as_slice-patterns.result.now c.searcher_of-searcher.result c.new.ensures.new patterns c.searcher_of-searcher.ensures.of)
+      one_each = piece_each (patterns_to_replace asked) c.searcher_by-searcher.result c.as_slice-pieces.result.now
+          (built_to_replace asked c.new.result c.as_slice-patterns.result.now c.searcher_by-searcher.result c.new.ensures.new patterns c.searcher_by-searcher.ensures.of)
           (as_many _ _ c.requires.even ∙ ap length (shown c.as_slice-pieces.ensures.value c.in_ok-pairs.ensures.pieces) ∙ length-map _ _);
     }
 
@@ -34,7 +34,7 @@ returns-in_err-replace_all-clause-leaves g c =
     let patterns = shown c.as_slice-patterns.ensures.value c.in_ok-pairs.ensures.patterns in
     IfErr-given _ _ _ c.from_residual-in_err-replace_all.ensures.1
     (c.in_err-replace_all.ensures.leaves asked (shown c.as_slice-pieces.ensures.value c.in_ok-pairs.ensures.pieces)
-    (built_to_replace asked c.new.result c.as_slice-patterns.result.now c.searcher_of-searcher.result c.new.ensures.new patterns c.searcher_of-searcher.ensures.of))
+    (built_to_replace asked c.new.result c.as_slice-patterns.result.now c.searcher_by-searcher.result c.new.ensures.new patterns c.searcher_by-searcher.ensures.of))
 
 pub returns-clause-built_first : goal.returns-clause-built_first
 returns-clause-built_first g c =
@@ -45,7 +45,7 @@ returns-clause-replaces g c =
     let asked = replacing_for (map string_bytes c.args.arguments.now) in
     let patterns = shown c.as_slice-patterns.ensures.value c.in_ok-pairs.ensures.patterns in
     let whole = c.in_ok-replace_all.ensures.replaces asked (shown c.as_slice-pieces.ensures.value c.in_ok-pairs.ensures.pieces)
-    (built_to_replace asked c.new.result c.as_slice-patterns.result.now c.searcher_of-searcher.result c.new.ensures.new patterns c.searcher_of-searcher.ensures.of) in
+    (built_to_replace asked c.new.result c.as_slice-patterns.result.now c.searcher_by-searcher.result c.new.ensures.new patterns c.searcher_by-searcher.ensures.of) in
     ok_given c.flush.result (replaces_kept _ whole c.flush.ensures.kept)
 
 pub returns-clause-leaves : goal.returns-clause-leaves
@@ -53,5 +53,5 @@ returns-clause-leaves g c =
     let asked = replacing_for (map string_bytes c.args.arguments.now) in
     let patterns = shown c.as_slice-patterns.ensures.value c.in_ok-pairs.ensures.patterns in
     let whole = c.in_ok-replace_all.ensures.replaces asked (shown c.as_slice-pieces.ensures.value c.in_ok-pairs.ensures.pieces)
-    (built_to_replace asked c.new.result c.as_slice-patterns.result.now c.searcher_of-searcher.result c.new.ensures.new patterns c.searcher_of-searcher.ensures.of) in
+    (built_to_replace asked c.new.result c.as_slice-patterns.result.now c.searcher_by-searcher.result c.new.ensures.new patterns c.searcher_by-searcher.ensures.of) in
     IfErr-weaker c.flush.result _ _ (λ failure of. leaves_write _ _ _ failure of (begins_whole (replaces_kept _ whole c.flush.ensures.kept))) c.flush.ensures.of_write

@@ -3,7 +3,7 @@ use Rattle.std.proofs.Common.{rules, ◌≡◌, length, sym, subst}
 use Rattle.std.specs.Prelude.{OnOk}
 use Rattle.std.proofs.lemmas.Result.{on_ok_weaker}
 use Rattle.acredact.specs.Secrets.{Redactor}
-use Rattle.acredact.specs.Streams.{RedactsStream, StreamOutcome}
+use Rattle.acredact.specs.Streams.{RedactsStream}
 use Rattle.acredact.proofs.Bounded.{ungrown}
 use Rattle.acredact.proofs.Redactions.{uncounted}
 use Rattle.acredact.proofs.back.BackingWay.redact.Goals as goal
@@ -15,9 +15,7 @@ pub redact_back-requires : goal.redact_back-requires
 redact_back-requires g c = record { of = (c.requires.ready.0.patterns, c.requires.ready.1.backward) }
 
 pub returns-clause-outcome : goal.returns-clause-outcome
-returns-clause-outcome g c = λ red by.
-    subst (λ (q : Redactor). StreamOutcome g.R.Source g.W.Sink q c.redact_back.result c.args.source.now c.redact_back.new.source c.args.sink.now c.redact_back.new.sink) (sym by.forward.is)
-    (c.redact_back.ensures.outcome red.patterns by.backward)
+returns-clause-outcome g c = λ red by. rw by.forward.is (c.redact_back.ensures.outcome red.patterns by.backward)
 
 pub returns-clause-counted : goal.returns-clause-counted
 returns-clause-counted g c = λ red by.

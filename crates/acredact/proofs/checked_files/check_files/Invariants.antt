@@ -1,0 +1,19 @@
+-- The files in front of what is left were looked at.
+use Rattle.std.proofs.Common.{length}
+use Rattle.tool_parts.specs.Names.{name_bytes}
+use Rattle.tool_parts.specs.Streams.{bytes_left}
+use Rattle.secret_rules.specs.Ready.{CanCoverLines}
+use Rattle.acredact.specs.RuledChecks.{IfCovers, IsCoveredBy, quest_in}
+use Rattle.acredact.proofs.LookedFiles.{SeenSoFar}
+use Rattle.acredact.proofs.checked_files.check_files.Given as goal
+
+abbrev pub invariant-loop-rest : goal.invariant-loop-rest
+invariant-loop-rest g l = record {
+  can : CanCoverLines g.A.Automaton l.cover;
+  seen : IfCovers g.A.Automaton l.initial.cover (λ covering. IsCoveredBy g.A.Automaton l.cover covering
+      × SeenSoFar g.E.Sink (quest_in g.F.Folder l.fn.checked covering) (name_bytes l.fn.names) (name_bytes l.rest) l.verdict
+      (bytes_left l.initial.input) (bytes_left l.input) (g.W.Sink.taken l.initial.output) (g.W.Sink.taken l.output) l.initial.errors l.errors);
+}
+
+abbrev pub decreases-loop-rest : goal.decreases-loop-rest
+decreases-loop-rest g l = length l.rest

@@ -1,0 +1,32 @@
+-- What is told of doubtful patterns comes first.
+use Rattle.std.proofs.Common.{◌∙◌, List, ap, false, sym, subst}
+use Rattle.tool_parts.specs.Names.{name_bytes}
+use Rattle.tool_parts.specs.Streams.{bytes_left, output_bytes}
+use Rattle.acredact.specs.Arguments.{all_given}
+use Rattle.acredact.specs.Calls.{call_of}
+use Rattle.acredact.specs.Doubts.{TellsDoubts}
+use Rattle.acredact.specs.RuledChecks.{CheckedLines, check_load}
+use Rattle.acredact.specs.Tables.{HaveNoEmpty, secrets_of}
+use Rattle.acredact.specs.declared.patterns.Rule.{Rule}
+use Rattle.acredact.proofs.RuledCalls.{all_doubts_told}
+use Rattle.acredact.proofs.RuledCheckCalls.{check_behind, check_early}
+use Rattle.acredact.proofs.ruled_check.check_loaded.Goals as goal
+
+pub ready_for_lines-requires : goal.ready_for_lines-requires
+ready_for_lines-requires g c = record { some = subst (λ (l : List Rule). HaveNoEmpty (secrets_of l)) (sym c.as_slice-secrets.ensures.value) c.requires.some }
+
+pub returns-in-Ok-clause-outcome : goal.returns-in-Ok-clause-outcome
+returns-in-Ok-clause-outcome g c = λ left loaded.
+    let call = call_of g.F.Folder c.args.folder.now (all_given c.args.given.now) in
+    check_behind g.E.Sink call (check_load c.args.rules.now.secrets.items c.args.rules.now.rules) c.check_by.result left _ _ _ _ _ _ _ loaded
+    (subst (λ (l : List Rule). TellsDoubts g.E.Sink false call.given (secrets_of l) c.args.streams.now.errors c.ready_for_lines.new.errors) c.as_slice-secrets.ensures.value c.ready_for_lines.ensures.told)
+    (subst (λ (l : List Rule). CheckedLines g.E.Sink call (check_load l c.args.rules.now.rules) c.check_by.result (bytes_left c.args.streams.now.input) (bytes_left c.check_by.new.streams.input)
+    (output_bytes g.W.Write c.args.streams.now.output) (output_bytes g.W.Write c.check_by.new.streams.output) c.ready_for_lines.new.errors c.check_by.new.streams.errors) c.as_slice-secrets.ensures.value c.check_by.ensures.outcome)
+
+pub returns-in-Err-clause-outcome : goal.returns-in-Err-clause-outcome
+returns-in-Err-clause-outcome g c = λ left loaded.
+    let call = call_of g.F.Folder c.args.folder.now (all_given c.args.given.now) in
+    check_early g.E.Sink call c.in-Err.failure left _ _ _ _ (all_doubts_told g.E.Sink call (secrets_of c.as_slice-secrets.result.now) _ _ c.ready_for_lines.ensures.told)
+
+pub check_by-requires : goal.check_by-requires
+check_by-requires g c = record { can = c.in-Ok.ensures.can; of = c.in-Ok.ensures.ready.of; names = ap name_bytes c.as_slice.ensures.value ∙ c.in-Ok.ensures.ready.names }

@@ -1,0 +1,26 @@
+-- The key names runs, and with forms the secrets.
+use Rattle.std.proofs.Common.{rules, List, ap, ◌∙◌, ◌≡◌, true, false}
+use Rattle.std.specs.Prelude.{Some}
+use Rattle.acredact.specs.Arguments.{all_given, has}
+use Rattle.acredact.specs.Named.{all_named}
+use Rattle.acredact.specs.Pseudonyms.{pseudonym_rule}
+use Rattle.acredact.specs.Ruled.{load_as}
+use Rattle.acredact.specs.Tables.{Secret, secrets_of}
+use Rattle.acredact.specs.declared.arguments.Word.TheVariants.{Forms}
+use Rattle.acredact.specs.declared.patterns.Rule.{Rule}
+use Rattle.acredact.proofs.Naming.{ruled_named, ruled_plain}
+use Rattle.acredact.proofs.ruled_load.with_key.Goals as goal
+
+pub returns-then-not-has : goal.returns-then-not-has
+returns-then-not-has c =
+    let none : has Forms (all_given c.args.given.now) ≡ false = search rules in
+    record { keyed = ap (λ (l : List Secret). load_as l c.args.rules.rules (Some c.args.key.items)) (ruled_plain (all_given c.args.given.now) (secrets_of c.args.rules.secrets.items) c.args.key.items none) }
+
+pub returns : goal.returns
+returns c =
+    let asked : has Forms (all_given c.args.given.now) ≡ true = search rules in
+    record {
+      keyed = ap (λ (l : List Secret). load_as l c.args.rules.rules (Some c.args.key.items))
+          (ruled_named (all_given c.args.given.now) (secrets_of c.args.rules.secrets.items) c.args.key.items _ c.name_key.result.ignore_case c.name_key.result.bytes.now asked c.name_key.ensures.case (c.name_key.ensures.bytes ∙ c.as_slice-2.ensures.value)
+          (c.in_ok-named.ensures.named ∙ ap (λ (l : List Rule). all_named (pseudonym_rule c.name_key.result.ignore_case c.name_key.result.bytes.now) (secrets_of l)) c.as_slice.ensures.value));
+    }
