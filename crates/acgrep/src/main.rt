@@ -7,7 +7,6 @@
 mod actions;
 mod alone;
 mod arguments;
-mod base64;
 mod below;
 mod beside;
 mod buffer;
