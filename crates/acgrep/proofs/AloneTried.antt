@@ -9,7 +9,6 @@ use Rattle.aho_core.specs.Occurs.{OccursIn}
 use Rattle.aho_core.specs.Order.{IsBefore}
 use Rattle.aho_core.specs.Patterns.{Patterns}
 use Rattle.aho_core.specs.Search.{plain_search}
-use Rattle.aho_core.specs.declared.search.MatchKind.{MatchKind}
 use Rattle.aho_core.specs.declared.search.MatchKind.TheVariants.{LeftmostLongest}
 use Rattle.aho_laws.proofs.ClearCuts.{Occurs-in}
 use Rattle.aho_laws.specs.CutLaws.{span_search}

@@ -18,7 +18,7 @@ use Rattle.acgrep.specs.Streamed.{BeginsBehind, Course, SearchesBehind, course}
 use Rattle.acgrep.specs.Written.{IsAny, IsSelected, IsSettled, SomeLine, TellsOfLines, is_full, needs_one}
 use Rattle.acgrep.specs.declared.options.Context.{Context}
 use Rattle.acgrep.specs.declared.options.Shown.{Shown}
-use Rattle.acgrep.specs.declared.options.Shown.TheVariants.{Count, Lacking, Lines, Matches, Names, Nothing, Objects}
+use Rattle.acgrep.specs.declared.options.Shown.TheVariants.{Nothing}
 use Rattle.acgrep.specs.declared.select.Job.{Job}
 use Rattle.acgrep.specs.declared.select.State.{State}
 use Rattle.acgrep.proofs.Begun.{nil_front}

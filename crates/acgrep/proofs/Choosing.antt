@@ -1,17 +1,16 @@
 -- Which of the operands are searched.
 use Rattle.std.proofs.Common.{◌++◌, ◌-◌, ◌<◌, ◌∙◌, ◌∷◌, ◌≡◌, ◌⊎◌, Bool, Bor, List, None, Option, Some, [], ap, append-nil, append_assoc, arith, drop, false, inl, inr, length, refl, subst, sym, take, take_all, true, ℕ}
 use Rattle.std.proofs.Math.ListN.{get_or}
-use Rattle.std.proofs.lemmas.Bool.{cases_Bool, or_parts}
+use Rattle.std.proofs.lemmas.Bool.{cases_Bool}
 use Rattle.std.proofs.lemmas.Grind.{common_steps}
-use Rattle.std.specs.Prelude.{◌||◌, IfSome, not, unwrap_or}
+use Rattle.std.specs.Prelude.{◌||◌, IfSome, not}
 use Rattle.tool_parts.specs.Names.{is_input, name_bytes, or_input}
 use Rattle.acgrep.specs.Arguments.{Said, ways_by}
-use Rattle.acgrep.specs.Folders.{AreChosen, Chooses, IsKept, IsUnknown, Tree, is_folder, is_passed, kept_of, missed_of, passes}
+use Rattle.acgrep.specs.Folders.{AreChosen, Chooses, IsKept, IsUnknown, Tree, is_folder, is_passed, kept_of, missed_of}
 use Rattle.acgrep.specs.Listed.{listed_bytes}
 use Rattle.acgrep.specs.Rules.{RuleSaid, is_left_out}
-use Rattle.acgrep.specs.Runs.{AreReached, chooses, has_rules}
+use Rattle.acgrep.specs.Runs.{AreReached, chooses}
 use Rattle.acgrep.specs.declared.folders.Kind.{Kind}
-use Rattle.acgrep.specs.declared.folders.Kind.TheVariants.{Device, File, Folder, Link}
 use Rattle.acgrep.specs.declared.walk.Found.{Found}
 use Rattle.acgrep.specs.declared.walk.Ways.{Ways}
 
@@ -40,12 +39,6 @@ module _ (tree : Tree) (rules : List RuleSaid) (ways : Ways) (all : List (List �
   chosen-end (name ∷ names) found gone so_far = absurd (omega (arith, gone))
 
 -- where there are no rules, and none is passed over for what it is, all are searched
-kinds_free : (ways : Ways) (kind : Kind) → passes ways ≡ false → is_passed ways kind ≡ false
-kinds_free ways kind none = grind (arith, common_steps)
-
-rules_free : (rules : List RuleSaid) (is_folder : Bool) (name : List ℕ) → has_rules rules ≡ false → is_left_out rules is_folder true name ≡ false
-rules_free rules is_folder name none = grind (arith, common_steps)
-
 module _ (tree : Tree) (rules : List RuleSaid) (ways : Ways) (none : chooses rules ways ≡ false) where
   none_left : (kind : Kind) (name : List ℕ) → not (is_passed ways kind || is_left_out rules (is_folder kind) true name) ≡ true
   none_left kind name = grind (arith, common_steps)

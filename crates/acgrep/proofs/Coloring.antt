@@ -9,7 +9,6 @@ use Rattle.aho_core.specs.Occurrence.{Occurrence}
 use Rattle.acgrep.specs.Matches.{behind_by, found_by, rest_behind, shown_from}
 use Rattle.acgrep.specs.Printed.{colored_by, match_code, painted, part_of}
 use Rattle.acgrep.specs.declared.matches.Shape.{Shape}
-use Rattle.acgrep.specs.declared.matches.Shape.TheVariants.{AsFields, Colored, OnLines}
 use Rattle.acgrep.specs.declared.print.Place.{Place}
 use Rattle.acgrep.specs.declared.print.Style.{Style}
 

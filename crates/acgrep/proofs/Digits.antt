@@ -1,6 +1,5 @@
 -- Digits among joined letters.
-use Rattle.std.proofs.Common.{◌++◌, ◌<◌, ◌==◌, ◌∙◌, ◌∷◌, ◌≡◌, ◌≤◌, List, None, Option, Some, [], ap, append-nil, append_assoc, arith, drop, false, inl, inr, length, refl, suc, sym, take, true, zero, ℕ}
-use Rattle.std.proofs.lemmas.Bool.{cases_Bool, eqb-true, false_from_ne_true}
+use Rattle.std.proofs.Common.{◌++◌, ◌<◌, ◌==◌, ◌∙◌, ◌∷◌, ◌≡◌, ◌≤◌, List, None, Option, Some, [], ap, append-nil, append_assoc, arith, drop, false, length, refl, suc, sym, take, true, zero, ℕ}
 use Rattle.std.proofs.lemmas.Grind.{common_steps}
 use Rattle.std.specs.Char.{is_ascii_digit}
 use Rattle.std.specs.Prelude.{option_and_then, option_map}
@@ -98,9 +97,6 @@ letter_first letter rest s digits = grind (arith, common_steps)
 
 pub wrong_first : (letter : ℕ) (rest : List ℕ) → AreDigits (letter ∷ rest) 0 → wrong_letters (letter ∷ rest) ≡ wrong_letter letter rest (wrong_letters rest)
 wrong_first letter rest digits = grind (arith, common_steps)
-
-not_equal : (a b : ℕ) → (a ≡ b → ⊥) → (a == b) ≡ false
-not_equal a b differ = false_from_ne_true (a == b) (λ is. differ (eqb-true a b is))
 
 -- a letter that turns something on
 pub letter_switch : (letter : ℕ) (rest : List ℕ) (follow : Said → Option ReadSoFar) (s : Said) (switch : Switch) → (letter ≡ 101 → ⊥) → (letter ≡ 102 → ⊥) → valued_letter letter ≡ None

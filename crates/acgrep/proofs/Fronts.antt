@@ -1,6 +1,5 @@
 -- The lines before the first that holds a zero byte, put together from reads.
-use Rattle.std.proofs.Common.{◌++◌, ◌-◌, ◌<◌, ◌∙◌, ◌∷◌, ◌≡◌, ◌≤◌, Bool, List, Option, Some, [], ap, arith, drop, length, length-append, refl, subst, sym, take, true, ℕ}
-use Rattle.std.proofs.Math.Seq.{take-append_seam}
+use Rattle.std.proofs.Common.{◌++◌, ◌-◌, ◌<◌, ◌∙◌, ◌∷◌, ◌≡◌, ◌≤◌, Bool, List, Option, Some, [], arith, drop, length, refl, subst, sym, take, true, ℕ}
 use Rattle.std.proofs.lemmas.Grind.{common_steps}
 use Rattle.std.specs.Io.KnownBytes.{Keeps}
 use Rattle.aho_core.specs.Patterns.{Patterns}
@@ -17,9 +16,6 @@ use Rattle.acgrep.specs.declared.stream.Came.{Came}
 use Rattle.acgrep.specs.declared.stream.Came.TheVariants.{Binary, End, Text}
 use Rattle.acgrep.proofs.BinaryLines.{text_back, text_front, text_joined}
 use Rattle.acgrep.proofs.Streams.{reads_none, reads_some, stream_done, stream_end, stream_step, stream_stop, stream_whole_lines, whole_searched}
-
-take_back : (xs ys : List ℕ) → take (length (xs ++ ys) - length ys) (xs ++ ys) ≡ xs
-take_back xs ys = grind (arith, common_steps)
 
 no_bytes : (xs : List ℕ) (count : ℕ) → length xs ≡ count → count ≡ 0 → is_text xs ≡ true
 no_bytes [] count long none = refl

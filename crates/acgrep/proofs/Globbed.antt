@@ -1,9 +1,8 @@
 -- How a name is read along a glob.
-use Rattle.std.proofs.Common.{◌+◌, ◌-◌, ◌∙◌, ◌∷◌, ◌≡◌, ◌≤◌, ◌⊎◌, Bool, List, [], ap, arith, drop, false, inl, inr, length, refl, subst, suc, sym, take, take_all, true, zero, ℕ}
-use Rattle.std.proofs.Math.Seq.{drop-nil}
+use Rattle.std.proofs.Common.{◌+◌, ◌-◌, ◌∙◌, ◌∷◌, ◌≡◌, ◌≤◌, ◌⊎◌, Bool, List, [], ap, arith, drop, false, inl, inr, length, refl, subst, suc, sym, take, true, zero, ℕ}
 use Rattle.std.proofs.lemmas.Bool.{and_parts, ne_eqb, or_right}
 use Rattle.std.proofs.lemmas.Grind.{common_steps}
-use Rattle.std.proofs.lemmas.List.{drop-drop, length-drop}
+use Rattle.std.proofs.lemmas.List.{drop-drop}
 use Rattle.std.specs.Prelude.{◌||◌}
 use Rattle.acgrep.specs.Globs.{IsCut, any_suffix, closes_at, closing, fits, item_len, one_fits, part_len, stands_for}
 use Rattle.acgrep.proofs.LineLists.{drop_zero}
@@ -97,9 +96,6 @@ read_more glob name first behind byte other unlike stands read = let plain = ne_
 -- what stands behind so many bytes of a slice
 pub behind_slice : (k : ℕ) (bytes : List ℕ) → take (length bytes - k) (drop k bytes) ≡ drop k bytes
 behind_slice k bytes = grind (arith, common_steps)
-
-length_behind : (k : ℕ) (l : List ℕ) → k ≤ length l → k + length (drop k l) ≡ length l
-length_behind k l within = omega (arith, within, length-drop k l)
 
 -- an item more of a set was passed
 pub closes_first : (first : ℕ) (behind : List ℕ) (len : ℕ) → len ≡ item_len first behind → closing (first ∷ behind) ≡ closes_at (1 + len) 0 (take (length behind - len) (drop len behind))

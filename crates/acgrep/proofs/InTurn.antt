@@ -5,17 +5,16 @@ use Rattle.std.proofs.Math.Bool.{or-false, or-true, or_assoc}
 use Rattle.std.proofs.Math.ListN.{get_or}
 use Rattle.std.proofs.lemmas.Bool.{cases_Bool}
 use Rattle.std.proofs.lemmas.Grind.{common_steps}
-use Rattle.std.proofs.lemmas.List.{take_all}
 use Rattle.std.specs.Io.KnownBytes.{Keeps}
 use Rattle.std.specs.Prelude.{◌||◌, Vec, if◌then◌else◌, map}
 use Rattle.tool_parts.specs.Answers.{status_of}
 use Rattle.acgrep.specs.InTurn.{AreBegun, AreDone, AreDoneOr, AreSeen, FileWork, HasOne, IfBroken, IfSearched, is_enough, nothing_seen, seen_after, status_by}
 use Rattle.acgrep.specs.Listed.{listed_bytes}
 use Rattle.acgrep.specs.declared.files.Outcome.{Outcome}
-use Rattle.acgrep.specs.declared.files.Outcome.TheVariants.{Searched, Stopped, Unread}
+use Rattle.acgrep.specs.declared.files.Outcome.TheVariants.{Searched}
 use Rattle.acgrep.specs.declared.files.Seen.{Seen}
 use Rattle.acgrep.specs.declared.options.Shown.{Shown}
-use Rattle.acgrep.specs.declared.options.Shown.TheVariants.{Count, Lacking, Lines, Matches, Names, Nothing, Objects}
+use Rattle.acgrep.specs.declared.options.Shown.TheVariants.{Nothing}
 use Rattle.acgrep.proofs.Bools.{either_way}
 
 -- what follows where a file was searched

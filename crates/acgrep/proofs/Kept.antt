@@ -1,5 +1,5 @@
 -- What was done is as it was where the output keeps its bytes.
-use Rattle.std.proofs.Common.{◌∙◌, ◌≡◌, ◌⊎◌, List, Option, Some, false, inl, inr, subst, sym, ℕ}
+use Rattle.std.proofs.Common.{◌∙◌, ◌≡◌, ◌⊎◌, List, Option, Some, false, inl, inr, subst, ℕ}
 use Rattle.std.proofs.KnownBytes.{Keeps-trans}
 use Rattle.std.specs.Io.KnownBytes.{Keeps}
 use Rattle.aho_core.specs.Patterns.{Patterns}

@@ -2,7 +2,7 @@
 use Rattle.std.proofs.Common.{◌+◌, ◌-◌, ◌<◌, ◌==◌, ◌∙◌, ◌∷◌, ◌≡◌, ◌≤◌, List, [], ap, arith, drop, false, inl, inr, length, subst, suc, sym, take, zero, ℕ}
 use Rattle.std.proofs.lemmas.Bool.{cases_Bool, cases_lt, true≢false}
 use Rattle.std.proofs.lemmas.Grind.{common_steps}
-use Rattle.std.proofs.lemmas.List.{length-drop, length-take-le, take_all}
+use Rattle.std.proofs.lemmas.List.{length-drop, length-take-le}
 use Rattle.std.specs.Prelude.{slice_range}
 use Rattle.aho_core.specs.Bytes.{IsSameWord}
 use Rattle.aho_core.specs.Occurrence.{Occurrence}
@@ -18,7 +18,7 @@ use Rattle.acgrep.specs.Selected.{HoldNoEnding}
 use Rattle.acgrep.specs.Written.{EachLine, HasNone}
 use Rattle.acgrep.proofs.Around.{ends_before}
 use Rattle.acgrep.proofs.FirstLines.{lines_first}
-use Rattle.acgrep.proofs.LineLists.{drop_zero, take_zero}
+use Rattle.acgrep.proofs.LineLists.{take_zero}
 
 slice_front : (text : List ℕ) (end : ℕ) → slice_range text 0 end ≡ take end text
 slice_front text end = grind (arith, common_steps)

@@ -1,5 +1,5 @@
 -- A search that is written, or whose matches are counted.
-use Rattle.std.proofs.Common.{◌++◌, ◌<◌, ◌∙◌, ◌≡◌, ◌⊎◌, Bool, List, Option, Some, [], ap, arith, inl, inr, subst, sym, ℕ}
+use Rattle.std.proofs.Common.{◌++◌, ◌<◌, ◌∙◌, ◌≡◌, ◌⊎◌, Bool, List, Option, Some, [], arith, inl, inr, subst, sym, ℕ}
 use Rattle.std.proofs.KnownBytes.{Appends-kept, Appends-nil, Keeps-refl}
 use Rattle.std.specs.Io.KnownBytes.{Keeps}
 use Rattle.aho_devices.specs.Counts.{AppendsBeginning}

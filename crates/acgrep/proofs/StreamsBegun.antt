@@ -4,7 +4,7 @@ use Rattle.std.specs.Io.KnownBytes.{Consumes, IsAtEnd, Keeps}
 use Rattle.std.specs.Prelude.{IfSome}
 use Rattle.aho_core.specs.Patterns.{Patterns}
 use Rattle.acgrep.specs.Begun.{BeginsOf}
-use Rattle.acgrep.specs.Binary.{is_text, lines_by, text_lines}
+use Rattle.acgrep.specs.Binary.{lines_by, text_lines}
 use Rattle.acgrep.specs.Contexts.{BeginsSearched, SearchesIn, SearchesText, TellsFrom, around_of, walk_of}
 use Rattle.acgrep.specs.Filled.{FillsBehind}
 use Rattle.acgrep.specs.Lines.{EndsLine, IsEnding, lines}

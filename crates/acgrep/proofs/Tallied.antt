@@ -1,10 +1,10 @@
 -- Lines that are counted, some after others, and what is told of their counts.
-use Rattle.std.proofs.Common.{◌++◌, ◌+◌, ◌-◌, ◌<◌, ◌^◌, ◌∙◌, ◌∷◌, ◌≡◌, Bool, List, [], ap, append-nil, append_assoc, arith, false, length, min, refl, subst, suc, sym, true, zero, ℕ}
+use Rattle.std.proofs.Common.{◌++◌, ◌+◌, ◌-◌, ◌<◌, ◌^◌, ◌∙◌, ◌∷◌, ◌≡◌, List, [], ap, append-nil, append_assoc, arith, length, min, refl, subst, suc, sym, ℕ}
 use Rattle.std.proofs.lemmas.Grind.{common_steps}
 use Rattle.std.proofs.lemmas.List.{length-map}
-use Rattle.std.specs.Prelude.{filter, if◌then◌else◌, slice_index}
+use Rattle.std.specs.Prelude.{if◌then◌else◌, slice_index}
 use Rattle.acgrep.specs.Lines.{lines}
-use Rattle.acgrep.specs.Tallies.{CountsLines, count_of, counts_table, rows_counted, rows_from, writes, zeros_of}
+use Rattle.acgrep.specs.Tallies.{CountsLines, count_of, counts_table, rows_counted, rows_from, zeros_of}
 
 -- the lines of two lists, one after the other
 count-both : (number : ℕ) (some more : List (List ℕ)) → count_of number (some ++ more) ≡ count_of number some + count_of number more

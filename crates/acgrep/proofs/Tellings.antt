@@ -12,13 +12,12 @@ use Rattle.acgrep.specs.Alone.{asks_alone}
 use Rattle.acgrep.specs.Lines.{EndsLine, lines}
 use Rattle.acgrep.specs.Matches.{WritesColored, WritesMatches}
 use Rattle.acgrep.specs.Objects.{objects_by}
-use Rattle.acgrep.specs.Printed.{colored_from, colored_line_by, head_of, line_number_at, match_by, match_code, matches_by, offset_at, painted, part_of}
+use Rattle.acgrep.specs.Printed.{colored_from, colored_line_by, head_of, line_number_at, matches_by}
 use Rattle.acgrep.specs.Written.{DoesMatch, DoesNotMatch, EachLine, HasNone, IsMatched, IsPassedOver, IsSelected, IsSettled, LineOf, SamePlace, SearchesTo, ShowsBy, ShowsLine, TellsLines, TellsOfLines, WritesLine, WritesNext, after_line, after_lines, is_full, is_numbered, next_count, one_more, place_behind, selects}
 use Rattle.acgrep.specs.declared.matches.Shape.TheVariants.{AsFields, OnLines}
 use Rattle.acgrep.specs.declared.options.Fit.{Fit}
-use Rattle.acgrep.specs.declared.options.Fit.TheVariants.{AnyPart, WholeLine, WholeWord}
 use Rattle.acgrep.specs.declared.options.Shown.{Shown}
-use Rattle.acgrep.specs.declared.options.Shown.TheVariants.{Count, Lacking, Lines, Matches, Names, Nothing, Objects}
+use Rattle.acgrep.specs.declared.options.Shown.TheVariants.{Lines, Matches, Objects}
 use Rattle.acgrep.specs.declared.print.Place.{Place}
 use Rattle.acgrep.specs.declared.print.Style.{Style}
 use Rattle.acgrep.specs.declared.select.Job.{Job}
@@ -106,13 +105,6 @@ same_head job a b offset bytes same =
       | inl asked ↦ ap (λ (n : ℕ). head_of job.style ((n + 1) % 2 ^ 64) offset bytes) (same.lines (asked_numbered job.shown job.style.number asked))
       | inr not ↦ rw not refl
     ]
-
-match_same : (job : Job) (a b : Place) (line : List ℕ) (m : Occurrence) → SamePlace job a b → match_by job.style a line m ≡ match_by job.style b line m
-match_same job a b line m same =
-    let bytes = part_of line m.start m.end in
-    let heads : head_of job.style (line_number_at a) (offset_at a m.start) bytes ≡ head_of job.style (line_number_at b) (offset_at b m.start) bytes =
-    same_head job a b (offset_at a m.start) bytes same ∙ ap (λ (n : ℕ). head_of job.style (line_number_at b) ((n + m.start) % 2 ^ 64) bytes) same.bytes in
-    ap (λ (head : List ℕ). if m.start == m.end then [] else head ++ (painted job.style (match_code job.style) (part_of line m.start m.end) ++ (job.style.ending ∷ []))) heads
 
 matches_same : (job : Job) (a b : Place) (line : List ℕ) (ms : List Occurrence) → SamePlace job a b → matches_by job.style a line ms ≡ matches_by job.style b line ms
 matches_same job a b line ms same = grind (arith, common_steps)

@@ -10,7 +10,7 @@ use Rattle.aho_core.specs.Patterns.{Patterns}
 use Rattle.aho_core.specs.Search.{plain_search}
 use Rattle.aho_core.specs.declared.search.MatchKind.TheVariants.{LeftmostLongest}
 use Rattle.acgrep.specs.declared.options.Fit.{Fit}
-use Rattle.acgrep.specs.declared.options.Fit.TheVariants.{AnyPart, WholeLine, WholeWord}
+use Rattle.acgrep.specs.declared.options.Fit.TheVariants.{WholeWord}
 
 -- a letter of ASCII, a digit or `_`
 abbrev pub is_word_constituent : ℕ → Bool

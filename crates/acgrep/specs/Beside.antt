@@ -2,12 +2,12 @@
 use Rattle.std.specs.Prelude.{◌++◌, ◌==◌, ◌∷◌, Bool, List, None, Option, Some, [], codes, false, if◌then◌else◌, is_some, not, true, ℕ}
 use Rattle.std.specs.Str.{bytes_eq}
 use Rattle.aho_core.specs.declared.search.MatchKind.{MatchKind}
-use Rattle.aho_core.specs.declared.search.MatchKind.TheVariants.{LeftmostFirst, LeftmostLongest, Standard}
+use Rattle.aho_core.specs.declared.search.MatchKind.TheVariants.{LeftmostLongest}
 use Rattle.acgrep.specs.Arguments.{Origin, Said}
 use Rattle.acgrep.specs.declared.beside.Unfit.{Unfit}
 use Rattle.acgrep.specs.declared.beside.Unfit.TheVariants.{Alone, Beside}
 use Rattle.acgrep.specs.declared.options.Color.{Color}
-use Rattle.acgrep.specs.declared.options.Color.TheVariants.{Always, Auto, Never}
+use Rattle.acgrep.specs.declared.options.Color.TheVariants.{Never}
 use Rattle.acgrep.specs.declared.options.Flags.{Flags}
 
 -- the option that gives patterns, if one does

@@ -5,7 +5,7 @@ use Rattle.acgrep.specs.Contexts.{TellsFile}
 use Rattle.acgrep.specs.Lines.{lines}
 use Rattle.acgrep.specs.Written.{IsAny, IsSelected, SomeLine, is_full}
 use Rattle.acgrep.specs.declared.options.Shown.{Shown}
-use Rattle.acgrep.specs.declared.options.Shown.TheVariants.{Count, Lacking, Lines, Matches, Names, Nothing, Objects}
+use Rattle.acgrep.specs.declared.options.Shown.TheVariants.{Lines, Matches, Nothing}
 use Rattle.acgrep.specs.declared.print.Style.{Style}
 use Rattle.acgrep.specs.declared.select.Job.{Job}
 

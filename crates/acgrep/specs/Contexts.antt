@@ -9,7 +9,7 @@ use Rattle.acgrep.specs.Printed.{separator_by}
 use Rattle.acgrep.specs.Written.{IsPassedOver, IsSelected, IsSettled, SearchesPlain, ShowsLine, TellsOfLines, after_line, is_full, one_more}
 use Rattle.acgrep.specs.declared.options.Context.{Context}
 use Rattle.acgrep.specs.declared.options.Shown.{Shown}
-use Rattle.acgrep.specs.declared.options.Shown.TheVariants.{Count, Lacking, Lines, Matches, Names, Nothing, Objects}
+use Rattle.acgrep.specs.declared.options.Shown.TheVariants.{Lines, Matches}
 use Rattle.acgrep.specs.declared.print.Place.{Place}
 use Rattle.acgrep.specs.declared.print.Style.{Style}
 use Rattle.acgrep.specs.declared.select.Job.{Job}

@@ -10,7 +10,7 @@ use Rattle.acgrep.specs.Listed.{listed_bytes}
 use Rattle.acgrep.specs.Rules.{RuleSaid, is_left_out, without_slashes}
 use Rattle.acgrep.specs.declared.folders.Folders.{Ghosts as FolderGhosts}
 use Rattle.acgrep.specs.declared.folders.Kind.{Kind}
-use Rattle.acgrep.specs.declared.folders.Kind.TheVariants.{Device, File, Folder, Link}
+use Rattle.acgrep.specs.declared.folders.Kind.TheVariants.{Device, File, Folder}
 use Rattle.acgrep.specs.declared.open.Open.{Ghosts as Openers}
 use Rattle.acgrep.specs.declared.walk.Found.{Found}
 use Rattle.acgrep.specs.declared.walk.Pending.{Pending}

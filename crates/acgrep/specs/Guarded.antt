@@ -8,7 +8,7 @@ use Rattle.acgrep.specs.Streamed.{Course, ReadsSome, SearchesBehind, TextIf}
 use Rattle.acgrep.specs.Written.{IsAny}
 use Rattle.acgrep.specs.declared.select.Job.{Job}
 use Rattle.acgrep.specs.declared.stream.Came.{Came}
-use Rattle.acgrep.specs.declared.stream.Came.TheVariants.{Binary, End, Text}
+use Rattle.acgrep.specs.declared.stream.Came.TheVariants.{Binary, End}
 
 -- the first of some lines holds a zero byte
 abbrev pub IsFirstBinary : List (List ℕ) → Type 0

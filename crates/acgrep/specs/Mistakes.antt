@@ -3,7 +3,7 @@ use Rattle.std.specs.Char.{is_ascii_digit}
 use Rattle.std.specs.List.{concat}
 use Rattle.std.specs.Prelude.{◌++◌, ◌==◌, ◌||◌, ◌∷◌, ◌≡◌, ◌⊎◌, Err, IfErr, List, None, Ok, Option, Result, Some, [], codes, if◌then◌else◌, ℕ}
 use Rattle.aho_devices.specs.declared.device.Sink.{Ghosts as SinkGhosts}
-use Rattle.tool_parts.specs.ArgumentForms.{Form, argument_form, joined_letters, long_name, long_with, no_more, no_option}
+use Rattle.tool_parts.specs.ArgumentForms.{Form, argument_form, joined_letters, long_name, long_with}
 use Rattle.tool_parts.specs.Messages.{message_by, reason_text}
 use Rattle.tool_parts.specs.OptionNames.{meant}
 use Rattle.tool_parts.specs.Telling.{TellsBytes}
@@ -22,7 +22,7 @@ use Rattle.acgrep.specs.declared.arguments.Wrong.TheVariants.{NoPattern}
 use Rattle.acgrep.specs.declared.long.Long.{Long}
 use Rattle.acgrep.specs.declared.long.Long.TheVariants.{Plain, Takes, When}
 use Rattle.acgrep.specs.declared.long.Valued.{Valued}
-use Rattle.acgrep.specs.declared.long.Valued.TheVariants.{After, Around, Before, BinaryFiles, Devices, Excluded, ExcludedFolder, ExcludedFrom, FirstLine, Folders, Format, Included, Kind, Label, LineLimit, MaxCount, Offset, PatternFile, Regexp, RuleFile, Separator}
+use Rattle.acgrep.specs.declared.long.Valued.TheVariants.{After, Around, Before, BinaryFiles, Devices, FirstLine, Folders, Format, Kind, LineLimit, MaxCount, Offset}
 
 -- what is told of an argument that an option cannot have; any is a pattern, a file's name, a separator, a label or a glob
 abbrev pub wrong_value : Valued → List ℕ → List (List ℕ)

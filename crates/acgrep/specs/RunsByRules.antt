@@ -16,14 +16,12 @@ use Rattle.tool_parts.specs.Names.{name_bytes}
 use Rattle.acgrep.specs.Arguments.{Said}
 use Rattle.acgrep.specs.Folders.{Known, known_by}
 use Rattle.acgrep.specs.MarkedFiles.{AreMarkedOr, AreMarksBegun, IfMarks}
-use Rattle.acgrep.specs.Rules.{RuleSaid}
 use Rattle.acgrep.specs.Runs.{After, AfterRules, IsTextOf, Reached, ReachesAll, status_told}
 use Rattle.acgrep.specs.declared.colors.Screen.{Screen}
 use Rattle.acgrep.specs.declared.folders.Folders.{Ghosts as FolderGhosts}
 use Rattle.acgrep.specs.declared.marked_files.Marking.{Marking}
 use Rattle.acgrep.specs.declared.open.Open.{Ghosts as Openers}
 use Rattle.acgrep.specs.declared.options.Flags.{Flags}
-use Rattle.acgrep.specs.declared.select.Job.{Job}
 
 -- the name that stands for the rules of the program
 abbrev pub is_own : List ℕ → Bool

@@ -1,7 +1,7 @@
 -- What searching does, whatever patterns the searcher was built from.
 use Rattle.std.specs.Borrow.{Bor}
 use Rattle.std.specs.Io.KnownBytes.{Appends}
-use Rattle.std.specs.Prelude.{◌∷◌, ◌≡◌, Bool, IfOk, List, OnErr, OnOk, Option, Result, [], false, true, ℕ}
+use Rattle.std.specs.Prelude.{◌∷◌, ◌≡◌, Bool, IfOk, List, OnErr, OnOk, Option, Result, [], ℕ}
 use Rattle.std.specs.declared.io.traits.Read.{Ghosts as Readers}
 use Rattle.std.specs.declared.io.traits.Write.{Ghosts as Writers}
 use Rattle.aho_core.specs.Patterns.{Patterns}
@@ -15,7 +15,7 @@ use Rattle.acgrep.specs.InTurn.{IfBroken, IfSearched}
 use Rattle.acgrep.specs.Lines.{lines}
 use Rattle.acgrep.specs.Selected.{ForLines}
 use Rattle.acgrep.specs.Streamed.{BeginsBehind}
-use Rattle.acgrep.specs.Written.{EachLine, HasMatch, HasNone, IsMatched, IsSelected, SearchesPlain, SearchesTo, TellsLines, WritesLine, WritesNext}
+use Rattle.acgrep.specs.Written.{EachLine, HasNone, SearchesPlain, SearchesTo, TellsLines, WritesLine, WritesNext}
 use Rattle.acgrep.specs.declared.buffer.Buffer.{Buffer}
 use Rattle.acgrep.specs.declared.files.Outcome.{Outcome}
 use Rattle.acgrep.specs.declared.options.Context.{Context}

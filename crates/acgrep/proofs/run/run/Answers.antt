@@ -1,10 +1,10 @@
 -- What was said was done, and a flush keeps what was written.
-use Rattle.std.proofs.Common.{◌<◌, ◌∙◌, ◌≡◌, ◌≤◌, List, None, Option, Some, [], ap, arith, false, inl, inr, refl, subst, sym, ℕ}
-use Rattle.std.specs.Prelude.{◌||◌, IfSome}
+use Rattle.std.proofs.Common.{◌<◌, ◌∙◌, ◌≡◌, ◌≤◌, List, None, Option, Some, [], arith, false, inl, inr, refl, subst, sym, ℕ}
+use Rattle.std.specs.Prelude.{◌||◌}
 use Rattle.aho_devices.specs.declared.device.Sink.{Ghosts as SinkGhosts}
 use Rattle.tool_parts.proofs.Lines.{some-tells, some-weaker}
 use Rattle.tool_parts.specs.Messages.{reason_text}
-use Rattle.tool_parts.specs.Telling.{Tells, TellsBytes, TellsSome}
+use Rattle.tool_parts.specs.Telling.{TellsBytes, TellsSome}
 use Rattle.tool_parts.specs.declared.errors.Errors.{Errors}
 use Rattle.tool_parts.specs.declared.reason.Reason.TheVariants.{OutOfMemory as NoMemory}
 use Rattle.acgrep.specs.Arguments.{AreRefused, Said, said, said_by, shown_by}
@@ -12,8 +12,7 @@ use Rattle.acgrep.specs.Beside.{unfit_said}
 use Rattle.acgrep.specs.Folders.{known_by}
 use Rattle.acgrep.specs.Listed.{listed_bytes}
 use Rattle.acgrep.specs.Mistakes.{IsFirstMistake, TellsLacking, TellsMistake, TellsNoPattern, TellsRefused, TellsUnfit, memory_line}
-use Rattle.acgrep.specs.Runs.{AsksAny, AsksByRules, AsksToSearch, BeginsSearch, GivesNone, IsByPatterns, Searches}
-use Rattle.acgrep.specs.RunsByRules.{BeginsByRules, SearchesByRules}
+use Rattle.acgrep.specs.Runs.{AsksByRules, IsByPatterns}
 use Rattle.acgrep.specs.Told.{MaySaid, MayTell, TellsStatus, is_hushed, names_said, wrong_parts}
 use Rattle.acgrep.specs.ToldByRules.{IsMarkTold}
 use Rattle.acgrep.specs.declared.arguments.Refusal.{Refusal}

@@ -1,5 +1,5 @@
 -- Without a pattern nothing is written.
-use Rattle.std.proofs.Common.{◌<◌, ◌∙◌, ◌∷◌, ◌≡◌, Bor, List, [], arith, false, inl, inr, length, refl, subst, sym, ℕ}
+use Rattle.std.proofs.Common.{◌<◌, ◌∙◌, ◌∷◌, ◌≡◌, Bor, List, [], arith, false, inl, inr, length, refl, sym, ℕ}
 use Rattle.std.proofs.KnownBytes.{Keeps-refl}
 use Rattle.std.proofs.lemmas.Grind.{common_steps}
 use Rattle.std.proofs.lemmas.List.{nil_from_length}
@@ -8,7 +8,7 @@ use Rattle.tool_parts.proofs.Lines.{some-one}
 use Rattle.tool_parts.specs.Names.{name_bytes}
 use Rattle.acgrep.specs.Arguments.{Origin, said, shown_by}
 use Rattle.acgrep.specs.Folders.{known_by, tree_of}
-use Rattle.acgrep.specs.Runs.{BeginsFor, SearchesFor, names_by, origins_of, sources_by}
+use Rattle.acgrep.specs.Runs.{SearchesFor, names_by, origins_of, sources_by}
 use Rattle.acgrep.specs.Told.{MaySay, TellsOfSearch, wrong_parts}
 use Rattle.acgrep.specs.declared.arguments.Source.{Source}
 use Rattle.acgrep.specs.declared.arguments.Wrong.TheVariants.{NoPattern}
