@@ -6,10 +6,10 @@ use Rattle.std.specs.Prelude.{option_and_then, option_map}
 use Rattle.acgrep.specs.Arguments.{AreDigits, AreRefused, ReadSoFar, Said, letter_by, letters_by, letters_from, number_by, said_so, switch_by, switched, valued_letter, with_digits, with_number}
 use Rattle.acgrep.specs.Mistakes.{IsTold, digits_value_of, if_none, wrong_digits, wrong_from_digits, wrong_letter, wrong_letters}
 use Rattle.acgrep.specs.Told.{number_parts, valued_name}
-use Rattle.acgrep.specs.declared.arguments.Refusal.{Refusal}
-use Rattle.acgrep.specs.declared.arguments.Refusal.TheVariants.{OutOfMemory, Wrong}
-use Rattle.acgrep.specs.declared.long.Valued.TheVariants.{Around}
-use Rattle.acgrep.specs.declared.options.Switch.{Switch}
+use Rattle.acgrep.specs.declared.wrong.Refusal.{Refusal}
+use Rattle.acgrep.specs.declared.wrong.Refusal.TheVariants.{OutOfMemory, Wrong}
+use Rattle.acgrep.specs.declared.all_options.Valued.TheVariants.{Around}
+use Rattle.acgrep.specs.declared.all_options.Switch.{Switch}
 
 abbrev then_letters : List ℕ → Option Said → Option ReadSoFar
 then_letters letters said = option_and_then (λ s. letters_from [] letters s) said

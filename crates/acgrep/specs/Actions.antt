@@ -6,8 +6,8 @@ use Rattle.tool_parts.specs.OptionNames.{Named, found_among, meant, named}
 use Rattle.tool_parts.specs.declared.options.found.Found.TheVariants.{Unknown}
 use Rattle.acgrep.specs.declared.options.Color.{Color}
 use Rattle.acgrep.specs.declared.options.Color.TheVariants.{Always, Auto, Never}
-use Rattle.acgrep.specs.declared.options.Switch.{Switch}
-use Rattle.acgrep.specs.declared.options.Switch.TheVariants.{Binary, ReadDevices, ReadFolders, Recursive, SkipDevices, SkipFolders, Text, TextAlone}
+use Rattle.acgrep.specs.declared.all_options.Switch.{Switch}
+use Rattle.acgrep.specs.declared.all_options.Switch.TheVariants.{Binary, ReadDevices, ReadFolders, Recursive, SkipDevices, SkipFolders, Text, TextAlone}
 
 -- one of three names, in whichever case
 abbrev pub is_one_of : (first second third : List ℕ) → List ℕ → Bool

@@ -13,15 +13,15 @@ use Rattle.acgrep.specs.Rules.{RuleSaid, rules_said, without_slashes}
 use Rattle.acgrep.specs.declared.arguments.Awaited.{Awaited}
 use Rattle.acgrep.specs.declared.arguments.Awaited.TheVariants.{Argument, Fresh, Operands}
 use Rattle.acgrep.specs.declared.arguments.Given.{Given}
-use Rattle.acgrep.specs.declared.arguments.Refusal.{Refusal}
-use Rattle.acgrep.specs.declared.arguments.Refusal.TheVariants.{OutOfMemory, Wrong}
+use Rattle.acgrep.specs.declared.wrong.Refusal.{Refusal}
+use Rattle.acgrep.specs.declared.wrong.Refusal.TheVariants.{OutOfMemory, Wrong}
 use Rattle.acgrep.specs.declared.arguments.Source.{Source}
 use Rattle.acgrep.specs.declared.arguments.Source.TheVariants.{File, Text}
 use Rattle.acgrep.specs.declared.format.Piece.{Piece}
 use Rattle.acgrep.specs.declared.long.Long.{Long}
 use Rattle.acgrep.specs.declared.long.Long.TheVariants.{Plain, Takes, When}
-use Rattle.acgrep.specs.declared.long.Valued.{Valued}
-use Rattle.acgrep.specs.declared.long.Valued.TheVariants.{After, Around, Before, BinaryFiles, Devices, Excluded, ExcludedFolder, ExcludedFrom, FirstLine, Folders, Format, Included, Kind, Label, LineLimit, MaxCount, Offset, PatternFile, Regexp, RuleFile, Separator}
+use Rattle.acgrep.specs.declared.all_options.Valued.{Valued}
+use Rattle.acgrep.specs.declared.all_options.Valued.TheVariants.{After, Around, Before, BinaryFiles, Devices, Excluded, ExcludedFolder, ExcludedFrom, FirstLine, Folders, Format, Included, Kind, Label, LineLimit, MaxCount, Offset, PatternFile, Regexp, RuleFile, Separator}
 use Rattle.acgrep.specs.declared.options.Color.{Color}
 use Rattle.acgrep.specs.declared.options.Color.TheVariants.{Auto, Never}
 use Rattle.acgrep.specs.declared.options.Context.{Context}
@@ -30,8 +30,8 @@ use Rattle.acgrep.specs.declared.options.Fit.TheVariants.{AnyPart, WholeLine, Wh
 use Rattle.acgrep.specs.declared.options.Flags.{Flags}
 use Rattle.acgrep.specs.declared.options.Shown.{Shown}
 use Rattle.acgrep.specs.declared.options.Shown.TheVariants.{Count, Lacking, Lines, Matches, Names, Nothing, Objects}
-use Rattle.acgrep.specs.declared.options.Switch.{Switch}
-use Rattle.acgrep.specs.declared.options.Switch.TheVariants.{Binary, Counts, Follow, Help, IgnoreCase, InitialTab, Invert, Json, MatchCase, NoMatchOk, NoMessages, NoName, NoSeparator, NullData, NullNames, Numbers, Offsets, OnlyLacking, OnlyMatching, OnlyNames, Quiet, ReadDevices, ReadFolders, Recursive, Same, SkipDevices, SkipFolders, Tallies, Text, TextAlone, Version, WholeLines, WholeWords, WithName}
+use Rattle.acgrep.specs.declared.all_options.Switch.{Switch}
+use Rattle.acgrep.specs.declared.all_options.Switch.TheVariants.{Binary, Counts, Follow, Help, IgnoreCase, InitialTab, Invert, Json, MatchCase, NoMatchOk, NoMessages, NoName, NoSeparator, NullData, NullNames, Numbers, Offsets, OnlyLacking, OnlyMatching, OnlyNames, Quiet, ReadDevices, ReadFolders, Recursive, Same, SkipDevices, SkipFolders, Tallies, Text, TextAlone, Version, WholeLines, WholeWords, WithName}
 use Rattle.acgrep.specs.declared.rules.Sense.{Sense}
 use Rattle.acgrep.specs.declared.rules.Sense.TheVariants.{Exclude, ExcludeFolder, ExcludeFrom, Include}
 use Rattle.acgrep.specs.declared.walk.Ways.{Ways}

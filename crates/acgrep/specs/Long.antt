@@ -6,8 +6,8 @@ use Rattle.tool_parts.specs.declared.options.found.Found.{Found}
 use Rattle.tool_parts.specs.declared.options.found.Found.TheVariants.{Begun, Several, Unknown, Whole}
 use Rattle.acgrep.specs.declared.long.Long.{Long}
 use Rattle.acgrep.specs.declared.long.Long.TheVariants.{Plain, Takes, When}
-use Rattle.acgrep.specs.declared.long.Valued.TheVariants.{After, Around, Before, BinaryFiles, Devices, Excluded, ExcludedFolder, ExcludedFrom, FirstLine, Folders, Format, Included, Kind, Label, LineLimit, MaxCount, Offset, PatternFile, Regexp, RuleFile, Separator}
-use Rattle.acgrep.specs.declared.options.Switch.TheVariants.{Counts, Follow, Help, IgnoreCase, InitialTab, Invert, Json, MatchCase, NoMatchOk, NoMessages, NoName, NoSeparator, NullData, NullNames, Numbers, Offsets, OnlyLacking, OnlyMatching, OnlyNames, Quiet, Recursive, Same, Tallies, Text, Version, WholeLines, WholeWords, WithName}
+use Rattle.acgrep.specs.declared.all_options.Valued.TheVariants.{After, Around, Before, BinaryFiles, Devices, Excluded, ExcludedFolder, ExcludedFrom, FirstLine, Folders, Format, Included, Kind, Label, LineLimit, MaxCount, Offset, PatternFile, Regexp, RuleFile, Separator}
+use Rattle.acgrep.specs.declared.all_options.Switch.TheVariants.{Counts, Follow, Help, IgnoreCase, InitialTab, Invert, Json, MatchCase, NoMatchOk, NoMessages, NoName, NoSeparator, NullData, NullNames, Numbers, Offsets, OnlyLacking, OnlyMatching, OnlyNames, Quiet, Recursive, Same, Tallies, Text, Version, WholeLines, WholeWords, WithName}
 
 -- the options that grep has too: those that say what is searched for
 abbrev pub pattern_options : List (Named Long)

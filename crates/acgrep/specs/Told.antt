@@ -21,12 +21,12 @@ use Rattle.acgrep.specs.Formats.{unknown_in}
 use Rattle.acgrep.specs.Rules.{RuleSaid, is_from_file}
 use Rattle.acgrep.specs.Runs.{AfterRules, AreReached, IsByPatterns, names_by, origins_of, sources_by}
 use Rattle.acgrep.specs.declared.arguments.Source.{Source}
-use Rattle.acgrep.specs.declared.arguments.Wrong.{Wrong}
-use Rattle.acgrep.specs.declared.arguments.Wrong.TheVariants.{NoArgument, NoNumber, NoPattern, NotFound, TakesNone, UnknownBinary, UnknownColor, UnknownDevices, UnknownField, UnknownFolders, UnknownKind, UnknownLetter}
+use Rattle.acgrep.specs.declared.wrong.Wrong.{Wrong}
+use Rattle.acgrep.specs.declared.wrong.Wrong.TheVariants.{NoArgument, NoNumber, NoPattern, NotFound, TakesNone, UnknownBinary, UnknownColor, UnknownDevices, UnknownField, UnknownFolders, UnknownKind, UnknownLetter}
 use Rattle.acgrep.specs.declared.files.Outcome.{Outcome}
 use Rattle.acgrep.specs.declared.files.Outcome.TheVariants.{Searched, Stopped, Unread}
-use Rattle.acgrep.specs.declared.long.Valued.{Valued}
-use Rattle.acgrep.specs.declared.long.Valued.TheVariants.{After, Around, Before, BinaryFiles, Devices, Excluded, ExcludedFolder, ExcludedFrom, FirstLine, Folders, Format, Included, Kind, Label, LineLimit, MaxCount, Offset, PatternFile, Regexp, RuleFile, Separator}
+use Rattle.acgrep.specs.declared.all_options.Valued.{Valued}
+use Rattle.acgrep.specs.declared.all_options.Valued.TheVariants.{After, Around, Before, BinaryFiles, Devices, Excluded, ExcludedFolder, ExcludedFrom, FirstLine, Folders, Format, Included, Kind, Label, LineLimit, MaxCount, Offset, PatternFile, Regexp, RuleFile, Separator}
 use Rattle.acgrep.specs.declared.options.Shown.{Shown}
 use Rattle.acgrep.specs.declared.options.Shown.TheVariants.{Nothing}
 

@@ -15,8 +15,8 @@ use Rattle.acgrep.specs.Mistakes.{IsFirstMistake, TellsLacking, TellsMistake, Te
 use Rattle.acgrep.specs.Runs.{AsksByRules, IsByPatterns}
 use Rattle.acgrep.specs.Told.{MaySaid, MayTell, TellsStatus, is_hushed, names_said, wrong_parts}
 use Rattle.acgrep.specs.ToldByRules.{IsMarkTold}
-use Rattle.acgrep.specs.declared.arguments.Refusal.{Refusal}
-use Rattle.acgrep.specs.declared.arguments.Refusal.TheVariants.{OutOfMemory, Wrong}
+use Rattle.acgrep.specs.declared.wrong.Refusal.{Refusal}
+use Rattle.acgrep.specs.declared.wrong.Refusal.TheVariants.{OutOfMemory, Wrong}
 use Rattle.acgrep.specs.declared.options.Shown.TheVariants.{Nothing}
 use Rattle.acgrep.proofs.Kept.{begun_by_rules, by_rules_kept, ruled_kept, said_alone, search_held}
 use Rattle.acgrep.proofs.MarksTold.{some-told}

@@ -11,7 +11,7 @@ use Rattle.acgrep.specs.Folders.{known_by, tree_of}
 use Rattle.acgrep.specs.Runs.{SearchesFor, names_by, origins_of, sources_by}
 use Rattle.acgrep.specs.Told.{MaySay, TellsOfSearch, wrong_parts}
 use Rattle.acgrep.specs.declared.arguments.Source.{Source}
-use Rattle.acgrep.specs.declared.arguments.Wrong.TheVariants.{NoPattern}
+use Rattle.acgrep.specs.declared.wrong.Wrong.TheVariants.{NoPattern}
 use Rattle.acgrep.proofs.Told.{status-some}
 use Rattle.acgrep.proofs.run.search_asked.Given.{Over}
 use Rattle.acgrep.proofs.run.search_asked.Goals.{After-search}

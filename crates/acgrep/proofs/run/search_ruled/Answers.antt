@@ -11,7 +11,7 @@ use Rattle.acgrep.specs.Listed.{listed_bytes}
 use Rattle.acgrep.specs.Rules.{RuleSaid, rules_said}
 use Rattle.acgrep.specs.Runs.{AreRules, BeginsSaid, SearchesSaid, names_by, ruled, sources_by}
 use Rattle.acgrep.specs.Told.{IsMessage, MaySaid, MaySay, TellsOfSaid, TellsStatus, names_said, names_told, rule_files, wrong_parts}
-use Rattle.acgrep.specs.declared.arguments.Wrong.TheVariants.{NoPattern}
+use Rattle.acgrep.specs.declared.wrong.Wrong.TheVariants.{NoPattern}
 use Rattle.acgrep.proofs.RuleTexts.{rules_read}
 use Rattle.acgrep.proofs.Told.{among-first, among-later, message-more, status-some, status-weaker}
 use Rattle.acgrep.proofs.run.search_ruled.Goals as goal
