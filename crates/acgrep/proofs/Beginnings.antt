@@ -8,8 +8,8 @@ use Rattle.acgrep.specs.Contexts.{BeginsLines, TellsFrom}
 use Rattle.acgrep.specs.Lines.{lines}
 use Rattle.acgrep.specs.Written.{DoesMatch, DoesNotMatch, EachLine, HasNone, IsSelected, SamePlace, SearchesTo, TellsLines, WritesLine, after_lines, is_full, one_more}
 use Rattle.acgrep.specs.declared.print.Place.{Place}
-use Rattle.acgrep.specs.declared.select.Job.{Job}
-use Rattle.acgrep.specs.declared.select.State.{State}
+use Rattle.acgrep.specs.declared.job.Job.{Job}
+use Rattle.acgrep.specs.declared.job.State.{State}
 use Rattle.acgrep.proofs.Begun.{begins_behind, begins_more, begins_some}
 use Rattle.acgrep.proofs.Tellings.{Passing, none_matches, same_place, tells_append, tells_same}
 

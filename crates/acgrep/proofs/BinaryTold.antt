@@ -19,8 +19,8 @@ use Rattle.acgrep.specs.Written.{IsAny, IsSelected, IsSettled, SomeLine, TellsOf
 use Rattle.acgrep.specs.declared.options.Context.{Context}
 use Rattle.acgrep.specs.declared.options.Shown.{Shown}
 use Rattle.acgrep.specs.declared.options.Shown.TheVariants.{Nothing}
-use Rattle.acgrep.specs.declared.select.Job.{Job}
-use Rattle.acgrep.specs.declared.select.State.{State}
+use Rattle.acgrep.specs.declared.job.Job.{Job}
+use Rattle.acgrep.specs.declared.job.State.{State}
 use Rattle.acgrep.proofs.Begun.{nil_front}
 use Rattle.acgrep.proofs.BinaryLines.{binary_behind, first_binary, first_some, first_text, some_binary, some_text, text_behind}
 use Rattle.acgrep.proofs.FileTellings.{TextTold, shows_nothing, some_front, sought_all, tells_any, tells_none, text_behind as text_read, text_told}

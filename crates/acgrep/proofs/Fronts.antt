@@ -10,8 +10,8 @@ use Rattle.acgrep.specs.Guarded.{IsFirstBinary, IsZeroLine, ReadsFront, Searches
 use Rattle.acgrep.specs.Lines.{IsEnding, lines}
 use Rattle.acgrep.specs.Streamed.{SearchesWhole, TextIf, course}
 use Rattle.acgrep.specs.Written.{IsSettled}
-use Rattle.acgrep.specs.declared.select.Job.{Job}
-use Rattle.acgrep.specs.declared.select.State.{State}
+use Rattle.acgrep.specs.declared.job.Job.{Job}
+use Rattle.acgrep.specs.declared.job.State.{State}
 use Rattle.acgrep.specs.declared.stream.Came.{Came}
 use Rattle.acgrep.specs.declared.stream.Came.TheVariants.{Binary, End, Text}
 use Rattle.acgrep.proofs.BinaryLines.{text_back, text_front, text_joined}

@@ -11,7 +11,7 @@ use Rattle.acgrep.specs.Contexts.{AreChosen, IsNearChosen, IsNotChosen, PassesBy
 use Rattle.acgrep.specs.Written.{IsSelected, ShowsLine, after_line, after_lines, is_full, one_more}
 use Rattle.acgrep.specs.declared.options.Context.{Context}
 use Rattle.acgrep.specs.declared.print.Place.{Place}
-use Rattle.acgrep.specs.declared.select.Job.{Job}
+use Rattle.acgrep.specs.declared.job.Job.{Job}
 use Rattle.acgrep.proofs.Tellings.{after_append}
 use Rattle.acgrep.proofs.Walking.{moved}
 

@@ -11,7 +11,7 @@ use Rattle.acgrep.specs.MarkedFiles.{mark_work}
 use Rattle.acgrep.specs.Runs.{After, AreSought, BeginsFor, BeginsOrKeeps, BeginsSearch, Reached, SearchesFor, SearchesRuled, kind_sought, knows_none, names_by, ruled, sources_by, words_sought}
 use Rattle.acgrep.specs.RunsByRules.{BeginsByRules, MarksAsked, MayBeginAsked, SearchesByRules, marking_by}
 use Rattle.acgrep.specs.declared.colors.Screen.{Screen}
-use Rattle.acgrep.specs.declared.select.Job.{Job}
+use Rattle.acgrep.specs.declared.job.Job.{Job}
 use Rattle.acgrep.proofs.Bools.{either_way}
 use Rattle.acgrep.proofs.InTurn.{begun_kept, or_kept}
 use Rattle.acgrep.proofs.OrCounted.{begins-counts-kept, counts-kept}

@@ -6,7 +6,7 @@ use Rattle.acgrep.specs.Binary.{is_guarded, lines_sought}
 use Rattle.acgrep.specs.Files.{HasSelected, SearchesName, known_of}
 use Rattle.acgrep.specs.Written.{IsSelected, SomeLine}
 use Rattle.acgrep.specs.declared.options.Fit.{Fit}
-use Rattle.acgrep.specs.declared.select.Job.{Job}
+use Rattle.acgrep.specs.declared.job.Job.{Job}
 use Rattle.acgrep.proofs.BinaryTold.{either_some}
 
 -- a selected line, where the same lines are searched

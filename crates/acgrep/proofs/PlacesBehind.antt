@@ -7,7 +7,7 @@ use Rattle.memchr.specs.Find.{is_byte, places, places_from}
 use Rattle.acgrep.specs.Lines.{EndsLine, joined_to, lines}
 use Rattle.acgrep.specs.Written.{NumbersLines, SamePlace, after_line, after_lines}
 use Rattle.acgrep.specs.declared.print.Place.{Place}
-use Rattle.acgrep.specs.declared.select.Job.{Job}
+use Rattle.acgrep.specs.declared.job.Job.{Job}
 use Rattle.acgrep.proofs.FirstLines.{lines_joined}
 use Rattle.acgrep.proofs.LineLists.{ends_one, ends_tail, first_line}
 

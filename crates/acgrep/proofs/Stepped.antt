@@ -11,7 +11,7 @@ use Rattle.acgrep.specs.Lines.{lines}
 use Rattle.acgrep.specs.Written.{ShowsLine, WritesLine, after_line}
 use Rattle.acgrep.specs.declared.options.Context.{Context}
 use Rattle.acgrep.specs.declared.print.Place.{Place}
-use Rattle.acgrep.specs.declared.select.Job.{Job}
+use Rattle.acgrep.specs.declared.job.Job.{Job}
 use Rattle.acgrep.proofs.Begun.{begins_more, begins_some}
 use Rattle.acgrep.proofs.Walked.{begun_behind, lines_join, lines_none, walks_one}
 pub use Rattle.acgrep.proofs.Grouped.{walk_same}

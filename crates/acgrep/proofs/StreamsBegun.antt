@@ -11,8 +11,8 @@ use Rattle.acgrep.specs.Lines.{EndsLine, IsEnding, lines}
 use Rattle.acgrep.specs.Streamed.{BeginsBehind, BeginsWhole, ReadsSome, SearchesBehind, TextIf, course}
 use Rattle.acgrep.specs.Written.{IsSettled}
 use Rattle.acgrep.specs.declared.options.Context.{Context}
-use Rattle.acgrep.specs.declared.select.Job.{Job}
-use Rattle.acgrep.specs.declared.select.State.{State}
+use Rattle.acgrep.specs.declared.job.Job.{Job}
+use Rattle.acgrep.specs.declared.job.State.{State}
 use Rattle.acgrep.proofs.Beginnings.{begins_join}
 use Rattle.acgrep.proofs.Begun.{begins_all, begins_kept, begins_more, begins_nothing}
 use Rattle.acgrep.proofs.BinaryLines.{text_behind, text_front}

@@ -20,8 +20,8 @@ use Rattle.acgrep.specs.declared.options.Shown.{Shown}
 use Rattle.acgrep.specs.declared.options.Shown.TheVariants.{Lines, Matches, Objects}
 use Rattle.acgrep.specs.declared.print.Place.{Place}
 use Rattle.acgrep.specs.declared.print.Style.{Style}
-use Rattle.acgrep.specs.declared.select.Job.{Job}
-use Rattle.acgrep.specs.declared.select.State.{State}
+use Rattle.acgrep.specs.declared.job.Job.{Job}
+use Rattle.acgrep.specs.declared.job.State.{State}
 use Rattle.acgrep.proofs.Bools.{where_false, where_true}
 use Rattle.acgrep.proofs.LineLists.{ends_drop}
 

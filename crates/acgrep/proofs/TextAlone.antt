@@ -10,8 +10,8 @@ use Rattle.acgrep.specs.Guarded.{BeginsBinary, EndsFront, SearchesFront, Searche
 use Rattle.acgrep.specs.Lines.{EndsLine, lines}
 use Rattle.acgrep.specs.Streamed.{BeginsBehind, TextIf, course}
 use Rattle.acgrep.specs.Written.{SomeLine}
-use Rattle.acgrep.specs.declared.select.Job.{Job}
-use Rattle.acgrep.specs.declared.select.State.{State}
+use Rattle.acgrep.specs.declared.job.Job.{Job}
+use Rattle.acgrep.specs.declared.job.State.{State}
 use Rattle.acgrep.proofs.BinaryLines.{first_some, first_text}
 use Rattle.acgrep.proofs.BinaryTold.{lines_cut, some_behind}
 use Rattle.acgrep.proofs.FileTellings.{file_of, left_none, lines_told, settled_read, text_behind as text_read, text_told}

@@ -26,7 +26,7 @@ use Rattle.acgrep.specs.declared.files.Outcome.TheVariants.{Searched, Stopped, U
 use Rattle.acgrep.specs.declared.files.Seen.{Seen}
 use Rattle.acgrep.specs.declared.options.Shown.{Shown}
 use Rattle.acgrep.specs.declared.options.Shown.TheVariants.{Count, Lacking, Lines, Matches, Names, Nothing, Objects}
-use Rattle.acgrep.specs.declared.select.Job.{Job}
+use Rattle.acgrep.specs.declared.job.Job.{Job}
 use Rattle.acgrep.proofs.InTurn.{enough_only}
 use Prim.Native.Nat.{zero, suc}
 

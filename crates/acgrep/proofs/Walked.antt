@@ -11,8 +11,8 @@ use Rattle.acgrep.specs.Lines.{EndsLine, lines}
 use Rattle.acgrep.specs.Written.{IsPassedOver, IsSettled, TellsOfLines, after_line, is_full}
 use Rattle.acgrep.specs.declared.options.Context.{Context}
 use Rattle.acgrep.specs.declared.print.Place.{Place}
-use Rattle.acgrep.specs.declared.select.Job.{Job}
-use Rattle.acgrep.specs.declared.select.State.{State}
+use Rattle.acgrep.specs.declared.job.Job.{Job}
+use Rattle.acgrep.specs.declared.job.State.{State}
 use Rattle.acgrep.proofs.Begun.{begins_behind}
 use Rattle.acgrep.proofs.LineLists.{lines_append}
 

@@ -7,7 +7,7 @@ use Rattle.acgrep.specs.Written.{IsAny, IsSelected, SomeLine, is_full}
 use Rattle.acgrep.specs.declared.options.Shown.{Shown}
 use Rattle.acgrep.specs.declared.options.Shown.TheVariants.{Lines, Matches, Nothing}
 use Rattle.acgrep.specs.declared.print.Style.{Style}
-use Rattle.acgrep.specs.declared.select.Job.{Job}
+use Rattle.acgrep.specs.declared.job.Job.{Job}
 
 -- whether bytes hold no zero byte
 abbrev pub is_text : List ℕ → Bool

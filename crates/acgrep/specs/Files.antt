@@ -15,7 +15,7 @@ use Rattle.acgrep.specs.Written.{IsAny, IsSelected, SomeLine, TellsOfLines, is_f
 use Rattle.acgrep.specs.declared.options.Shown.{Shown}
 use Rattle.acgrep.specs.declared.options.Shown.TheVariants.{Count, Lacking, Names, Nothing}
 use Rattle.acgrep.specs.declared.print.Style.{Style}
-use Rattle.acgrep.specs.declared.select.Job.{Job}
+use Rattle.acgrep.specs.declared.job.Job.{Job}
 
 -- behind the lines of a file stands their count where it is asked for
 abbrev pub count_if : Shown → Style → ℕ → List ℕ

@@ -25,7 +25,7 @@ use Rattle.acgrep.specs.declared.marked.Pass.{Pass}
 use Rattle.acgrep.specs.declared.marked_files.Marking.{Marking}
 use Rattle.acgrep.specs.declared.options.Shown.{Shown}
 use Rattle.acgrep.specs.declared.print.Place.{Place}
-use Rattle.acgrep.specs.declared.select.Job.{Job}
+use Rattle.acgrep.specs.declared.job.Job.{Job}
 
 -- what is asked of the lines of a file, by these rules
 abbrev pub file_asked : Job → List Rule → FileAsked

@@ -33,7 +33,7 @@ use Rattle.acgrep.specs.declared.options.Shown.TheVariants.{Lines, Matches, Obje
 use Rattle.acgrep.specs.declared.print.Form.{Form}
 use Rattle.acgrep.specs.declared.print.Form.TheVariants.{Json, Pieces}
 use Rattle.acgrep.specs.declared.print.Place.{Place}
-use Rattle.acgrep.specs.declared.select.Job.{Job}
+use Rattle.acgrep.specs.declared.job.Job.{Job}
 use Rattle.acgrep.specs.declared.walk.Ways.{Ways}
 
 -- what holds of what the arguments say, where they are right

@@ -20,8 +20,8 @@ use Rattle.acgrep.specs.declared.buffer.Buffer.{Buffer}
 use Rattle.acgrep.specs.declared.files.Outcome.{Outcome}
 use Rattle.acgrep.specs.declared.options.Context.{Context}
 use Rattle.acgrep.specs.declared.print.Place.{Place}
-use Rattle.acgrep.specs.declared.select.Job.{Job}
-use Rattle.acgrep.specs.declared.select.State.{State}
+use Rattle.acgrep.specs.declared.job.Job.{Job}
+use Rattle.acgrep.specs.declared.job.State.{State}
 
 -- what is asked of a selected line is written where a call does not fail
 abbrev pub WritesLineBy : (Patterns → Type 0) → Job → Place → (held held' : Option (List ℕ)) → List ℕ → {T E : Type 0} → Result T E → Type 0

@@ -8,8 +8,8 @@ use Rattle.acgrep.specs.Binary.{is_text, lines_by}
 use Rattle.acgrep.specs.Contexts.{BeginsSearched, SearchesText}
 use Rattle.acgrep.specs.Lines.{EndsLine}
 use Rattle.acgrep.specs.Written.{IsSettled}
-use Rattle.acgrep.specs.declared.select.Job.{Job}
-use Rattle.acgrep.specs.declared.select.State.{State}
+use Rattle.acgrep.specs.declared.job.Job.{Job}
+use Rattle.acgrep.specs.declared.job.State.{State}
 
 -- states, what the writer holds and what the reader has left, before and after
 pub record Course : Type 0 where

@@ -1,4 +1,4 @@
-//! Searching where the lines around selected ones are written too.
+//! Searching a text, also where the lines around selected ones are written.
 
 ghost use Rattle.std.specs.Prelude.{◌≡◌, ◌&&◌, ◌<◌, IfOk, false, true};
 ghost use Rattle.aho_core.specs.Patterns.{Patterns};
@@ -6,22 +6,53 @@ ghost use Rattle.chromesquid.specs.Searcher.{IsBuiltFrom, IsBuiltFromSome};
 ghost use Rattle.acgrep.specs.Contexts.{IsChosenBy, beside, separator_if};
 ghost use Rattle.acgrep.specs.Filled.{held_lines};
 ghost use Rattle.acgrep.specs.Printed.{Puts};
-ghost use Rattle.acgrep.specs.Searched.{BeginsLineAround, BeginsWalkWhere, BegunBy, ShowsEachBy, ShowsGroupBy, StepsBy, WalksBy, WalksWhere};
+ghost use Rattle.acgrep.specs.Searched.{BeginsLineAround, BeginsTextBy, BeginsWalkWhere, BegunBy, ShowsEachBy, ShowsGroupBy, SearchesTextBy, StepsBy, WalksBy, WalksWhere};
+ghost use Rattle.acgrep.specs.Selected.{ForJob, IsNoneSelected};
 ghost use Rattle.acgrep.specs.Written.{IsMatched};
 
 use crate::failure::Stop;
 use crate::held::Held;
+use crate::job::{Job, State};
 use crate::lines::{behind, line_end};
 use crate::options::Context;
-use crate::print::{Place, put_separator};
-use crate::select::{Job, State, behind_line, is_match, put_shown};
+use crate::print::{Place, behind_line, put_separator};
+use crate::select::{is_match, put_shown, search_plain};
 use crate::trail::Trail;
 use chromesquid::{AhoCorasick, Sink, write_whole};
 use std::io;
 use std::io::Write;
 
+/// Searches a text of whole lines, and writes what is asked of those that are selected.
+pub fn search_text<W: Sink>(
+    searcher: &AhoCorasick,
+    job: &Job<'_>,
+    text: &[u8],
+    state: &mut State,
+    page: &mut Vec<u8>,
+    output: &mut W,
+) -> Result<(), Stop>
+    requires of { IsBuiltFromSome searcher.now }
+
+    // Where no line was selected, no pattern occurs.
+    ensures none { ForJob job.now (IsBuiltFrom searcher.now) (λ p.
+        OnOk result (IsNoneSelected p job.now text.now state.new)) }
+
+    // What is told of the lines is written, in order.
+    ensures written { SearchesTextBy W.Sink searcher.now job.now
+        state.old state.new output.old output.new text.now result }
+
+    // Where it fails a beginning of that is.
+    ensures begun { BeginsTextBy W.Sink searcher.now job.now
+        state.old state.new output.old output.new text.now result }
+{
+    match job.around() {
+        Some(context) => search_around(searcher, job, &context, text, state, page, output),
+        None => search_plain(searcher, job, text, state, page, output),
+    }
+}
+
 /// Searches a text of whole lines, and writes what is asked of those that are selected and of those around them.
-pub fn search_around<W: Sink>(
+fn search_around<W: Sink>(
     searcher: &AhoCorasick,
     job: &Job<'_>,
     context: &Context,

@@ -13,7 +13,7 @@ ghost use Rattle.acgrep.specs.Told.{MaySaid, MayTell, TellsCause, TellsOfCall, T
 ghost use Rattle.acgrep.specs.ToldByRules.{IsMarkTold, TellsByRules};
 ghost use Rattle.acgrep.specs.Mistakes.{TellsLacking, TellsMistake, TellsNoPattern, TellsRefused, TellsUnfit};
 ghost use Rattle.acgrep.specs.Folders.{known_by, tree_of};
-ghost use Rattle.acgrep.specs.Runs.{AsksAny, AsksByRules, AsksToSearch, BeginsNoMatch, BeginsSaid, BeginsSearch, BeginsFor, GivesNone, IfSaid, IsByPatterns, Searches, SearchesFor, SearchesRuled, SearchesSaid, WritesNoMatch, are_empty, kind_sought, knows_none, lists_finds, origins_of, ruled, selects_none, status_told, takes_any, words_sought};
+ghost use Rattle.acgrep.specs.Runs.{AsksAny, AsksByRules, AsksToSearch, BeginsNoMatch, BeginsSaid, BeginsSearch, BeginsFor, GivesNone, IfSaid, IsByPatterns, Searches, SearchesFor, SearchesRuled, SearchesSaid, WritesNoMatch, are_empty, kind_sought, knows_none, lists_finds, origins_of, selects_none, status_told, takes_any, words_sought};
 ghost use Rattle.acgrep.specs.RunsByRules.{BeginsByRules, SearchesByRules};
 
 use crate::arguments::{Given, Source, parse, with_rules};

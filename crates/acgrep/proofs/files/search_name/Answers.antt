@@ -4,7 +4,7 @@ use Rattle.aho_core.specs.Patterns.{Patterns}
 use Rattle.tool_parts.specs.Names.{is_input}
 use Rattle.acgrep.specs.Files.{SearchesFile, SearchesReader, shown_name}
 use Rattle.acgrep.specs.Selected.{HoldNoEnding}
-use Rattle.acgrep.specs.declared.select.Job.{Job}
+use Rattle.acgrep.specs.declared.job.Job.{Job}
 use Rattle.acgrep.proofs.InTurn.{if_broken, if_searched}
 use Rattle.acgrep.proofs.Told.{told-named}
 use Rattle.acgrep.proofs.files.search_name.Goals as goal

@@ -12,7 +12,7 @@ use Rattle.acgrep.specs.Told.{TellsIf}
 use Rattle.acgrep.specs.ToldByRules.{IsMarkTold}
 use Rattle.acgrep.specs.declared.files.Outcome.{Outcome}
 use Rattle.acgrep.specs.declared.files.Seen.{Seen}
-use Rattle.acgrep.specs.declared.select.Job.{Job}
+use Rattle.acgrep.specs.declared.job.Job.{Job}
 use Rattle.acgrep.proofs.FilesMarked.{still_marks}
 use Rattle.acgrep.proofs.InTurn.{SoFar, ends_by, if_broken, if_searched, names_cut, so_far_end, so_far_start, so_far_step}
 use Rattle.acgrep.proofs.Told.{if-more}

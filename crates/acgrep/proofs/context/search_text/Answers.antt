@@ -11,13 +11,13 @@ use Rattle.acgrep.specs.Written.{EachLine, HasNone, IsPassedOver}
 use Rattle.acgrep.specs.declared.options.Context.{Context}
 use Rattle.acgrep.specs.declared.options.Fit.{Fit}
 use Rattle.acgrep.specs.declared.options.Fit.TheVariants.{AnyPart}
-use Rattle.acgrep.specs.declared.select.Job.{Job}
-use Rattle.acgrep.specs.declared.select.State.{State}
+use Rattle.acgrep.specs.declared.job.Job.{Job}
+use Rattle.acgrep.specs.declared.job.State.{State}
 use Rattle.acgrep.proofs.FileTellings.{tells_each}
 use Rattle.acgrep.proofs.NoneInLines.{none_by_lines}
 use Rattle.acgrep.proofs.Tellings.{settled_some}
 use Rattle.acgrep.proofs.Walked.{walks_tells}
-use Rattle.acgrep.proofs.select.search_text.Goals as goal
+use Rattle.acgrep.proofs.context.search_text.Goals as goal
 
 walks_nothing : (p : Patterns) (job : Job) (context : Context) (a b : State) (x y : Option (List ℕ)) (text : List ℕ) → HoldNoEnding job.style.ending p → WalksText p job context a b x y text
     → IsNoneSelected p job text b
