@@ -1,5 +1,7 @@
 //! Why the arguments of a call are refused.
 
+ghost use Rattle.std.specs.Prelude.{◌≡◌};
+
 use crate::all_options::Valued;
 use std::alloc::AllocError;
 use tool_parts::options::found::NotFound;
