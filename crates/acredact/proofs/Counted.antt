@@ -33,7 +33,7 @@ use Rattle.acredact.specs.Faults.{IsStreamEnd}
 use Rattle.acredact.specs.Secrets.{BeginsRedaction, Redactor}
 use Rattle.acredact.specs.Streams.{RedactsStream, StreamOutcome, WritesPiece}
 use Rattle.acredact.specs.Totals.{CountsOfStream}
-use Rattle.acredact.proofs.Redactions.{begins_by, begins_nothing, no_cover, of_finds, redacted, redacted_alike, redaction_by, some_by, starts_whole, to_finds}
+use Rattle.acredact.proofs.Redactions.{begins_by, begins_nothing, comes_of, no_cover, of_finds, redacted, redacted_alike, redaction_by, some_of, to_finds}
 
 -- an error of a run: of the reading where it stopped, or of a write
 abbrev IsRunError : Bool → StreamError → Type 0
@@ -219,7 +219,7 @@ module _ {A R W F : Type 0} (G : Ghosts A) (S : SourceGhosts R) (K : SinkGhosts 
     (fails : (f : F) (m : Occurrence) (matched : List ℕ) (old : W) (reason : StreamError) (next : F) (new : W) → Fits f → CalledOn calls f m matched old (Err reason) next new
     → WritesPiece K (Err reason) old new (slice_index_or r.pieces m.pattern [])) where
   some_one : 1 ≤ shortest (map length r.patterns.words)
-  some_one = some_by G S K automaton r plain unkeyed of are can source source' sink sink'
+  some_one = some_of G automaton r.patterns are can
 
   -- what a run took, by the finds of any text that may come
   over_takes : (result : Result (Unit {0}) StreamError) (over : RunsOver S K (G.is_of automaton) calls source source' closure sink result sink') (bytes : List ℕ) (ms : List Occurrence)
@@ -238,71 +238,58 @@ module _ {A R W F : Type 0} (G : Ghosts A) (S : SourceGhosts R) (K : SinkGhosts 
       let finds = finds-exist r.patterns (plain_search over.given) None (le_refl (length over.given)) in
       (finds.0, finds.1, over_takes result over over.given finds.0 (no_more over.given over.ended) finds.1)
 
-  ran_whole : RunsOver S K (G.is_of automaton) calls source source' closure sink (Ok tt) sink' → StreamOutcome S K r (Ok tt) source source' sink sink'
-  ran_whole over =
-      let taken = given_takes (Ok tt) over in
-      let whole : RedactsStream S K r source source' sink sink' = record {
+  ran : (result : Result (Unit {0}) StreamError) → RunsOver S K (G.is_of automaton) calls source source' closure sink result sink' → StreamOutcome S K r result source source' sink sink'
+  ran (Ok tt) over =
+      let (ms, found, taken) = given_takes (Ok tt) over in
+      comes_of S K r source source' sink sink' (Ok tt)
+      (record {
         text = over.given;
         gives = subst (SourceGave S source source' over.given) over.whole over.gives;
-        redaction = redacted r over.given taken.0;
-        redacts = redaction_by r some_one over.given taken.0 (of_finds r plain over.given taken.0 taken.1);
-        written = subst (Appends (K.taken sink) (K.taken sink')) (sym (redacted_alike r unkeyed over.given taken.0)) taken.2.whole;
-      } in
-      record {
-        redacted = whole;
-        begun = starts_whole whole;
-        near = λ covers. tt;
+        redaction = redacted r over.given ms;
+        redacts = redaction_by r some_one over.given ms (of_finds r plain over.given ms found);
+        written = subst (Appends (K.taken sink) (K.taken sink')) (sym (redacted_alike r unkeyed over.given ms)) taken.whole;
+      })
+      tt (λ covers. tt)
+      (record {
         read_failed = over.read_failed ∙ ap (λ (b : Bool). counted b (S.failures source)) (and-false over.stopped);
-        write_failed = taken.2.write_failed;
-        took_nothing = taken.2.took_nothing;
-        limit = λ (met : false ≡ true). absurd (cc);
-        only = tt;
-      }
-
-  ran_begun : (error : StreamError) → RunsOver S K (G.is_of automaton) calls source source' closure sink (Err error) sink' → StreamOutcome S K r (Err error) source source' sink sink'
-  ran_begun error over =
-      let taken = given_takes (Err error) over in
-      let begun = begins_each r plain unkeyed some_one over.given over.ended (K.taken sink) (K.taken sink') (λ bytes ms may found. (over_takes (Err error) over bytes ms may found).beginning) in
-      record {
-        redacted = tt;
-        begun = record { given = over.given; ended = over.ended; gives = over.gives; part = begun.0; begins = begun.1; written = begun.2 };
-        near = λ covers. absurd (no_cover r plain covers);
-        read_failed = over.read_failed ∙ ap (λ (b : Bool). counted b (S.failures source)) (stops_as over.stopped error taken.2.only).0;
-        write_failed = taken.2.write_failed;
-        took_nothing = taken.2.took_nothing;
-        limit = λ met. let at_limit = over.limit ((stops_as over.stopped error taken.2.only).1 met) met in (over.given, subst (SourceGave S source source' over.given) at_limit.1 over.gives, at_limit.0);
-        only = (stops_as over.stopped error taken.2.only).2;
-      }
-
-  ran : (result : Result (Unit {0}) StreamError) → RunsOver S K (G.is_of automaton) calls source source' closure sink result sink' → StreamOutcome S K r result source source' sink sink'
-  ran (Ok tt) over = ran_whole over
-  ran (Err error) over = ran_begun error over
+        write_failed = taken.write_failed;
+        took_nothing = taken.took_nothing;
+      })
+      (λ (met : false ≡ true). absurd (cc)) tt
+  ran (Err error) over =
+      let (ms, found, taken) = given_takes (Err error) over in
+      let (part, begins, written) = begins_each r plain unkeyed some_one over.given over.ended (K.taken sink) (K.taken sink') (λ bytes ms may found. (over_takes (Err error) over bytes ms may found).beginning) in
+      let (fault, stops, only) = stops_as over.stopped error taken.only in
+      comes_of S K r source source' sink sink' (Err error) tt
+      (record { given = over.given; ended = over.ended; gives = over.gives; part = part; begins = begins; written = written })
+      (λ covers. absurd (no_cover r plain covers))
+      (record {
+        read_failed = over.read_failed ∙ ap (λ (b : Bool). counted b (S.failures source)) fault;
+        write_failed = taken.write_failed;
+        took_nothing = taken.took_nothing;
+      })
+      (λ met. let at_limit = over.limit (stops met) met in (over.given, subst (SourceGave S source source' over.given) at_limit.1 over.gives, at_limit.0)) only
 
   -- before a stream was begun nothing is touched
   untouched : StreamOutcome S K r (Err Memory) source source sink sink
-  untouched = record {
-    redacted = tt;
-    begun = record {
-      given = [];
-      ended = false;
-      gives = record { bytes = Consumes-nil (S.remaining source); end = refl };
-      part = [];
-      begins = begins_nothing r some_one [] false;
-      written = Appends-nil (K.taken sink);
-    };
-    near = λ covers. absurd (no_cover r plain covers);
-    read_failed = refl;
-    write_failed = refl;
-    took_nothing = refl;
-    limit = λ (met : false ≡ true). absurd (cc);
-    only = tt;
-  }
+  untouched =
+      comes_of S K r source source sink sink (Err Memory) tt
+      (record {
+        given = [];
+        ended = false;
+        gives = record { bytes = Consumes-nil (S.remaining source); end = refl };
+        part = [];
+        begins = begins_nothing r some_one [] false;
+        written = Appends-nil (K.taken sink);
+      })
+      (λ covers. absurd (no_cover r plain covers)) (record { read_failed = refl; write_failed = refl; took_nothing = refl })
+      (λ (met : false ≡ true). absurd (cc)) tt
 
   no_memory : (result : Result (Unit {0}) StreamError) → RefusesUntouched result Memory source source' sink sink' → StreamOutcome S K r result source source' sink sink'
   no_memory result refused = rw (refused.0, refused.1, refused.2) untouched
 
   -- whatever is answered, where the closure is lent
-  pub lent_of : (result : Result (Unit {0}) StreamError) (last : F) → (CanBegin G automaton → RunsLent S K (G.is_of automaton) calls source source' closure sink result last sink') → StreamOutcome S K r result source source' sink sink'
+  lent_of : (result : Result (Unit {0}) StreamError) (last : F) → (CanBegin G automaton → RunsLent S K (G.is_of automaton) calls source source' closure sink result last sink') → StreamOutcome S K r result source source' sink sink'
   lent_of result last runs =
       elim (runs can) [
         | inl memory ↦ no_memory result memory.0
@@ -338,11 +325,15 @@ module _ {A R W F : Type 0} (G : Ghosts A) (S : SourceGhosts R) (K : SinkGhosts 
           },
         )
 
-    -- whatever is answered
-    pub lent_counts : (result : Result (Unit {0}) StreamError) → (CanBegin G automaton → RunsLent S K (G.is_of automaton) calls source source' closure sink result last sink') → OnOk result Counted
+    lent_counts : (result : Result (Unit {0}) StreamError) → (CanBegin G automaton → RunsLent S K (G.is_of automaton) calls source source' closure sink result last sink') → OnOk result Counted
     lent_counts (Err error) runs = tt
     lent_counts (Ok tt) runs =
         elim (runs can) [
           | inl memory ↦ let clash = memory.0.0 in absurd (cc)
           | inr over ↦ lent_whole over
         ]
+
+    -- whatever is answered
+    pub lent_does : (result : Result (Unit {0}) StreamError) → (CanBegin G automaton → RunsLent S K (G.is_of automaton) calls source source' closure sink result last sink')
+        → StreamOutcome S K r result source source' sink sink' × OnOk result Counted
+    lent_does result runs = (lent_of result last runs, lent_counts result runs)

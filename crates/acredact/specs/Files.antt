@@ -21,7 +21,7 @@ use Rattle.tool_parts.specs.declared.reason.Reason.{Reason}
 use Rattle.acredact.specs.Faults.{IsOutputEnd, IsReadReason}
 use Rattle.acredact.specs.Messages.{line_about, output_line}
 use Rattle.acredact.specs.Reads.{EachName, OfName, ReadsText}
-use Rattle.acredact.specs.Secrets.{BeginsRedaction, IfOf, IsPromptUpTo, IsRedaction, IsWrittenUpTo, CanRedact, Keyed, NoneOccurs, Redactor, key_of_cover}
+use Rattle.acredact.specs.Secrets.{BeginsRedaction, IsPromptUpTo, IsRedaction, IsWrittenUpTo, CanRedact, Keyed, NoneOccurs, Redactor, key_of_cover}
 use Rattle.acredact.specs.declared.files.Job.{Job}
 use Rattle.acredact.specs.declared.folder.Folder.{Ghosts as Folders}
 use Rattle.acredact.specs.declared.ways.Key.{Key}
@@ -226,7 +226,3 @@ module _ {W : Type 0} (Writes : Writers W) where
         pub cut : OnErr result ((lines : List (List ℕ)) × Does streams streams' (AreCut work work.names lines) lines)
         pub quiet : result ≡ Ok true → streams'.errors ≡ streams.errors
         pub fails : FailsByOutput result streams.output streams'.output
-
-      -- the same of a job, where files are redacted by an automaton
-      abbrev pub JobOutcome : {A F X : Type 0} → Ghosts A → Folders F X → A → Job F → Result Bool StreamError → (streams streams' : Streams R W E Reads) → Type 0
-      JobOutcome G D automaton job result streams streams' = IfOf G automaton (λ p. FilesOutcome (work_of D job (redactor_of job p)) result streams streams')

@@ -4,7 +4,8 @@ use Rattle.std.specs.Borrow.{Bor}
 use Rattle.std.specs.Io.KnownBytes.{Appends}
 use Rattle.aho_core.specs.declared.error.stream.StreamError.{StreamError}
 use Rattle.aho_devices.specs.Counts.{AppendsBeginning, counted}
-use Rattle.aho_devices.specs.Refusals.{IsFillRefusal, IsWriteRefusal, is_read_fault, is_write_fault, is_write_of_nothing}
+use Rattle.aho_devices.specs.Errors.{CountsErrors}
+use Rattle.aho_devices.specs.Refusals.{IsFillRefusal, IsWriteRefusal, is_write_fault, is_write_of_nothing}
 use Rattle.aho_devices.specs.declared.device.Sink.{Ghosts as SinkGhosts}
 use Rattle.aho_devices.specs.declared.device.Source.{Ghosts as SourceGhosts}
 use Rattle.aho_automaton.specs.declared.automaton.Automaton.{Ghosts}
@@ -56,9 +57,7 @@ module _ {R W : Type 0} (S : SourceGhosts R) (K : SinkGhosts W) where
     pub redacted : OnOk result (RedactsStream r source source' sink sink')
     pub begun : StartsStream r source source' sink sink'
     pub near : r.covers ≡ true → IfErr result (λ error. IsFillRefusal error → ReachesStream r source source' sink sink')
-    pub read_failed : S.failures source' ≡ counted (is_read_fault result) (S.failures source)
-    pub write_failed : K.failures sink' ≡ counted (is_write_fault result) (K.failures sink)
-    pub took_nothing : K.empty_writes sink' ≡ counted (is_write_of_nothing result) (K.empty_writes sink)
+    pub errors : CountsErrors S K source source' sink sink' result
     pub limit : is_limit result ≡ true → GaveAsMany S source source' greatest_position
     pub only : IfErr result IsStreamEnd
 

@@ -7,14 +7,13 @@ ghost use Rattle.aho_backward.specs.Searcher.{IsBackwardOf};
 ghost use Rattle.aho_devices.specs.Counts.{counted};
 ghost use Rattle.tool_parts.specs.Names.{is_input};
 ghost use Rattle.tool_parts.specs.Streams.{bytes_left};
-ghost use Rattle.acredact.specs.Back.{BackCounts, BackOutcome};
-ghost use Rattle.acredact.specs.Bounds.{JobNumbers, NumbersGiven, NumbersOfFile, NumbersOfInput, NumbersTold};
+ghost use Rattle.acredact.specs.Back.{DoesByPatterns, DoesJob, IfOfBoth};
+ghost use Rattle.acredact.specs.Bounds.{NumbersGiven, NumbersOfFile, NumbersOfInput, NumbersTold};
 ghost use Rattle.acredact.specs.Faults.{is_unread, reading_of};
-ghost use Rattle.acredact.specs.Files.{CanDo, FileJob, FilesOutcome, InputOutcome, JobOutcome, ToldJob, work_of};
+ghost use Rattle.acredact.specs.Files.{CanDo, FileJob, InputOutcome, ToldJob};
 ghost use Rattle.acredact.specs.Secrets.{IfOf, Redactor};
-ghost use Rattle.acredact.specs.Totals.{CountsFile, CountsJob, CountsOfStream, CountsOfText, CountsTold, JobCounts};
-ghost use Rattle.acredact.specs.Streams.{StreamOutcome};
-ghost use Rattle.acredact.specs.Volumes.{AddsFile, AddsText, AddsStream, FileVolume, JobVolume, files_with};
+ghost use Rattle.acredact.specs.Totals.{CountsFile, CountsOfText, CountsTold, DoesStream};
+ghost use Rattle.acredact.specs.Volumes.{AddsFile, AddsText, AddsStream, FileVolume, files_with};
 ghost use Rattle.acredact.specs.Ways.{IfBy, Redacts};
 
 use crate::back::Backing;
@@ -65,14 +64,8 @@ pub fn redact_files<A: Automaton, F: Folder, I: Read, W: Write, E: Sink>(
     streams: &mut Streams<'_, I, W, E>,
 ) -> Result<bool, StreamError>
     requires ready { CanDo A.Automaton automaton.now job.now }
-    ensures outcome { JobOutcome W.Write E.Sink A.Automaton F.Folder
-        automaton.now job.now result streams.old streams.new }
-    ensures counted { IfOf A.Automaton automaton.now (JobCounts F.Folder job.now
-        result streams.old streams.new counts.old counts.new) }
-    ensures read { JobVolume F.Folder job.now result volume.old volume.new streams.old streams.new }
-    ensures most { OnOk result (JobNumbers F.Folder job.now counts.old counts.new
-        volume.old volume.new streams.old streams.new) }
-    ensures flushed { OnOk result (streams.new.output.device.flushed ≡ true) }
+    ensures done { IfOf A.Automaton automaton.now (DoesByPatterns W.Write E.Sink F.Folder job.now
+        result streams.old streams.new counts.old counts.new volume.old volume.new) }
 {
     if job.covers {
         return cover_files(automaton, job, counts, volume, streams);
@@ -90,14 +83,8 @@ fn cover_files<A: Automaton, F: Folder, I: Read, W: Write, E: Sink>(
 ) -> Result<bool, StreamError>
     requires ready { CanDo A.Automaton automaton.now job.now }
     requires covers { job.now.covers ≡ true }
-    ensures outcome { JobOutcome W.Write E.Sink A.Automaton F.Folder
-        automaton.now job.now result streams.old streams.new }
-    ensures counted { IfOf A.Automaton automaton.now (JobCounts F.Folder job.now
-        result streams.old streams.new counts.old counts.new) }
-    ensures read { JobVolume F.Folder job.now result volume.old volume.new streams.old streams.new }
-    ensures most { OnOk result (JobNumbers F.Folder job.now counts.old counts.new
-        volume.old volume.new streams.old streams.new) }
-    ensures flushed { OnOk result (streams.new.output.device.flushed ≡ true) }
+    ensures done { IfOf A.Automaton automaton.now (DoesByPatterns W.Write E.Sink F.Folder job.now
+        result streams.old streams.new counts.old counts.new volume.old volume.new) }
 {
     match job.key {
         Some(key) => name_files(automaton, key, job, counts, volume, streams),
@@ -116,14 +103,8 @@ fn cover_alike<A: Automaton, F: Folder, I: Read, W: Write, E: Sink>(
     requires ready { CanDo A.Automaton automaton.now job.now }
     requires covers { job.now.covers ≡ true }
     requires unnamed { job.now.key ≡ None }
-    ensures outcome { JobOutcome W.Write E.Sink A.Automaton F.Folder
-        automaton.now job.now result streams.old streams.new }
-    ensures counted { IfOf A.Automaton automaton.now (JobCounts F.Folder job.now
-        result streams.old streams.new counts.old counts.new) }
-    ensures read { JobVolume F.Folder job.now result volume.old volume.new streams.old streams.new }
-    ensures most { OnOk result (JobNumbers F.Folder job.now counts.old counts.new
-        volume.old volume.new streams.old streams.new) }
-    ensures flushed { OnOk result (streams.new.output.device.flushed ≡ true) }
+    ensures done { IfOf A.Automaton automaton.now (DoesByPatterns W.Write E.Sink F.Folder job.now
+        result streams.old streams.new counts.old counts.new volume.old volume.new) }
 {
     let start = StreamCoverStart::new_with(job.alloc, automaton, job.words)?;
     let mut way = Covering {
@@ -145,14 +126,8 @@ fn name_files<A: Automaton, F: Folder, I: Read, W: Write, E: Sink>(
     requires ready { CanDo A.Automaton automaton.now job.now }
     requires covers { job.now.covers ≡ true }
     requires named { job.now.key ≡ Some key }
-    ensures outcome { JobOutcome W.Write E.Sink A.Automaton F.Folder
-        automaton.now job.now result streams.old streams.new }
-    ensures counted { IfOf A.Automaton automaton.now (JobCounts F.Folder job.now
-        result streams.old streams.new counts.old counts.new) }
-    ensures read { JobVolume F.Folder job.now result volume.old volume.new streams.old streams.new }
-    ensures most { OnOk result (JobNumbers F.Folder job.now counts.old counts.new
-        volume.old volume.new streams.old streams.new) }
-    ensures flushed { OnOk result (streams.new.output.device.flushed ≡ true) }
+    ensures done { IfOf A.Automaton automaton.now (DoesByPatterns W.Write E.Sink F.Folder job.now
+        result streams.old streams.new counts.old counts.new volume.old volume.new) }
 {
     let start = StreamCoverStart::new_with(job.alloc, automaton, job.words)?;
     let pieces = Pseudonyms::new(key.bytes, key.ignore_case);
@@ -170,14 +145,8 @@ fn replace_files<A: Automaton, F: Folder, I: Read, W: Write, E: Sink>(
 ) -> Result<bool, StreamError>
     requires ready { CanDo A.Automaton automaton.now job.now }
     requires plain { job.now.covers ≡ false }
-    ensures outcome { JobOutcome W.Write E.Sink A.Automaton F.Folder
-        automaton.now job.now result streams.old streams.new }
-    ensures counted { IfOf A.Automaton automaton.now (JobCounts F.Folder job.now
-        result streams.old streams.new counts.old counts.new) }
-    ensures read { JobVolume F.Folder job.now result volume.old volume.new streams.old streams.new }
-    ensures most { OnOk result (JobNumbers F.Folder job.now counts.old counts.new
-        volume.old volume.new streams.old streams.new) }
-    ensures flushed { OnOk result (streams.new.output.device.flushed ≡ true) }
+    ensures done { IfOf A.Automaton automaton.now (DoesByPatterns W.Write E.Sink F.Folder job.now
+        result streams.old streams.new counts.old counts.new volume.old volume.new) }
 {
     let mut way = Replacing {
         alloc: job.alloc,
@@ -198,14 +167,9 @@ pub fn back_files<A: Automaton, B: Automaton, F: Folder, I: Read, W: Write, E: S
 ) -> Result<bool, StreamError>
     requires ready { CanDo A.Automaton automaton.now job.now }
     requires both { (p : Patterns) × A.is_of automaton.now p × IsBackwardOf B.Automaton searcher.now p }
-    ensures outcome { BackOutcome W.Write E.Sink A.Automaton B.Automaton F.Folder
-        automaton.now searcher.now job.now result streams.old streams.new }
-    ensures counted { BackCounts A.Automaton B.Automaton F.Folder automaton.now searcher.now job.now
-        result streams.old streams.new counts.old counts.new }
-    ensures read { JobVolume F.Folder job.now result volume.old volume.new streams.old streams.new }
-    ensures most { OnOk result (JobNumbers F.Folder job.now counts.old counts.new
-        volume.old volume.new streams.old streams.new) }
-    ensures flushed { OnOk result (streams.new.output.device.flushed ≡ true) }
+    ensures done { IfOfBoth A.Automaton B.Automaton automaton.now searcher.now
+        (DoesByPatterns W.Write E.Sink F.Folder job.now
+        result streams.old streams.new counts.old counts.new volume.old volume.new) }
 {
     if job.covers {
         return cover_files(automaton, job, counts, volume, streams);
@@ -231,14 +195,8 @@ fn redact_flushed<X: Way, F: Folder, I: Read, W: Write, E: Sink>(
     streams: &mut Streams<'_, I, W, E>,
 ) -> Result<bool, StreamError>
     requires ready { (r : Redactor) × Redacts X.Way way.old r }
-    ensures outcome { IfBy X.Way way.old (λ r. FilesOutcome W.Write E.Sink
-        (work_of F.Folder job.now r) result streams.old streams.new) }
-    ensures counted { IfBy X.Way way.old (CountsJob F.Folder job.now
-        result streams.old streams.new counts.old counts.new) }
-    ensures read { JobVolume F.Folder job.now result volume.old volume.new streams.old streams.new }
-    ensures most { OnOk result (JobNumbers F.Folder job.now counts.old counts.new
-        volume.old volume.new streams.old streams.new) }
-    ensures flushed { OnOk result (streams.new.output.device.flushed ≡ true) }
+    ensures done { IfBy X.Way way.old (DoesJob W.Write E.Sink F.Folder job.now
+        result streams.old streams.new counts.old counts.new volume.old volume.new) }
 {
     let mut all = true;
     let mut rest = job.names;
@@ -388,10 +346,8 @@ fn redact_with<'s, K: Known, X: Way, S: Source, W: Sink>(
     requires whole { K.whole ≡ S.remaining lent.source.now }
     requires start { K.start ≡ bytes }
     requires name { K.name ≡ lent.source.ghost_name }
-    ensures outcome { IfBy X.Way way.old (λ r. StreamOutcome S.Source W.Sink r result.done
-        lent.entry.source.now result.lent.source.now sink.old sink.new) }
-    ensures counted { IfBy X.Way way.old (λ r. OnOk result.done (CountsOfStream S.Source r
-        lent.entry.source.now result.lent.source.now counts.old counts.new)) }
+    ensures done { IfBy X.Way way.old (DoesStream S.Source W.Sink result.done
+        lent.entry.source.now result.lent.source.now sink.old sink.new counts.old counts.new) }
     ensures read { OnOk result.done (AddsStream S.Source
         lent.entry.source.now result.lent.source.now bytes result.bytes) }
     ensures most { NumbersGiven S.Source lent.entry.source.now result.lent.source.now
@@ -419,10 +375,8 @@ fn redact_metered<X: Way, I: Read, W: Write>(
     output: &mut FromWrite<W>,
 ) -> Result<(), StreamError>
     requires ready { (r : Redactor) × Redacts X.Way way.old r }
-    ensures outcome { IfBy X.Way way.old (λ r. StreamOutcome ⟦<FromRead<I> as Source>⟧ ⟦<FromWrite<W> as Sink>⟧ r
-        result input.old input.new output.old output.new) }
-    ensures counted { IfBy X.Way way.old (λ r. OnOk result (CountsOfStream ⟦<FromRead<I> as Source>⟧ r
-        input.old input.new counts.old counts.new)) }
+    ensures done { IfBy X.Way way.old (DoesStream ⟦<FromRead<I> as Source>⟧ ⟦<FromWrite<W> as Sink>⟧ result
+        input.old input.new output.old output.new counts.old counts.new) }
     ensures read { OnOk result (AddsStream ⟦<FromRead<I> as Source>⟧ input.old input.new
         volume.old.bytes volume.new.bytes) }
     ensures most { NumbersGiven ⟦<FromRead<I> as Source>⟧ input.old input.new

@@ -1,14 +1,14 @@
 //! The redaction of one stream.
 
-ghost use Rattle.std.specs.Prelude.{◌≡◌, ◌∷◌, [], OnOk, false, slice_index_or, true};
+ghost use Rattle.std.specs.Prelude.{◌≡◌, ◌∷◌, [], false, slice_index_or, true};
 ghost use Rattle.aho_core.specs.Patterns.{Patterns};
 ghost use Rattle.aho_core.specs.Replacement.{pieces_of};
 ghost use Rattle.aho_cover.specs.Counting.{CountsThese};
 ghost use Rattle.aho_cover.specs.Covers.{IsUnbegunWith};
 ghost use Rattle.acredact.specs.Bounds.{Bounded};
 ghost use Rattle.acredact.specs.Secrets.{CanRedact};
-ghost use Rattle.acredact.specs.Streams.{ComesOf, StreamOutcome, WritesPiece};
-ghost use Rattle.acredact.specs.Totals.{CountsBy, CountsOfStream};
+ghost use Rattle.acredact.specs.Streams.{ComesOf, WritesPiece};
+ghost use Rattle.acredact.specs.Totals.{DoesBy, DoesStream};
 ghost use Rattle.acredact.specs.Ways.{IfCoverer};
 
 use chromesquid::any::{
@@ -37,10 +37,8 @@ pub fn cover<A: Automaton, R: Source, W: Sink>(
     requires ready { CanRedact A.Automaton start.old.automaton.now true replacements.now }
     requires unbegun { IsUnbegunWith start.old.progress.words A.Automaton
         start.old.automaton.now start.old.progress }
-    ensures outcome { ComesOf A.Automaton R.Source W.Sink start.old.automaton.now true
-        start.old.progress.words replacements.now result source.old source.new sink.old sink.new }
-    ensures counted { CountsBy A.Automaton R.Source start.old.automaton.now true
-        start.old.progress.words replacements.now result source.old source.new counts.old counts.new }
+    ensures done { DoesBy R.Source W.Sink result source.old source.new sink.old sink.new counts.old counts.new
+        A.Automaton start.old.automaton.now true start.old.progress.words replacements.now }
     ensures most { Bounded R.Source source.old source.new counts.old counts.new }
     ensures same { start.new.automaton.now ≡ start.old.automaton.now }
     ensures unbegun { IsUnbegunWith start.old.progress.words A.Automaton
@@ -65,10 +63,8 @@ pub fn cover_by_pieces<A: Automaton, R: Source, W: Sink, P: Pieces>(
     requires of { (p : Patterns) × A.is_of start.old.automaton.now p }
     requires unbegun { IsUnbegunWith start.old.progress.words A.Automaton
         start.old.automaton.now start.old.progress }
-    ensures outcome { IfCoverer A.Automaton start.old.automaton.now start.old.progress.words (P.rule pieces.old)
-        (λ r. StreamOutcome R.Source W.Sink r result source.old source.new sink.old sink.new) }
-    ensures counted { IfCoverer A.Automaton start.old.automaton.now start.old.progress.words (P.rule pieces.old)
-        (λ r. OnOk result (CountsOfStream R.Source r source.old source.new counts.old counts.new)) }
+    ensures done { IfCoverer A.Automaton start.old.automaton.now start.old.progress.words (P.rule pieces.old)
+        (DoesStream R.Source W.Sink result source.old source.new sink.old sink.new counts.old counts.new) }
     ensures most { Bounded R.Source source.old source.new counts.old counts.new }
     ensures same { start.new.automaton.now ≡ start.old.automaton.now }
     ensures unbegun { IsUnbegunWith start.old.progress.words A.Automaton
@@ -108,10 +104,8 @@ pub fn redact_counting<A: Automaton, R: Source, W: Sink>(
     sink: &mut W,
 ) -> Result<(), StreamError>
     requires ready { CanRedact A.Automaton automaton.now false replacements.now }
-    ensures outcome { ComesOf A.Automaton R.Source W.Sink automaton.now false false replacements.now
-        result source.old source.new sink.old sink.new }
-    ensures counted { CountsBy A.Automaton R.Source automaton.now false false replacements.now
-        result source.old source.new counts.old counts.new }
+    ensures done { DoesBy R.Source W.Sink result source.old source.new sink.old sink.new counts.old counts.new
+        A.Automaton automaton.now false false replacements.now }
     ensures most { Bounded R.Source source.old source.new counts.old counts.new }
 {
     let mut put = |found: &Match, _matched: &[u8], sink: &mut W| {

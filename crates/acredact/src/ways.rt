@@ -1,10 +1,8 @@
 //! How streams are redacted, one after another.
 
-ghost use Rattle.std.specs.Prelude.{OnOk};
 ghost use Rattle.acredact.specs.Bounds.{Bounded};
 ghost use Rattle.acredact.specs.Secrets.{Redactor};
-ghost use Rattle.acredact.specs.Streams.{StreamOutcome};
-ghost use Rattle.acredact.specs.Totals.{CountsOfStream};
+ghost use Rattle.acredact.specs.Totals.{DoesStream};
 
 use crate::pseudonym::Pseudonyms;
 use crate::redact::{cover, cover_by_pieces, redact, redact_counting};
@@ -31,10 +29,8 @@ pub trait Way {
         sink: &mut W,
     ) -> Result<(), StreamError>
         requires ready { (r : Redactor) × by self.old r }
-        ensures outcome { (r : Redactor) → by self.old r → StreamOutcome R.Source W.Sink r
-            result source.old source.new sink.old sink.new }
-        ensures counted { (r : Redactor) → by self.old r → OnOk result (CountsOfStream R.Source r
-            source.old source.new counts.old counts.new) }
+        ensures done { (r : Redactor) → by self.old r → DoesStream R.Source W.Sink result
+            source.old source.new sink.old sink.new counts.old counts.new r }
         ensures most { Bounded R.Source source.old source.new counts.old counts.new }
         ensures still { (r : Redactor) → by self.old r → by self.new r };
 }

@@ -17,7 +17,7 @@ use Rattle.acredact.proofs.files.redact_input.Goals as goal
 
 pub returns-clause-outcome : goal.returns-clause-outcome
 returns-clause-outcome g c = λ red by.
-    let stream = c.redact_metered.ensures.outcome red by in
+    let stream = (c.redact_metered.ensures.done red by).outcome in
     let left = ap (λ device. g.I.Read.remaining device.reader) c.restart.ensures.device in
     let none = c.restart.ensures.empty_reads in
     let ends = λ (some : c.redact_metered.new.input.empty_reads ≢ 0). at_end _ (λ bytes known. c.redact_metered.new.input.ended bytes some known) in
@@ -25,12 +25,12 @@ returns-clause-outcome g c = λ red by.
     (outcome_by g.W.Write _ c.redact_metered.result _ _ c.args.output.now c.redact_metered.new.output
     (on_ok_weaker c.redact_metered.result (λ whole. text_of _ _ _ _ _ _ _ _ left none ends whole) stream.redacted)
     (begins_of _ _ _ _ _ _ _ _ left none ends stream.begun)
-    (λ covers. IfErr-weaker c.redact_metered.result _ _ (λ error up fills. reaches_of _ _ _ _ _ _ _ _ left none ends (up fills)) (stream.near covers)) stream.write_failed stream.took_nothing stream.only)
+    (λ covers. IfErr-weaker c.redact_metered.result _ _ (λ error up fills. reaches_of _ _ _ _ _ _ _ _ left none ends (up fills)) (stream.near covers)) stream.errors.write_failed stream.errors.took_nothing stream.only)
 
 pub returns-clause-failed : goal.returns-clause-failed
 returns-clause-failed g c =
-    let stream = c.redact_metered.ensures.outcome c.requires.ready.0 c.requires.ready.1 in
-    stream.read_failed ∙ ap (counted _) c.restart.ensures.failures
+    let stream = (c.redact_metered.ensures.done c.requires.ready.0 c.requires.ready.1).outcome in
+    stream.errors.read_failed ∙ ap (counted _) c.restart.ensures.failures
     ∙ ap (λ (b : Bool). counted b c.args.input.now.failures) (reading_unread c.redact_metered.result ∙ ap is_unread (sym c.reading_of.ensures.reading))
 
 pub returns-clause-counted : goal.returns-clause-counted
@@ -38,7 +38,7 @@ returns-clause-counted g c = λ whole red by.
     let left = ap (λ device. g.I.Read.remaining device.reader) c.restart.ensures.device in
     let ends = λ (some : c.redact_metered.new.input.empty_reads ≢ 0). at_end _ (λ bytes known. c.redact_metered.new.input.ended bytes some known) in
     text_counts _ red _ _ _ _ _ left c.restart.ensures.empty_reads ends
-    (at_ok c.redact_metered.result (reading_whole c.redact_metered.result (sym c.reading_of.ensures.reading ∙ whole)) (c.redact_metered.ensures.counted red by))
+    (at_ok c.redact_metered.result (reading_whole c.redact_metered.result (sym c.reading_of.ensures.reading ∙ whole)) (c.redact_metered.ensures.done red by).counted)
 
 pub returns-clause-read : goal.returns-clause-read
 returns-clause-read g c = λ whole.

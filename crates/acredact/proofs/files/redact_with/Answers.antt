@@ -2,7 +2,7 @@
 use Rattle.std.proofs.Common.{◌∙◌, arith, refl, sym}
 use Rattle.std.proofs.lemmas.Result.{on_ok_weaker}
 use Rattle.acredact.proofs.Bounded.{numbers_of}
-use Rattle.acredact.proofs.Metering.{consumes_settled, counts_as, gave_as, metered_added, metered_first, outcome_as}
+use Rattle.acredact.proofs.Metering.{consumes_settled, does_as, gave_as, metered_added, metered_first}
 use Rattle.acredact.proofs.files.redact_with.Goals as goal
 
 pub invariant_of-meter : goal.invariant_of-meter
@@ -11,21 +11,12 @@ invariant_of-meter g c = record {
   metered = λ settled. metered_first g.K.Known.whole (g.S.Source.remaining c.args.lent.source.now) g.K.Known.start c.args.bytes c.requires.whole c.requires.start (omega (arith, c.ranges.bytes.fits));
 }
 
-pub returns-clause-outcome : goal.returns-clause-outcome
-returns-clause-outcome g c = λ red by.
+pub returns-clause-done : goal.returns-clause-done
+returns-clause-done g c = λ red by.
     let meter = c.redact-done.new.source in
-    outcome_as _ g.S.Source g.W.Sink red _ meter c.args.lent.source.now meter.lent.source.now c.args.sink.now c.redact-done.new.sink
+    does_as _ g.S.Source g.W.Sink red _ meter c.args.lent.source.now meter.lent.source.now c.args.sink.now c.redact-done.new.sink
     (λ text read. consumes_settled meter.settled (g.S.Source.remaining c.args.lent.source.now) (g.S.Source.remaining meter.lent.source.now) text read) refl refl refl refl
-    c.redact-done.result (c.redact-done.ensures.outcome red by.by)
-
-pub returns-clause-counted : goal.returns-clause-counted
-returns-clause-counted g c = λ red by.
-    let meter = c.redact-done.new.source in
-    on_ok_weaker c.redact-done.result
-    (λ whole. counts_as _ g.S.Source g.W.Sink red _ meter c.args.lent.source.now meter.lent.source.now c.args.sink.now c.redact-done.new.sink
-    (λ text read. consumes_settled meter.settled (g.S.Source.remaining c.args.lent.source.now) (g.S.Source.remaining meter.lent.source.now) text read) refl refl refl refl
-    c.args.counts.now c.redact-done.new.counts whole)
-    (c.redact-done.ensures.counted red by.by)
+    c.redact-done.result c.args.counts.now c.redact-done.new.counts (c.redact-done.ensures.done red by.by)
 
 pub returns-clause-read : goal.returns-clause-read
 returns-clause-read g c =
@@ -39,7 +30,7 @@ returns-clause-read g c =
           whole.text _ whole.gives;
       added = metered_added meter.settled g.K.Known.whole (g.S.Source.remaining c.args.lent.source.now) (g.S.Source.remaining meter.lent.source.now) g.K.Known.start c.args.bytes meter.bytes whole.text c.requires.whole c.requires.start whole.gives.bytes meter.metered;
     })
-    (c.redact-done.ensures.outcome red c.requires.ready.1.by).redacted
+    (c.redact-done.ensures.done red c.requires.ready.1.by).outcome.redacted
 
 pub returns-clause-still : goal.returns-clause-still
 returns-clause-still g c = λ red by. record { by = c.redact-done.ensures.still red by.by; some = by.some }
