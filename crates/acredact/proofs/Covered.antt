@@ -12,7 +12,7 @@ use Rattle.aho_core.specs.Patterns.{Patterns}
 use Rattle.aho_core.specs.Search.{plain_search}
 use Rattle.aho_core.specs.declared.search.Anchored.TheVariants.{No}
 use Rattle.aho_core.specs.declared.search.MatchKind.{MatchKind}
-use Rattle.aho_core.specs.declared.search.MatchKind.TheVariants.{LeftmostFirst, LeftmostLongest, Standard}
+use Rattle.aho_core.specs.declared.search.MatchKind.TheVariants.{Standard}
 use Rattle.aho_stream.specs.After.{search_from}
 use Rattle.aho_stream.proofs.PatternLengths.{shortest_bounds}
 use Rattle.acredact.specs.Secrets.{IsTouched, NoneIsWhole}
@@ -24,12 +24,7 @@ not_after Standard m o some_m some_o before =
       | inl less ↦ omega (arith, less, some_m)
       | inr tie ↦ omega (arith, tie.0, some_m)
     ]
-not_after LeftmostFirst m o some_m some_o before =
-    elim before [
-      | inl less ↦ omega (arith, less, some_o)
-      | inr tie ↦ omega (arith, tie.0, some_o)
-    ]
-not_after LeftmostLongest m o some_m some_o before =
+not_after kind m o some_m some_o before =
     elim before [
       | inl less ↦ omega (arith, less, some_o)
       | inr tie ↦ omega (arith, tie.0, some_o)

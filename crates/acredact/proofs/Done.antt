@@ -9,7 +9,7 @@ use Rattle.std.specs.declared.io.traits.Write.{Ghosts as Writers}
 use Rattle.std.proofs.KnownBytes.{Keeps-refl, Keeps-trans}
 use Rattle.std.proofs.Math.Seq.{take-length}
 use Rattle.aho_core.specs.declared.error.stream.StreamError.{StreamError}
-use Rattle.aho_core.specs.declared.error.stream.StreamError.TheVariants.{Match, Read, Write, WriteZero, Memory, PositionLimit}
+use Rattle.aho_core.specs.declared.error.stream.StreamError.TheVariants.{Write, WriteZero}
 use Rattle.aho_devices.specs.Counts.{counted}
 use Rattle.aho_devices.specs.Refusals.{IsWriteRefusal, is_write_fault, is_write_of_nothing}
 use Rattle.aho_devices.specs.declared.adapters.FromWrite.{FromWrite}
@@ -78,12 +78,9 @@ pub tells_none : {E : Type 0} (K : SinkGhosts E) (errors : Errors E) → TellsBy
 tells_none K errors = tells-nothing K errors
 
 write_ends : (error : StreamError) → IsWriteRefusal error → IsOutputEnd error
-write_ends (Match cause) is = is
-write_ends (Read fault) is = is
 write_ends (Write fault) is = tt
 write_ends WriteZero is = tt
-write_ends Memory is = absurd is
-write_ends PositionLimit is = absurd is
+write_ends error is = absurd is
 
 module _ {R W E : Type 0} {Reads : Readers R} (Writes : Writers W) (K : SinkGhosts E) (work : Work) where
   -- some first files were done from one state to another: what comes of the rest comes of all

@@ -7,7 +7,7 @@ use Rattle.std.specs.declared.io.traits.Write.{Ghosts as Writers}
 use Rattle.std.proofs.KnownBytes.{Appends-nil, Consumes-nil, Keeps-refl, Keeps-trans}
 use Rattle.aho_core.specs.Laws.{shortest}
 use Rattle.aho_core.specs.declared.error.stream.StreamError.{StreamError}
-use Rattle.aho_core.specs.declared.error.stream.StreamError.TheVariants.{Match, Read, Write, WriteZero, Memory, PositionLimit}
+use Rattle.aho_core.specs.declared.error.stream.StreamError.TheVariants.{Match, Read, PositionLimit}
 use Rattle.aho_devices.specs.Counts.{counted}
 use Rattle.aho_devices.specs.Refusals.{IsFillRefusal, is_read_fault, is_write_fault, is_write_of_nothing}
 use Rattle.aho_devices.specs.declared.adapters.FromRead.{FromRead}
@@ -70,67 +70,37 @@ module _ {R W : Type 0} (S : SourceGhosts R) (K : SinkGhosts W) (r : Redactor) (
 -- what an end of a stream means
 pub reading_whole : (done : Result (Unit {0}) StreamError) → reading_of done ≡ Ok None → done ≡ Ok tt
 reading_whole (Ok tt) is = refl
-reading_whole (Err (Match cause)) is = absurd (cc)
 reading_whole (Err (Read fault)) is = absurd (cc)
-reading_whole (Err (Write fault)) is = absurd (cc)
-reading_whole (Err WriteZero) is = absurd (cc)
-reading_whole (Err Memory) is = absurd (cc)
 reading_whole (Err PositionLimit) is = absurd (cc)
+reading_whole (Err error) is = absurd (cc)
 
 reading_reason : (done : Result (Unit {0}) StreamError) → IfOk (reading_of done) (λ unread. IfSome unread IsReadReason)
-reading_reason (Ok x) = tt
-reading_reason (Err (Match cause)) = tt
 reading_reason (Err (Read fault)) = tt
-reading_reason (Err (Write fault)) = tt
-reading_reason (Err WriteZero) = tt
-reading_reason (Err Memory) = tt
 reading_reason (Err PositionLimit) = tt
+reading_reason done = tt
 
 -- a read failed, or the stream is too long
 reading_fills : (P : Type 0) (done : Result (Unit {0}) StreamError) → IfErr done (λ error. IsFillRefusal error → P) → IfOk (reading_of done) (λ unread. IfSome unread (λ reason. P))
-reading_fills P (Ok x) near = tt
-reading_fills P (Err (Match cause)) near = tt
 reading_fills P (Err (Read fault)) near = near tt
-reading_fills P (Err (Write fault)) near = tt
-reading_fills P (Err WriteZero) near = tt
-reading_fills P (Err Memory) near = tt
 reading_fills P (Err PositionLimit) near = near tt
+reading_fills P done near = tt
 
 reading_only : (done : Result (Unit {0}) StreamError) → IfErr done IsStreamEnd → IfErr (reading_of done) IsOutputEnd
-reading_only (Ok x) only = tt
 reading_only (Err (Match cause)) only = only
-reading_only (Err (Read fault)) only = tt
-reading_only (Err (Write fault)) only = tt
-reading_only (Err WriteZero) only = tt
-reading_only (Err Memory) only = tt
-reading_only (Err PositionLimit) only = tt
+reading_only (Err error) only = tt
+reading_only (Ok x) only = tt
 
 reading_write : (done : Result (Unit {0}) StreamError) → is_write_fault done ≡ is_write_fault (reading_of done)
-reading_write (Ok x) = refl
-reading_write (Err (Match cause)) = refl
-reading_write (Err (Read fault)) = refl
-reading_write (Err (Write fault)) = refl
-reading_write (Err WriteZero) = refl
-reading_write (Err Memory) = refl
 reading_write (Err PositionLimit) = refl
+reading_write done = refl
 
 reading_nothing : (done : Result (Unit {0}) StreamError) → is_write_of_nothing done ≡ is_write_of_nothing (reading_of done)
-reading_nothing (Ok x) = refl
-reading_nothing (Err (Match cause)) = refl
-reading_nothing (Err (Read fault)) = refl
-reading_nothing (Err (Write fault)) = refl
-reading_nothing (Err WriteZero) = refl
-reading_nothing (Err Memory) = refl
 reading_nothing (Err PositionLimit) = refl
+reading_nothing done = refl
 
 pub reading_unread : (done : Result (Unit {0}) StreamError) → is_read_fault done ≡ is_unread (reading_of done)
-reading_unread (Ok x) = refl
-reading_unread (Err (Match cause)) = refl
-reading_unread (Err (Read fault)) = refl
-reading_unread (Err (Write fault)) = refl
-reading_unread (Err WriteZero) = refl
-reading_unread (Err Memory) = refl
 reading_unread (Err PositionLimit) = refl
+reading_unread done = refl
 
 -- what is so where a stream has ended
 pub at_ok : {P : Type 0} (done : Result (Unit {0}) StreamError) → done ≡ Ok tt → OnOk done P → P
