@@ -23,10 +23,9 @@ use Rattle.aho_devices.specs.declared.device.Sink.{Ghosts as SinkGhosts}
 use Rattle.aho_stream.specs.Replacing.{IsMakingRefusal}
 use Rattle.aho_stream.specs.StreamRun.{CanBegin}
 use Rattle.acredact.specs.Back.{DoesJob}
-use Rattle.acredact.specs.Files.{AreCut, CanDo, FilesOutcome, Work, key_for, redactor_of, work_of}
-use Rattle.acredact.specs.Secrets.{Keyed, Redactor, rule_by}
-use Rattle.acredact.specs.Ways.{IsCoverer, IsCovering, IsNamedCover, IsRedactor}
-use Rattle.acredact.specs.Pseudonyms.{pseudonym_rule}
+use Rattle.acredact.specs.Files.{AreCut, CanDo, FilesOutcome, Work, key_for, redactor_of, rule_for, work_of}
+use Rattle.acredact.specs.Secrets.{CanRedact, Redactor}
+use Rattle.acredact.specs.Ways.{IsCoverer, IsCovering, IsRedactor}
 use Rattle.acredact.specs.declared.files.Job.{Job}
 use Rattle.acredact.specs.declared.folder.Folder.{Ghosts as Folders}
 use Rattle.acredact.specs.declared.streams.Streams.{Streams}
@@ -41,18 +40,10 @@ module _ {A : Type 0} (G : Ghosts A) where
   pub begun_as : (automaton : A) (progress : CoverProgress) (words : Bool) → IsUnbegunWith words G automaton progress → IsUnbegunWith progress.words G automaton progress
   begun_as automaton progress words unbegun = subst (λ (b : Bool). IsUnbegunWith b G automaton progress) (sym unbegun.chosen) unbegun
 
-  -- a cover is as before after a stream
-  pub covering_still : (automaton automaton' : A) (progress progress' : CoverProgress) (replacements : List (Bor (List ℕ))) (r : Redactor) → automaton' ≡ automaton
-      → IsUnbegunWith progress.words G automaton' progress' → IsCovering G automaton progress replacements r → IsCovering G automaton' progress' replacements r
-  covering_still automaton automaton' progress progress' replacements r same unbegun is = record {
-    redactor = rw (same, unbegun.chosen) is.redactor;
-    unbegun = begun_as automaton' progress' progress.words unbegun;
-  }
-
   -- it is as before after a stream
-  pub naming_still : (automaton automaton' : A) (progress progress' : CoverProgress) (rule rule' : PieceRule) (r : Redactor) → automaton' ≡ automaton → rule' ≡ rule
-      → IsUnbegunWith progress.words G automaton' progress' → IsNamedCover G automaton progress rule r → IsNamedCover G automaton' progress' rule' r
-  naming_still automaton automaton' progress progress' rule rule' r same alike unbegun is = record {
+  pub covering_still : (automaton automaton' : A) (progress progress' : CoverProgress) (rule rule' : PieceRule) (r : Redactor) → automaton' ≡ automaton → rule' ≡ rule
+      → IsUnbegunWith progress.words G automaton' progress' → IsCovering G automaton progress rule r → IsCovering G automaton' progress' rule' r
+  covering_still automaton automaton' progress progress' rule rule' r same alike unbegun is = record {
     coverer = subst (λ (a : A). IsCoverer G a progress'.words rule' r) (sym same)
         (record { of = is.coverer.of; covers = is.coverer.covers; chosen = is.coverer.chosen ∙ sym unbegun.chosen; is = is.coverer.is ∙ sym alike });
     unbegun = begun_as automaton' progress' progress.words unbegun;
@@ -87,40 +78,22 @@ module _ {R W E : Type 0} {Reads : Readers R} (Writes : Writers W) (K : SinkGhos
     fails = record { write_failed = refl; took_nothing = refl; only = tt };
   }
 
--- without a cover there is no key
-pub key_of_plain : (covers : Bool) (key : Option Key) → covers ≡ false → key_for covers key ≡ None
-key_of_plain covers key is = ap (λ (b : Bool). key_for b key) is
-
 module _ {A F : Type 0} (G : Ghosts A) (automaton : A) (job : Job F) (p : Patterns) (of : G.is_of automaton p) where
-  -- an automaton that suits redacts a job by its patterns
-  pub redactor_is : (covers : Bool) → CanDo G automaton job → job.covers ≡ covers → key_for job.covers job.key ≡ None
-      → IsRedactor G automaton covers (covers && job.words) job.replacements.now (redactor_of job p)
-  redactor_is covers ready is none =
-      subst (λ (b : Bool). IsRedactor G automaton b (b && job.words) job.replacements.now (redactor_of job p)) is (record {
-        of = of;
-        is = ap (λ (k : Option Keyed). record { patterns = p; covers = job.covers; words = job.covers && job.words; pieces = pieces_of job.replacements.now; key = k }) none;
-        ready = ready;
-      })
+  -- an automaton that suits redacts a job by its patterns, without a cover
+  pub redactor_is : CanDo G automaton job → job.covers ≡ false → IsRedactor G automaton job.replacements.now (redactor_of job p)
+  redactor_is ready plain = record {
+    of = of;
+    is = ap (λ (b : Bool). record { patterns = p; covers = b; words = b && job.words; pieces = pieces_of job.replacements.now; key = key_for b job.key }) plain;
+    ready = subst (λ (b : Bool). CanRedact G automaton b job.replacements.now) plain ready;
+  }
 
-  module _ (automaton' : A) (progress : CoverProgress) (covers : job.covers ≡ true) (same : automaton' ≡ automaton) (unbegun : IsUnbegunWith job.words G automaton progress) where
-    -- and by a cover that has not begun
-    pub covering_is : CanDo G automaton job → job.key ≡ None → IsCovering G automaton' progress job.replacements.now (redactor_of job p)
-    covering_is ready unnamed = record {
-      redactor = rw (same, unbegun.chosen) (redactor_is true ready covers (ap (λ (b : Bool). key_for b job.key) covers ∙ ap (λ (k : Option Key). key_for true k) unnamed));
-      unbegun = rw (same, unbegun.chosen) unbegun;
-    }
-
-    -- or one by pieces that a key makes
-    pub naming_is : (one : Key) (rule : PieceRule) → job.key ≡ Some one → rule ≡ pseudonym_rule one.ignore_case one.bytes.now → IsNamedCover G automaton' progress rule (redactor_of job p)
-    naming_is one rule named made = record {
-      coverer = record {
-        of = rw same of;
-        covers = covers;
-        chosen = ap (λ (b : Bool). b && job.words) covers ∙ sym unbegun.chosen;
-        is = ap (λ (b : Bool). rule_by (key_for b job.key) (pieces_of job.replacements.now)) covers ∙ ap (λ (k : Option Key). rule_by (key_for true k) (pieces_of job.replacements.now)) named ∙ sym made;
-      };
-      unbegun = rw (same, unbegun.chosen) unbegun;
-    }
+  -- and covers it by its pieces, where it has not begun
+  pub covering_is : (automaton' : A) (rule : PieceRule) (progress : CoverProgress) → job.covers ≡ true → rule ≡ rule_for job → automaton' ≡ automaton → IsUnbegunWith job.words G automaton progress
+      → IsCovering G automaton' progress rule (redactor_of job p)
+  covering_is automaton' rule progress covers made same unbegun = record {
+    coverer = record { of = rw same of; covers = covers; chosen = ap (λ (b : Bool). b && job.words) covers ∙ sym unbegun.chosen; is = sym made };
+    unbegun = rw (same, unbegun.chosen) unbegun;
+  }
 
 module _ {R W E F X : Type 0} {Reads : Readers R} (Writes : Writers W) (K : SinkGhosts E) (D : Folders F X) (job : Job F) (streams streams' : Streams R W E Reads) (counts counts' : List ℕ) (volume volume' : Volume) (r : Redactor) where
   -- a failure ends the files of a job

@@ -30,7 +30,7 @@ BackStream G S K searcher replacements result source source' sink sink' =
 -- it and an automaton redact so, with these replacements
 pub record IsBacking {A B : Type 0} (G : Ghosts A) (H : Ghosts B) (searcher : Backward B) (automaton : A) (replacements : List (Bor (List ℕ))) (r : Redactor) : Type 0 where
   pub backward : IsBackwardOf H searcher r.patterns
-  pub forward : IsRedactor G automaton false false replacements r
+  pub forward : IsRedactor G automaton replacements r
 
 module _ {R W E F X : Type 0} {Reads : Readers R} (D : Folders F X) (job : Job F) where
   -- what comes of the files of a job that are redacted by these patterns

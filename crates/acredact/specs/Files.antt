@@ -8,6 +8,7 @@ use Rattle.aho_core.specs.Patterns.{Patterns}
 use Rattle.aho_core.specs.Replacement.{pieces_of}
 use Rattle.aho_core.specs.declared.error.stream.StreamError.{StreamError}
 use Rattle.aho_automaton.specs.declared.automaton.Automaton.{Ghosts}
+use Rattle.aho_cover.specs.Pieces.{PieceRule}
 use Rattle.aho_devices.specs.Counts.{counted}
 use Rattle.aho_devices.specs.Refusals.{is_write_fault, is_write_of_nothing}
 use Rattle.aho_devices.specs.declared.adapters.FromRead.{FromRead}
@@ -21,7 +22,7 @@ use Rattle.tool_parts.specs.declared.reason.Reason.{Reason}
 use Rattle.acredact.specs.Faults.{IsOutputEnd, IsReadReason}
 use Rattle.acredact.specs.Messages.{line_about, output_line}
 use Rattle.acredact.specs.Reads.{EachName, OfName, ReadsText}
-use Rattle.acredact.specs.Secrets.{BeginsRedaction, IsPromptUpTo, IsRedaction, IsWrittenUpTo, CanRedact, Keyed, NoneOccurs, Redactor, key_of_cover}
+use Rattle.acredact.specs.Secrets.{BeginsRedaction, IsPromptUpTo, IsRedaction, IsWrittenUpTo, CanRedact, Keyed, NoneOccurs, Redactor, key_of_cover, rule_by}
 use Rattle.acredact.specs.declared.files.Job.{Job}
 use Rattle.acredact.specs.declared.folder.Folder.{Ghosts as Folders}
 use Rattle.acredact.specs.declared.ways.Key.{Key}
@@ -41,6 +42,10 @@ keyed_of key = record { bytes = key.bytes.now; ignore_case = key.ignore_case }
 
 abbrev pub key_for : Bool → Option Key → Option Keyed
 key_for covers key = key_of_cover covers (option_map keyed_of key)
+
+-- what stands in the place of each range, whatever the patterns are
+abbrev pub rule_for : {F : Type 0} → Job F → PieceRule
+rule_for job = rule_by (key_for job.covers job.key) (pieces_of job.replacements.now)
 
 abbrev pub redactor_of : {F : Type 0} → Job F → Patterns → Redactor
 redactor_of job p = record {

@@ -1,6 +1,5 @@
 -- What the redaction of one stream reads and writes.
 use Rattle.std.specs.Prelude.{◌≡◌, ℕ, ◌≤◌, length, Bool, List, Result, IfErr, OnErr, OnOk, true}
-use Rattle.std.specs.Borrow.{Bor}
 use Rattle.std.specs.Io.KnownBytes.{Appends}
 use Rattle.aho_core.specs.declared.error.stream.StreamError.{StreamError}
 use Rattle.aho_devices.specs.Counts.{AppendsBeginning, counted}
@@ -8,11 +7,10 @@ use Rattle.aho_devices.specs.Errors.{CountsErrors}
 use Rattle.aho_devices.specs.Refusals.{IsFillRefusal, IsWriteRefusal, is_write_fault, is_write_of_nothing}
 use Rattle.aho_devices.specs.declared.device.Sink.{Ghosts as SinkGhosts}
 use Rattle.aho_devices.specs.declared.device.Source.{Ghosts as SourceGhosts}
-use Rattle.aho_automaton.specs.declared.automaton.Automaton.{Ghosts}
 use Rattle.aho_stream.specs.After.{greatest_position}
 use Rattle.aho_stream.specs.Refills.{is_limit}
 use Rattle.aho_stream.specs.Replacing.{GaveAsMany, SourceGave}
-use Rattle.acredact.specs.Secrets.{BeginsRedaction, IfOf, IsPromptUpTo, IsRedaction, IsWrittenUpTo, Redactor, redactor_by}
+use Rattle.acredact.specs.Secrets.{BeginsRedaction, IsPromptUpTo, IsRedaction, IsWrittenUpTo, Redactor}
 use Rattle.acredact.specs.Faults.{IsStreamEnd}
 
 -- a piece was written, or a beginning of it where a write failed or took nothing
@@ -60,8 +58,3 @@ module _ {R W : Type 0} (S : SourceGhosts R) (K : SinkGhosts W) where
     pub errors : CountsErrors S K source source' sink sink' result
     pub limit : is_limit result ≡ true → GaveAsMany S source source' greatest_position
     pub only : IfErr result IsStreamEnd
-
--- of one that is redacted by the patterns of an automaton, by a cover or not, of words alone or not, with these replacements
-abbrev pub ComesOf : {A R W : Type 0} → Ghosts A → SourceGhosts R → SinkGhosts W → A → (covers words : Bool) → List (Bor (List ℕ)) → Result (Unit {0}) StreamError → (source source' : R) (sink sink' : W) → Type 0
-ComesOf G S K automaton covers words replacements result source source' sink sink' =
-    IfOf G automaton (λ p. StreamOutcome S K (redactor_by p covers words replacements) result source source' sink sink')

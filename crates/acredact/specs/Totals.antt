@@ -1,11 +1,9 @@
 -- How often the text of each pattern was written, by the ranges that were replaced of each text, file after file.
 use Rattle.std.specs.Prelude.{◌≡◌, ℕ, ◌-◌, ◌<◌, ◌^◌, min, Bool, true, List, [], ◌∷◌, ◌++◌, Option, None, Result, Ok, OnOk, length, slice_index}
-use Rattle.std.specs.Borrow.{Bor}
 use Rattle.std.specs.declared.io.traits.Read.{Ghosts as Readers}
 use Rattle.aho_core.specs.Occurrence.{Occurrence}
 use Rattle.aho_core.specs.Patterns.{Patterns}
 use Rattle.aho_core.specs.declared.error.stream.StreamError.{StreamError}
-use Rattle.aho_automaton.specs.declared.automaton.Automaton.{Ghosts}
 use Rattle.aho_cover.specs.Counting.{CountsThese, runs_named}
 use Rattle.aho_devices.specs.declared.adapters.FromRead.{FromRead}
 use Rattle.aho_devices.specs.declared.device.Sink.{Ghosts as SinkGhosts}
@@ -16,7 +14,7 @@ use Rattle.tool_parts.specs.Streams.{bytes_left}
 use Rattle.tool_parts.specs.declared.reason.Reason.{Reason}
 use Rattle.acredact.specs.Files.{Work, redactor_of, work_of}
 use Rattle.acredact.specs.Reads.{OfName, ReadsText}
-use Rattle.acredact.specs.Secrets.{AreReplaced, IfOf, Redactor, redactor_by}
+use Rattle.acredact.specs.Secrets.{AreReplaced, Redactor}
 use Rattle.acredact.specs.Streams.{StreamOutcome}
 use Rattle.acredact.specs.declared.files.Job.{Job}
 use Rattle.acredact.specs.declared.folder.Folder.{Ghosts as Folders}
@@ -70,10 +68,6 @@ module _ {R W : Type 0} (S : SourceGhosts R) (K : SinkGhosts W) (result : Result
   pub record DoesStream (r : Redactor) : Type 0 where
     pub outcome : StreamOutcome S K r result source source' sink sink'
     pub counted : OnOk result (CountsOfStream S r source source' counts counts')
-
-  -- by an automaton that covers it or not
-  abbrev pub DoesBy : {A : Type 0} → Ghosts A → A → (covers words : Bool) → List (Bor (List ℕ)) → Type 0
-  DoesBy G automaton covers words replacements = IfOf G automaton (λ p. DoesStream (redactor_by p covers words replacements))
 
 module _ {R : Type 0} {Reads : Readers R} where
   module _ {F X : Type 0} (D : Folders F X) (job : Job F) where

@@ -10,7 +10,7 @@ ghost use Rattle.tool_parts.specs.Streams.{bytes_left};
 ghost use Rattle.acredact.specs.Back.{DoesByPatterns, DoesJob, IfOfBoth};
 ghost use Rattle.acredact.specs.Bounds.{NumbersGiven, NumbersOfFile, NumbersOfInput, NumbersTold};
 ghost use Rattle.acredact.specs.Faults.{is_unread, reading_of};
-ghost use Rattle.acredact.specs.Files.{CanDo, FileJob, InputOutcome, ToldJob};
+ghost use Rattle.acredact.specs.Files.{CanDo, FileJob, InputOutcome, ToldJob, rule_for};
 ghost use Rattle.acredact.specs.Secrets.{IfOf, Redactor};
 ghost use Rattle.acredact.specs.Totals.{CountsFile, CountsOfText, CountsTold, DoesStream};
 ghost use Rattle.acredact.specs.Volumes.{AddsFile, AddsText, AddsStream, FileVolume, files_with};
@@ -23,8 +23,8 @@ use crate::meter::{Known, Lent, Metered, Taken};
 use crate::pseudonym::Pseudonyms;
 use crate::streams::Streams;
 use crate::summary::Volume;
-use crate::ways::{Covering, Key, Naming, Replacing, Way};
-use chromesquid::any::{Backward, StreamCoverStart};
+use crate::ways::{Covering, Key, Replacing, Way};
+use chromesquid::any::{Backward, PatternPieces, Pieces, StreamCoverStart};
 use chromesquid::{Automaton, FromRead, FromWrite, Sink, Source, StreamError};
 use std::alloc::Global;
 use std::io::{Read, Write};
@@ -73,7 +73,7 @@ pub fn redact_files<A: Automaton, F: Folder, I: Read, W: Write, E: Sink>(
     replace_files(automaton, job, counts, volume, streams)
 }
 
-/// Redacts all files by covers.
+/// Redacts all files by covers, with one text for each pattern, or by a key with a pseudonym in the place of each run.
 fn cover_files<A: Automaton, F: Folder, I: Read, W: Write, E: Sink>(
     automaton: &A,
     job: &Job<'_, '_, F>,
@@ -87,14 +87,21 @@ fn cover_files<A: Automaton, F: Folder, I: Read, W: Write, E: Sink>(
         result streams.old streams.new counts.old counts.new volume.old volume.new) }
 {
     match job.key {
-        Some(key) => name_files(automaton, key, job, counts, volume, streams),
-        None => cover_alike(automaton, job, counts, volume, streams),
+        Some(key) => {
+            let names = Pseudonyms::new(key.bytes, key.ignore_case);
+            cover_by(automaton, names, job, counts, volume, streams)
+        }
+        None => {
+            let texts = PatternPieces::new(job.replacements);
+            cover_by(automaton, texts, job, counts, volume, streams)
+        }
     }
 }
 
-/// Redacts all files by covers, with one text for each pattern. The memory of all is taken before the first is opened.
-fn cover_alike<A: Automaton, F: Folder, I: Read, W: Write, E: Sink>(
+/// Redacts all files by covers, with these pieces. The memory of all is taken before the first is opened.
+fn cover_by<A: Automaton, P: Pieces + Drop, F: Folder, I: Read, W: Write, E: Sink>(
     automaton: &A,
+    pieces: P,
     job: &Job<'_, '_, F>,
     counts: &mut [u64],
     volume: &mut Volume,
@@ -102,36 +109,12 @@ fn cover_alike<A: Automaton, F: Folder, I: Read, W: Write, E: Sink>(
 ) -> Result<bool, StreamError>
     requires ready { CanDo A.Automaton automaton.now job.now }
     requires covers { job.now.covers ≡ true }
-    requires unnamed { job.now.key ≡ None }
+    requires made { P.rule pieces ≡ rule_for job.now }
     ensures done { IfOf A.Automaton automaton.now (DoesByPatterns W.Write E.Sink F.Folder job.now
         result streams.old streams.new counts.old counts.new volume.old volume.new) }
 {
     let start = StreamCoverStart::new_with(job.alloc, automaton, job.words)?;
-    let mut way = Covering {
-        start,
-        replacements: job.replacements,
-    };
-    redact_flushed(&mut way, job, counts, volume, streams)
-}
-
-/// Redacts all files by covers, with a pseudonym in the place of each run.
-fn name_files<A: Automaton, F: Folder, I: Read, W: Write, E: Sink>(
-    automaton: &A,
-    key: Key<'_>,
-    job: &Job<'_, '_, F>,
-    counts: &mut [u64],
-    volume: &mut Volume,
-    streams: &mut Streams<'_, I, W, E>,
-) -> Result<bool, StreamError>
-    requires ready { CanDo A.Automaton automaton.now job.now }
-    requires covers { job.now.covers ≡ true }
-    requires named { job.now.key ≡ Some key }
-    ensures done { IfOf A.Automaton automaton.now (DoesByPatterns W.Write E.Sink F.Folder job.now
-        result streams.old streams.new counts.old counts.new volume.old volume.new) }
-{
-    let start = StreamCoverStart::new_with(job.alloc, automaton, job.words)?;
-    let pieces = Pseudonyms::new(key.bytes, key.ignore_case);
-    let mut way = Naming { start, pieces };
+    let mut way = Covering { start, pieces };
     redact_flushed(&mut way, job, counts, volume, streams)
 }
 

@@ -2,7 +2,7 @@
 use Rattle.std.proofs.Common.{rules, ◌≡◌, false}
 use Rattle.acredact.specs.Files.{redactor_of}
 use Rattle.acredact.proofs.Backed.{some_back}
-use Rattle.acredact.proofs.Suited.{key_of_plain, redactor_is}
+use Rattle.acredact.proofs.Suited.{redactor_is}
 use Rattle.acredact.proofs.files.back_files.Goals as goal
 
 pub redact_flushed-requires : goal.redact_flushed-requires
@@ -13,7 +13,7 @@ redact_flushed-requires g c =
       ready = (
         redactor_of c.args.job.now p,
         record {
-          by = record { backward = back; forward = redactor_is g.A.Automaton _ c.args.job.now p of false c.requires.ready plain (key_of_plain _ c.args.job.now.key plain) };
+          by = record { backward = back; forward = redactor_is g.A.Automaton _ c.args.job.now p of c.requires.ready plain };
           some = some_back g.B.Automaton _ p back;
         },
       );
@@ -24,7 +24,7 @@ returns g c =
     let plain : c.args.job.now.covers ≡ false = search rules in
     record {
       done = λ p of back. c.redact_flushed.ensures.done (redactor_of c.args.job.now p) (record {
-        by = record { backward = back; forward = redactor_is g.A.Automaton _ c.args.job.now p of false c.requires.ready plain (key_of_plain _ c.args.job.now.key plain) };
+        by = record { backward = back; forward = redactor_is g.A.Automaton _ c.args.job.now p of c.requires.ready plain };
         some = some_back g.B.Automaton _ p back;
       });
     }

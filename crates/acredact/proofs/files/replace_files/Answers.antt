@@ -1,8 +1,7 @@
 -- The automaton replaces by its patterns.
-use Rattle.std.proofs.Common.{false}
 use Rattle.acredact.specs.Files.{redactor_of}
 use Rattle.acredact.proofs.Redactions.{some_of}
-use Rattle.acredact.proofs.Suited.{key_of_plain, redactor_is}
+use Rattle.acredact.proofs.Suited.{redactor_is}
 use Rattle.acredact.proofs.files.replace_files.Goals as goal
 
 pub redact_flushed-requires : goal.redact_flushed-requires
@@ -12,7 +11,7 @@ redact_flushed-requires g c =
       ready = (
         redactor_of c.args.job.now c.requires.ready.patterns,
         record {
-          by = redactor_is g.A.Automaton _ c.args.job.now _ of false c.requires.ready c.requires.plain (key_of_plain _ c.args.job.now.key c.requires.plain);
+          by = redactor_is g.A.Automaton _ c.args.job.now _ of c.requires.ready c.requires.plain;
           some = some_of g.A.Automaton _ _ (g.met.A.Automaton.laws _ _ of).lengths_are c.requires.ready.begins;
         },
       );
@@ -21,7 +20,7 @@ redact_flushed-requires g c =
 pub returns : goal.returns
 returns g c = record {
   done = λ p of. c.redact_flushed.ensures.done (redactor_of c.args.job.now p) (record {
-    by = redactor_is g.A.Automaton _ c.args.job.now p of false c.requires.ready c.requires.plain (key_of_plain _ c.args.job.now.key c.requires.plain);
+    by = redactor_is g.A.Automaton _ c.args.job.now p of c.requires.ready c.requires.plain;
     some = some_of g.A.Automaton _ p (g.met.A.Automaton.laws _ _ of).lengths_are c.requires.ready.begins;
   });
 }

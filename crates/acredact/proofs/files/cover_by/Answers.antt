@@ -1,10 +1,10 @@
--- Only memory may be wanting before the first file, and the pieces are those of the key.
+-- Only memory may be wanting before the first file.
 use Rattle.std.proofs.Common.{rules, ◌≡◌}
 use Rattle.std.specs.Prelude.{Err}
 use Rattle.acredact.specs.Files.{redactor_of}
 use Rattle.acredact.proofs.Redactions.{some_of}
-use Rattle.acredact.proofs.Suited.{job_unbegun, naming_is}
-use Rattle.acredact.proofs.files.name_files.Goals as goal
+use Rattle.acredact.proofs.Suited.{covering_is, job_unbegun}
+use Rattle.acredact.proofs.files.cover_by.Goals as goal
 
 pub returns-in_err-start : goal.returns-in_err-start
 returns-in_err-start g c =
@@ -21,7 +21,7 @@ redact_flushed-requires g c =
       ready = (
         redactor_of c.args.job.now c.requires.ready.patterns,
         record {
-          by = naming_is g.A.Automaton _ c.args.job.now _ of _ _ c.requires.covers c.in_ok-start.ensures.of c.in_ok-start.ensures.unbegun c.args.key _ c.requires.named c.new-pieces.ensures.rule;
+          by = covering_is g.A.Automaton _ c.args.job.now _ of _ _ _ c.requires.covers c.requires.made c.in_ok-start.ensures.of c.in_ok-start.ensures.unbegun;
           some = some_of g.A.Automaton _ _ (g.met.A.Automaton.laws _ _ of).lengths_are c.requires.ready.begins;
         },
       );
@@ -30,7 +30,7 @@ redact_flushed-requires g c =
 pub returns : goal.returns
 returns g c = record {
   done = λ p of. c.redact_flushed.ensures.done (redactor_of c.args.job.now p) (record {
-    by = naming_is g.A.Automaton _ c.args.job.now p of _ _ c.requires.covers c.in_ok-start.ensures.of c.in_ok-start.ensures.unbegun c.args.key _ c.requires.named c.new-pieces.ensures.rule;
+    by = covering_is g.A.Automaton _ c.args.job.now p of _ _ _ c.requires.covers c.requires.made c.in_ok-start.ensures.of c.in_ok-start.ensures.unbegun;
     some = some_of g.A.Automaton _ p (g.met.A.Automaton.laws _ _ of).lengths_are c.requires.ready.begins;
   });
 }
