@@ -77,7 +77,7 @@ module _ {Q R W : Type 0} (P : SourceGhosts Q) (S : SourceGhosts R) (K : SinkGho
     (reads : (text : List ℕ) → Consumes (P.remaining other) (P.remaining other') text → Consumes (S.remaining source) (S.remaining source') text)
     (failures : P.failures other ≡ S.failures source) (failures' : P.failures other' ≡ S.failures source')
     (empty_reads : P.empty_reads other ≡ S.empty_reads source) (empty_reads' : P.empty_reads other' ≡ S.empty_reads source') where
-  pub gave_as : (text : List ℕ) (ended : Bool) → SourceGave P other other' text ended → SourceGave S source source' text ended
+  gave_as : (text : List ℕ) (ended : Bool) → SourceGave P other other' text ended → SourceGave S source source' text ended
   gave_as text ended gave = gave_by P S other other' source source' reads empty_reads empty_reads' text ended gave
 
   redacts_as : RedactsStream P K r other other' sink sink' → RedactsStream S K r source source' sink sink'
