@@ -98,10 +98,6 @@ hidden_covered p patterns text place within hidden =
       before_end = hidden.before_end;
     }
 
--- the patterns of a secret's forms are among all
-contains_tail : (xs : List (List ℕ)) (y x : List ℕ) → Contains xs x → Contains (y ∷ xs) x
-contains_tail xs y x (k, below, is) = (suc k, omega (arith, below), is)
-
 -- one that is not empty stays among those that are not
 contains_filled : (patterns : List (List ℕ)) (pattern : List ℕ) → 1 ≤ length pattern → Contains patterns pattern → Contains (filled patterns) pattern
 contains_filled [] pattern some (k, below, is) = absurd (omega (arith, below))
@@ -111,7 +107,7 @@ contains_filled (p ∷ patterns) pattern some (zero, below, is) =
 contains_filled (p ∷ patterns) pattern some (suc k, below, is) = by (nat_lt 0 (length p)) (contains_filled patterns pattern some (k, omega (arith, below), is))
   where
     by : (b : Bool) → Contains (filled patterns) pattern → Contains (cond b (p ∷ filled patterns) (filled patterns)) pattern
-    by true listed = contains_tail (filled patterns) p pattern listed
+    by true listed = Contains-append_right (p ∷ []) (filled patterns) pattern listed
     by false listed = listed
 
 abbrev pattern_of : Secret → List ℕ

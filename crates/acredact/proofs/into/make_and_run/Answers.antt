@@ -1,8 +1,9 @@
 -- The new file is made and filled, or it is told why not.
 use Rattle.std.proofs.Common.{rules, ◌≡◌, inl, inr, refl, true, false, arith}
 use Rattle.tool_parts.specs.Names.{is_input}
-use Rattle.acredact.specs.Calls.{call_of}
-use Rattle.acredact.specs.Into.{IsOutputLine, IsRuledOutputLine}
+use Rattle.acredact.specs.Calls.{IsLineOf, call_of}
+use Rattle.acredact.specs.Into.{IsOutputLine}
+use Rattle.acredact.specs.Ruled.{IsRuledTold}
 use Rattle.acredact.proofs.Put.{no_check_of}
 use Rattle.acredact.proofs.Statuses.{any_redaction, any_ruled, tells_one}
 use Rattle.acredact.proofs.into.make_and_run.Goals as goal
@@ -15,11 +16,11 @@ returns-then-is_input g c =
       leaves = λ failed. inl (named, refl);
       tells = λ given right asks failed.
           let call = call_of g.F.Folder c.args.folder.now given in
-          inl (tells_one g.E.Sink (IsOutputLine call ⊥ c.args.name.now) _ _ _ (inr (inr (named, refl))) c.tell_no_output.ensures.told);
+          inl (tells_one g.E.Sink (IsOutputLine (IsLineOf call ⊥) c.args.name.now) _ _ _ (inr (inr (named, refl))) c.tell_no_output.ensures.told);
       ruled_writes = λ given right asks (zero : 2 ≡ 0). absurd (omega arith);
       ruled_tells = λ given right asks failed.
           let call = call_of g.F.Folder c.args.folder.now given in
-          tells_one g.E.Sink (IsRuledOutputLine call c.args.name.now) _ _ _ (inr (inr (named, refl))) c.tell_no_output.ensures.told;
+          tells_one g.E.Sink (IsOutputLine (IsRuledTold call) c.args.name.now) _ _ _ (inr (inr (named, refl))) c.tell_no_output.ensures.told;
     }
 
 pub returns-in-Ok : goal.returns-in-Ok
@@ -61,9 +62,9 @@ returns-in-Err g c = record {
   leaves = λ failed. inr (inl (c.in-Err.reason, c.in-Err.ensures.made));
   tells = λ given right asks failed.
       let call = call_of g.F.Folder c.args.folder.now given in
-      inl (tells_one g.E.Sink (IsOutputLine call ⊥ c.args.name.now) _ _ _ (inr (inl (c.in-Err.reason, refl))) c.tell_unread.ensures.told);
+      inl (tells_one g.E.Sink (IsOutputLine (IsLineOf call ⊥) c.args.name.now) _ _ _ (inr (inl (c.in-Err.reason, refl))) c.tell_unread.ensures.told);
   ruled_writes = λ given right asks (zero : 2 ≡ 0). absurd (omega arith);
   ruled_tells = λ given right asks failed.
       let call = call_of g.F.Folder c.args.folder.now given in
-      tells_one g.E.Sink (IsRuledOutputLine call c.args.name.now) _ _ _ (inr (inl (c.in-Err.reason, refl))) c.tell_unread.ensures.told;
+      tells_one g.E.Sink (IsOutputLine (IsRuledTold call) c.args.name.now) _ _ _ (inr (inl (c.in-Err.reason, refl))) c.tell_unread.ensures.told;
 }

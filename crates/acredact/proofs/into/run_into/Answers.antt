@@ -1,7 +1,9 @@
 -- What the call says of its output, and what became of that.
 use Rattle.tool_parts.specs.Arguments.{texts}
-use Rattle.acredact.specs.Calls.{OutputFails, call_of}
-use Rattle.acredact.proofs.Put.{by_status, done_told, no_check_of, put_told, ruled_put_told, ruled_some_told, some_told, two_of}
+use Rattle.acredact.specs.Calls.{IsLineOf, OutputFails, call_of}
+use Rattle.acredact.specs.Ruled.{IsRuledTold}
+use Rattle.acredact.proofs.Put.{by_status, done_told, no_check_of, put_told, some_told, two_of}
+use Rattle.acredact.proofs.RuledCalls.{notes_told}
 use Rattle.acredact.proofs.Statuses.{any_redaction, any_ruled}
 use Rattle.acredact.proofs.into.run_into.Goals as goal
 
@@ -24,17 +26,17 @@ returns g c =
           let fails = OutputFails c.args.streams.now.output c.finish.new.streams.output in
           by_status (c.run-done.result) (λ zero.
           let told = end.told zero failed in
-          put_told g.E.Sink call fails c.args.name.now _ _ _ told.0 (done_told g.O.File.Write g.E.Sink call fails c.args.streams.now c.run-done.new.streams
+          put_told g.E.Sink (IsLineOf call fails) c.args.name.now _ _ _ told.0 (done_told g.O.File.Write g.E.Sink call fails c.args.streams.now c.run-done.new.streams
           (λ none. ran.quiet given right asks none zero) (λ some. ran.counts given right asks some zero)) told.1)
           (λ other.
           let two = two_of c.run-done.result ran.bound (λ is. no_check_of (texts c.args.arguments.now) given right (λ checks. any_redaction given checks asks) (ran.one is)) other in
-          rw (end.failed other).0 (some_told g.E.Sink call _ c.args.name.now _ _ (ran.tells given right asks two)));
+          rw (end.failed other).0 (some_told g.E.Sink (IsLineOf call _) c.args.name.now _ _ (ran.tells given right asks two)));
       ruled_tells = λ given right asks failed.
           let call = call_of g.F.Folder c.args.folder.now given in
           by_status (c.run-done.result) (λ zero.
           let told = end.told zero failed in
-          ruled_put_told g.E.Sink call c.args.name.now _ _ _ _ _ told.0 (ran.ruled_quiet given right asks zero) told.1)
+          put_told g.E.Sink (IsRuledTold call) c.args.name.now _ _ _ told.0 (notes_told g.E.Sink call _ _ _ _ (ran.ruled_quiet given right asks zero)) told.1)
           (λ other.
           let two = two_of c.run-done.result ran.bound (λ is. no_check_of (texts c.args.arguments.now) given right (λ checks. any_ruled given checks asks) (ran.one is)) other in
-          rw (end.failed other).0 (ruled_some_told g.E.Sink call c.args.name.now _ _ (ran.ruled_tells given right asks two)));
+          rw (end.failed other).0 (some_told g.E.Sink (IsRuledTold call) c.args.name.now _ _ (ran.ruled_tells given right asks two)));
     }
