@@ -27,6 +27,7 @@ use Rattle.aho_cover.proofs.Counted.{counts_none, counts_then}
 use Rattle.aho_automaton.specs.declared.automaton.Automaton.{Ghosts}
 use Rattle.aho_stream.specs.Refills.{is_limit}
 use Rattle.aho_stream.specs.Replacing.{MayBe, SourceGave}
+use Rattle.aho_stream.proofs.Called.{CalledOnFirst, stream_calls}
 use Rattle.aho_stream.specs.StreamRun.{CallsOn, CanBegin, RefusesUntouched, RunsAndLeaves, RunsLent, RunsOver, SinkTakes}
 use Rattle.tool_parts.proofs.Beginnings.{beginning-later, beginning-more}
 use Rattle.acredact.specs.Faults.{IsStreamEnd}
@@ -139,23 +140,22 @@ module _ {F W : Type 0} (K : SinkGhosts W) (calls : F → Occurrence → List �
       (takes_later K stopped lent left new result (piece m) (replaced_from haystack m.end ms piece)
       (piece_taken lent m left step.2) (run_takes ms m.end next left result last new step.1 later))
 
--- a run that comes to its good end counts each match, where the closure counts the one that it is called on
-module _ {F W : Type 0} (K : SinkGhosts W) (calls : F → Occurrence → List ℕ → W → Result Bool StreamError → F → W → Type 0) (stopped : Bool) (haystack : List ℕ)
-    (counts_of : F → List ℕ) (Fits : F → Type 0)
-    (goes_on : (f : F) (m : Occurrence) (matched : List ℕ) (old : W) (goes : Bool) (next : F) (new : W) → Fits f → calls f m matched old (Ok goes) next new
-    → (goes ≡ true) × Fits next × CountsThese (m ∷ []) (counts_of f) (counts_of next)) where
-  pub run_counts : (ms : List Occurrence) (at : ℕ) (f : F) (old : W) (last : F) (new : W) → Fits f → ClosureRun (SinkTakes K stopped) calls haystack at ms f old (Ok tt) last new
-      → Fits last × CountsThese ms (counts_of f) (counts_of last)
-  run_counts [] at f old last new fits run =
-      (subst Fits (sym run.0) fits, subst (λ (g : F). CountsThese [] (counts_of f) (counts_of g)) (sym run.0) (counts_none (counts_of f)))
-  run_counts (m ∷ ms) at f old last new fits (inl refused) = let clash = refused.1 in absurd (cc)
-  run_counts (m ∷ ms) at f old last new fits (inr (lent, gap, (Err reason, next, left, called, ends))) = let clash = ends.0 in absurd (cc)
-  run_counts (m ∷ ms) at f old last new fits (inr (lent, gap, (Ok goes, next, left, called, ends))) =
-      let step = goes_on f m (slice_range haystack m.start m.end) lent goes next left fits called in
-      let later : ClosureRun (SinkTakes K stopped) calls haystack m.end ms next left (Ok tt) last new =
-      subst (λ (b : Bool). MatchBool b (ClosureRun (SinkTakes K stopped) calls haystack m.end ms next left (Ok tt) last new) ((last ≡ next) × SinkTakes K stopped left (drop m.end haystack) (Ok tt) new)) step.0 ends in
-      let rest = run_counts ms m.end next left last new step.1 later in
-      (rest.0, counts_then (m ∷ []) ms (counts_of f) (counts_of next) (counts_of last) step.2 rest.1)
+-- the closure counts each match that it is called on, into the same borrow all along
+module _ {F W : Type 0} (K : SinkGhosts W) (calls : Mut F (Bor Occurrence × (Bor (List ℕ) × (MutBor W × Unit {0}))) (Result (Unit {0}) StreamError × (MutBor W × Unit {0})))
+    (closure last : F) (sink sink' : W) (name_of : F → ℕ) (counts_of : F → List ℕ)
+    (counts : (f : F) (m : Occurrence) (matched : List ℕ) (old : W) (answer : Result (Unit {0}) StreamError) (next : F) (new : W) → CalledOn calls f m matched old answer next new
+    → (name_of next ≡ name_of f) × CountsThese (m ∷ []) (counts_of f) (counts_of next)) where
+  abbrev HasCounted : List Occurrence → F → Type 0
+  HasCounted done f = (name_of f ≡ name_of closure) × CountsThese done (counts_of closure) (counts_of f)
+
+  pub has_counted : (stopped : Bool) (haystack : List ℕ) (ms : List Occurrence) (result : Result (Unit {0}) StreamError) → ClosureRun (SinkTakes K stopped) (CallsOn calls) haystack 0 ms closure sink result last sink'
+      → CalledOnFirst HasCounted [] ms result last
+  has_counted stopped haystack ms result run =
+      stream_calls K calls HasCounted
+      (λ done f m matched old answer next new so called.
+      let step = counts f m matched old answer next new called in
+      (step.0 ∙ so.0, counts_then done (m ∷ []) (counts_of closure) (counts_of f) (counts_of next) so.1 step.1))
+      stopped haystack ms closure sink result last sink' (refl, counts_none (counts_of closure)) run
 
 -- of a closure that is lent no less is known
 pub over_lent : {R F W : Type 0} {S : SourceGhosts R} {K : SinkGhosts W} {IsOf : Patterns → Type 0}
@@ -296,13 +296,10 @@ module _ {A R W F : Type 0} (G : Ghosts A) (S : SourceGhosts R) (K : SinkGhosts 
         | inr over ↦ ran result (over_lent over)
       ]
 
-  -- and what was counted, where the closure counts into the same borrow all along
+  -- and what was counted
   module _ (last : F) (name_of : F → ℕ) (counts_of : F → List ℕ)
-      (counts : (f : F) (m : Occurrence) (matched : List ℕ) (old : W) (next : F) (new : W) → Fits f → CalledOn calls f m matched old (Ok tt) next new
+      (counts : (f : F) (m : Occurrence) (matched : List ℕ) (old : W) (answer : Result (Unit {0}) StreamError) (next : F) (new : W) → CalledOn calls f m matched old answer next new
       → (name_of next ≡ name_of f) × CountsThese (m ∷ []) (counts_of f) (counts_of next)) where
-    abbrev FitsNamed : F → Type 0
-    FitsNamed f = Fits f × (name_of f ≡ name_of closure)
-
     abbrev Counted : Type 0
     Counted = (name_of last ≡ name_of closure) × CountsOfStream S r source source' (counts_of closure) (counts_of last)
 
@@ -310,18 +307,15 @@ module _ {A R W F : Type 0} (G : Ghosts A) (S : SourceGhosts R) (K : SinkGhosts 
     lent_whole over =
         let finds = finds-exist r.patterns (plain_search over.given) None (le_refl (length over.given)) in
         let run = over.run r.patterns over.given finds.0 of (no_more over.given over.ended) finds.1 in
-        let counted = run_counts K (CallsOn calls) over.stopped over.given counts_of FitsNamed
-        (λ f m matched old goes next new is called.
-        let step = counts f m matched old next new is.0 called.1 in
-        (called.0, ((goes_on f m matched old next new is.0 called.1).0, step.0 ∙ is.1), step.1))
-        finds.0 0 closure sink last sink' (fits, refl) run in (
-          counted.0.1,
+        let first = has_counted K calls closure last sink sink' name_of counts_of counts over.stopped over.given finds.0 (Ok tt) run in
+        let all : finds.0 ≡ first.called = first.are ∙ ap (λ (ms : List Occurrence). first.called ++ ms) first.all ∙ append-nil first.called in (
+          first.holds.0,
           record {
             text = over.given;
             gives = subst (SourceGave S source source' over.given) over.whole over.gives;
             ranges = finds.0;
             found = of_finds r plain over.given finds.0 finds.1;
-            counted = counted.1;
+            counted = subst (λ (ms : List Occurrence). CountsThese ms (counts_of closure) (counts_of last)) (sym all) first.holds.1;
           },
         )
 

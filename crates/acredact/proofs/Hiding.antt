@@ -110,6 +110,7 @@ contains_filled (p ∷ patterns) pattern some (suc k, below, is) = by (nat_lt 0 
     by true listed = Contains-append_right (p ∷ []) (filled patterns) pattern listed
     by false listed = listed
 
+-- the patterns of a secret's forms are among all
 abbrev pattern_of : Secret → List ℕ
 pattern_of secret = secret.pattern
 

@@ -13,7 +13,7 @@ returns-clause-done g c = λ p of.
     let (outcome, counts) = lent_does g.A.Automaton g.R.Source g.W.Sink c.args.automaton.now (redactor_by p false false c.args.replacements.now) refl refl of (g.met.A.Automaton.laws _ _ of).lengths_are c.requires.ready.begins
     _ _ _ _ _ _ (λ f. pieces_of f.1.now ≡ pieces_of c.args.replacements.now) refl
     (λ f m matched old next new fits called. search rules) (λ f m matched old reason next new fits called. search rules)
-    call.new.replace_with (λ f. f.0.ghost_name) (λ f. f.0.now) (λ f m matched old next new fits called. search rules) call.result call.ensures.runs in
+    call.new.replace_with (λ f. f.0.ghost_name) (λ f. f.0.now) (λ f m matched old answer next new called. search rules) call.result call.ensures.runs in
     record { outcome = outcome; counted = on_ok_weaker call.result (λ counted. let same = sym counted.0 in let whole = counted.1 in search rules) counts }
 
 pub returns-clause-most : goal.returns-clause-most
