@@ -1,11 +1,11 @@
 -- No number grows by more than was read.
 use Rattle.std.proofs.Common.{◌≡◌, inl, inr, ℕ, ◌+◌, ◌<◌, ◌≤◌, Bool, List, [], ◌∷◌, ◌++◌, Option, true, false, length, map, refl, sym, ap, subst, ◌∙◌, arith, length-append, le_refl}
-use Rattle.std.specs.Prelude.{None, Some, Ok, Err, Result, MatchBool, nat_eq, not, slice_range, replicate}
+use Rattle.std.specs.Prelude.{None, Some, Ok, Err, Result, MatchBool, nat_eq, not, replicate}
 use Rattle.std.specs.Io.KnownBytes.{Consumes, Keeps}
 use Rattle.std.proofs.lemmas.List.{length-replicate}
 use Rattle.std.proofs.lemmas.List.Filters.{length-filter_both}
 use Rattle.std.specs.Fn.{Mut}
-use Rattle.aho_core.specs.ClosureRun.{CalledOn, ClosureRun}
+use Rattle.aho_core.specs.ClosureRun.{CalledOn}
 use Rattle.aho_core.specs.Occurrence.{Occurrence}
 use Rattle.aho_core.specs.Patterns.{Patterns}
 use Rattle.aho_core.specs.declared.error.stream.StreamError.{StreamError}
@@ -13,7 +13,6 @@ use Rattle.aho_core.specs.declared.error.stream.StreamError.TheVariants.{Memory}
 use Rattle.aho_core.specs.Search.{plain_search}
 use Rattle.aho_automaton.specs.declared.automaton.Automaton.{Ghosts}
 use Rattle.aho_cover.proofs.Chosen.{all-covers, all-made}
-use Rattle.aho_cover.proofs.Counted.{counts_none, counts_then}
 use Rattle.aho_devices.specs.Counts.{counted}
 use Rattle.std.specs.Borrow.{Bor, MutBor}
 use Rattle.std.proofs.KnownBytes.{Consumes-nil}
@@ -26,7 +25,7 @@ use Rattle.aho_cover.specs.Pieces.{PieceRule}
 use Rattle.aho_cover.specs.Words.{all_runs}
 use Rattle.aho_devices.specs.declared.device.Sink.{Ghosts as SinkGhosts}
 use Rattle.aho_devices.specs.declared.device.Source.{Ghosts as SourceGhosts}
-use Rattle.aho_stream.specs.StreamRun.{CallsOn, CanBegin, RefusesAllUntouched, RunsAndLeaves, RunsLent, SinkTakes}
+use Rattle.aho_stream.specs.StreamRun.{CanBegin, RefusesAllUntouched, RunsAndLeaves, RunsLent}
 use Rattle.tool_parts.specs.Names.{is_input}
 use Rattle.acredact.specs.Bounds.{Bounded, GrowAtMost, NumbersGiven, NumbersOfAll, NumbersOfName, NumbersRead, ReadInAll, ReadsSome}
 use Rattle.acredact.specs.Metering.{IsMetered, settled_left}

@@ -32,7 +32,7 @@ use Rattle.aho_stream.specs.StreamRun.{CallsOn, CanBegin, RefusesUntouched, Runs
 use Rattle.tool_parts.proofs.Beginnings.{beginning-later, beginning-more}
 use Rattle.acredact.specs.Faults.{IsStreamEnd}
 use Rattle.acredact.specs.Secrets.{BeginsRedaction, Redactor}
-use Rattle.acredact.specs.Streams.{RedactsStream, StreamOutcome, WritesPiece}
+use Rattle.acredact.specs.Streams.{StreamOutcome, WritesPiece}
 use Rattle.acredact.specs.Totals.{CountsOfStream}
 use Rattle.acredact.proofs.Redactions.{begins_by, begins_nothing, comes_of, no_cover, of_finds, redacted, redacted_alike, redaction_by, some_of, to_finds}
 

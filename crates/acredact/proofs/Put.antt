@@ -1,5 +1,5 @@
 -- What is told where a new file does not take a place.
-use Rattle.std.proofs.Common.{◌≡◌, inl, inr, ℕ, zero, suc, List, Option, refl, subst, true, false, arith, ◌≤◌}
+use Rattle.std.proofs.Common.{◌≡◌, inl, inr, ℕ, zero, suc, List, refl, subst, true, false, arith, ◌≤◌}
 use Rattle.std.specs.Prelude.{Bool, Some}
 use Rattle.std.specs.declared.io.traits.Read.{Ghosts as Readers}
 use Rattle.std.specs.declared.io.traits.Write.{Ghosts as Writers}

@@ -1,7 +1,6 @@
 -- How an automaton redacts streams.
 use Rattle.std.proofs.Common.{◌≡◌, inl, ℕ, ◌≤◌, List, [], ◌∷◌, Option, true, false, length, map, refl, sym, ap, subst, ◌∙◌, arith}
 use Rattle.std.specs.Prelude.{Bool, ◌&&◌, None, Some, Ok, Err, if◌then◌else◌}
-use Rattle.std.specs.Borrow.{Bor}
 use Rattle.std.specs.declared.io.traits.Read.{Ghosts as Readers}
 use Rattle.std.specs.declared.io.traits.Write.{Ghosts as Writers}
 use Rattle.std.proofs.KnownBytes.{Keeps-refl}
@@ -30,7 +29,6 @@ use Rattle.acredact.specs.declared.files.Job.{Job}
 use Rattle.acredact.specs.declared.folder.Folder.{Ghosts as Folders}
 use Rattle.acredact.specs.declared.streams.Streams.{Streams}
 use Rattle.acredact.specs.declared.summary.Volume.{Volume}
-use Rattle.acredact.specs.declared.ways.Key.{Key}
 use Rattle.acredact.proofs.Done.{tells_none}
 use Rattle.acredact.proofs.OneFile.{named_none}
 use Rattle.acredact.proofs.Redactions.{some_of}

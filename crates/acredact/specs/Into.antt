@@ -10,7 +10,7 @@ use Rattle.tool_parts.specs.Telling.{TellsBytes, TellsSome}
 use Rattle.tool_parts.specs.declared.errors.Errors.{Errors}
 use Rattle.tool_parts.specs.declared.reason.Reason.{Reason}
 use Rattle.acredact.specs.Arguments.{Given, RefusesUnclean, counts_asked}
-use Rattle.acredact.specs.Calls.{Call, CountsAsked, IsLineOf, LeavesNoneAsked, OutputFails, RedactsAsked, WarnsAsked, call_of}
+use Rattle.acredact.specs.Calls.{CountsAsked, IsLineOf, LeavesNoneAsked, OutputFails, RedactsAsked, WarnsAsked, call_of}
 use Rattle.acredact.specs.Files.{unread_line}
 use Rattle.acredact.specs.Messages.{no_output_line}
 use Rattle.acredact.specs.Ruled.{IsRuledTold, NotesAsked, RuledAsked}
