@@ -189,10 +189,6 @@ module _ {W : Type 0} (Writes : Writers W) where
     pub fails : FailsByOutput result output output'
 
   module _ {R : Type 0} {Reads : Readers R} where
-    -- what comes of an input
-    abbrev pub InputOutcome : Redactor → Result (Option Reason) StreamError → (input input' : FromRead R Reads) → (output output' : FromWrite W) → Type 0
-    InputOutcome r result input input' output output' = TextOutcome r result (bytes_left input) (bytes_left input') output output'
-
     -- what comes of the file of a name
     pub record FileOutcome (work : Work) (name : List ℕ) (result : Result (Option Reason) StreamError) (input input' : FromRead R Reads) (output output' : FromWrite W) : Type 0 where
       pub redacted : result ≡ Ok None
@@ -220,10 +216,6 @@ module _ {W : Type 0} (Writes : Writers W) where
         pub quiet : result ≡ Ok true → streams'.errors ≡ streams.errors
         pub untold : OnErr result (streams'.errors ≡ streams.errors)
         pub fails : FailsByOutput result streams.output streams'.output
-
-      -- the same of a file of a job
-      abbrev pub ToldJob : {F X : Type 0} → Folders F X → Job F → List ℕ → Result Bool StreamError → (streams streams' : Streams R W E Reads) → Redactor → Type 0
-      ToldJob D job name result streams streams' r = ToldOutcome (work_of D job r) name result streams streams'
 
       -- what comes of all files
       pub record FilesOutcome (work : Work) (result : Result Bool StreamError) (streams streams' : Streams R W E Reads) : Type 0 where

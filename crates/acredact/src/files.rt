@@ -8,12 +8,12 @@ ghost use Rattle.aho_devices.specs.Counts.{counted};
 ghost use Rattle.tool_parts.specs.Names.{is_input};
 ghost use Rattle.tool_parts.specs.Streams.{bytes_left};
 ghost use Rattle.acredact.specs.Back.{DoesByPatterns, DoesJob, IfOfBoth};
-ghost use Rattle.acredact.specs.Bounds.{NumbersGiven, NumbersOfFile, NumbersOfInput, NumbersTold};
+ghost use Rattle.acredact.specs.Bounds.{NumbersGiven, NumbersOfFile, NumbersRead};
 ghost use Rattle.acredact.specs.Faults.{is_unread, reading_of};
-ghost use Rattle.acredact.specs.Files.{CanDo, FileJob, InputOutcome, ToldJob, rule_for};
+ghost use Rattle.acredact.specs.Files.{CanDo, FileJob, TextOutcome, ToldOutcome, rule_for, work_of};
 ghost use Rattle.acredact.specs.Secrets.{IfOf, Redactor};
 ghost use Rattle.acredact.specs.Totals.{CountsFile, CountsOfText, CountsTold, DoesStream};
-ghost use Rattle.acredact.specs.Volumes.{AddsFile, AddsText, AddsStream, FileVolume, files_with};
+ghost use Rattle.acredact.specs.Volumes.{AddsFile, AddsText, AddsStream, OneVolume, files_with};
 ghost use Rattle.acredact.specs.Ways.{IfBy, Redacts};
 
 use crate::back::Backing;
@@ -211,13 +211,14 @@ fn redact_told<X: Way, F: Folder, I: Read, W: Write, E: Sink>(
     streams: &mut Streams<'_, I, W, E>,
 ) -> Result<bool, StreamError>
     requires ready { (r : Redactor) × Redacts X.Way way.old r }
-    ensures outcome { IfBy X.Way way.old (ToldJob W.Write E.Sink F.Folder job.now
-        name.now result streams.old streams.new) }
+    ensures outcome { IfBy X.Way way.old (λ r. ToldOutcome W.Write E.Sink
+        (work_of F.Folder job.now r) name.now result streams.old streams.new) }
     ensures counted { IfBy X.Way way.old (CountsTold F.Folder job.now name.now
         result streams.old streams.new counts.old counts.new) }
-    ensures read { FileVolume F.Folder job.now name.now result volume.old volume.new streams.old streams.new }
-    ensures most { NumbersTold F.Folder job.now name.now counts.old counts.new
+    ensures read { OneVolume F.Folder job.now.folder.now name.now result
         volume.old volume.new streams.old streams.new }
+    ensures most { NumbersOfFile F.Folder job.now name.now counts.old counts.new
+        volume.old volume.new streams.old.input streams.new.input }
     ensures files { volume.new.files ≡ volume.old.files }
     ensures still { IfBy X.Way way.old (Redacts X.Way way.new) }
 {
@@ -303,12 +304,13 @@ fn redact_input<X: Way, I: Read, W: Write>(
     output: &mut FromWrite<W>,
 ) -> Result<Option<Reason>, StreamError>
     requires ready { (r : Redactor) × Redacts X.Way way.old r }
-    ensures outcome { IfBy X.Way way.old (λ r. InputOutcome W.Write r
-        result input.old input.new output.old output.new) }
+    ensures outcome { IfBy X.Way way.old (λ r. TextOutcome W.Write r result
+        (bytes_left input.old) (bytes_left input.new) output.old output.new) }
     ensures counted { result ≡ Ok None → IfBy X.Way way.old
         (CountsOfText (bytes_left input.old) (bytes_left input.new) counts.old counts.new) }
     ensures read { result ≡ Ok None → AddsText volume.old volume.new input.old input.new }
-    ensures most { NumbersOfInput counts.old counts.new volume.old volume.new input.old input.new }
+    ensures most { NumbersRead counts.old counts.new volume.old.bytes volume.new.bytes
+        (bytes_left input.old) (bytes_left input.new) }
     ensures files { volume.new.files ≡ volume.old.files }
     ensures still { IfBy X.Way way.old (Redacts X.Way way.new) }
     ensures failed { input.new.failures ≡ counted (is_unread result) input.old.failures }
