@@ -197,7 +197,7 @@ module _ {R W E : Type 0} {Reads : Readers R} (Writes : Writers W) (K : SinkGhos
       unread_line name reason ∷ [],
       refl,
       (
-        inr (inl (reason, refl, file.unread)),
+        inr (inl (reason, refl, file.comes)),
         subst (λ (e : Errors E). TellsBytes K e errors (concat (unread_line name reason ∷ []))) same
             (subst (TellsBytes K mid.errors errors) (sym (append-nil (unread_line name reason))) tells),
       ),
@@ -225,7 +225,7 @@ module _ {R W E : Type 0} {Reads : Readers R} (Writes : Writers W) (K : SinkGhos
   pub told_whole : (name : List ℕ) (old mid : Streams R W E Reads) → work.meets name false → FileOutcome Writes work name (Ok None) old.input mid.input old.output mid.output
       → mid.errors ≡ old.errors → ToldOutcome Writes K work name (Ok true) old mid
   told_whole name old mid apart file same = record {
-    done = ([], refl, (inl (refl, apart, file.redacted refl), subst (λ (e : Errors E). TellsBytes K old.errors e []) (sym same) (tells_none K old.errors)));
+    done = ([], refl, (inl (refl, apart, file.comes), subst (λ (e : Errors E). TellsBytes K old.errors e []) (sym same) (tells_none K old.errors)));
     cut = tt;
     quiet = λ is. same;
     untold = tt;
@@ -236,7 +236,7 @@ module _ {R W E : Type 0} {Reads : Readers R} (Writes : Writers W) (K : SinkGhos
       → mid.errors ≡ old.errors → ToldOutcome Writes K work name (Err error) old mid
   told_cut name error old mid file same = record {
     done = tt;
-    cut = (file.begun, subst (λ (e : Errors E). TellsBytes K old.errors e []) (sym same) (tells_none K old.errors));
+    cut = (file.comes, subst (λ (e : Errors E). TellsBytes K old.errors e []) (sym same) (tells_none K old.errors));
     quiet = λ (is : Err error ≡ Ok true). absurd (cc);
     untold = same;
     fails = record { write_failed = file.fails.write_failed; took_nothing = file.fails.took_nothing; only = file.fails.only };

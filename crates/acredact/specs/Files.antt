@@ -1,5 +1,5 @@
 -- What is written of files, one after another, and what is told of those that cannot be read.
-use Rattle.std.specs.Prelude.{◌≡◌, ◌⊎◌, ℕ, ◌≤◌, ◌&&◌, length, Bool, true, false, List, [], ◌∷◌, ◌++◌, Option, None, Result, Ok, IfErr, IfOk, IfSome, OnErr, option_map}
+use Rattle.std.specs.Prelude.{◌≡◌, ◌⊎◌, ℕ, ◌≤◌, ◌&&◌, length, Bool, true, false, List, [], ◌∷◌, ◌++◌, Option, None, Some, Result, Ok, Err, IfErr, IfOk, OnErr, option_map}
 use Rattle.std.specs.Io.KnownBytes.{Appends, Consumes, IsAtEnd, Keeps}
 use Rattle.std.specs.List.{concat}
 use Rattle.std.specs.declared.io.traits.Read.{Ghosts as Readers}
@@ -179,23 +179,29 @@ pub record FailsByOutput {X W : Type 0} (result : Result X StreamError) (output 
   pub took_nothing : output'.empty_writes ≡ counted (is_write_of_nothing result) output.empty_writes
   pub only : IfErr result IsOutputEnd
 
+-- what comes of a text: where no reason is answered it was read to its end, and its redaction was written; else a beginning was
+abbrev pub ComesOfText : Redactor → Result (Option Reason) StreamError → (left left' held held' : Option (List ℕ)) → Type 0
+ComesOfText r (Ok None) left left' held held' = RedactsText r left left' held held'
+ComesOfText r (Ok (Some reason)) left left' held held' =
+    IsReadReason reason × BeginsText r left left' held held' × (r.covers ≡ true → ReachesText r left left' held held')
+ComesOfText r (Err error) left left' held held' = BeginsText r left left' held held'
+
+-- and of the file of a name
+abbrev pub ComesOfFile : Work → List ℕ → Result (Option Reason) StreamError → (left left' held held' : Option (List ℕ)) → Type 0
+ComesOfFile work name (Ok None) left left' held held' = RedactsName work name left left' held held'
+ComesOfFile work name (Ok (Some reason)) left left' held held' = IsUnread work name reason left left' held held'
+ComesOfFile work name (Err error) left left' held held' = BeginsNamed work name left left' held held'
+
 module _ {W : Type 0} (Writes : Writers W) where
-  -- what comes of a text, by what a reader of it has left before and after: where no reason is answered it was read to its end
+  -- that, by what a reader of the text has left before and after
   pub record TextOutcome (r : Redactor) (result : Result (Option Reason) StreamError) (left left' : Option (List ℕ)) (output output' : FromWrite W) : Type 0 where
-    pub redacted : result ≡ Ok None → RedactsText r left left' (output_bytes Writes output) (output_bytes Writes output')
-    pub begun : BeginsText r left left' (output_bytes Writes output) (output_bytes Writes output')
-    pub near : r.covers ≡ true → IfOk result (λ unread. IfSome unread (λ reason. ReachesText r left left' (output_bytes Writes output) (output_bytes Writes output')))
-    pub reason : IfOk result (λ unread. IfSome unread IsReadReason)
+    pub comes : ComesOfText r result left left' (output_bytes Writes output) (output_bytes Writes output')
     pub fails : FailsByOutput result output output'
 
   module _ {R : Type 0} {Reads : Readers R} where
-    -- what comes of the file of a name
+    -- the same of a file
     pub record FileOutcome (work : Work) (name : List ℕ) (result : Result (Option Reason) StreamError) (input input' : FromRead R Reads) (output output' : FromWrite W) : Type 0 where
-      pub redacted : result ≡ Ok None
-          → RedactsName work name (bytes_left input) (bytes_left input') (output_bytes Writes output) (output_bytes Writes output')
-      pub begun : BeginsNamed work name (bytes_left input) (bytes_left input') (output_bytes Writes output) (output_bytes Writes output')
-      pub unread : IfOk result (λ unread. IfSome unread (λ reason.
-          IsUnread work name reason (bytes_left input) (bytes_left input') (output_bytes Writes output) (output_bytes Writes output')))
+      pub comes : ComesOfFile work name result (bytes_left input) (bytes_left input') (output_bytes Writes output) (output_bytes Writes output')
       pub fails : FailsByOutput result output output'
 
     -- the same of a file of a job
