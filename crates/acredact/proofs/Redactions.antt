@@ -1,6 +1,6 @@
 -- What a cover or a replacement of a stream writes is a redaction, and what it begins is begun.
-use Rattle.std.proofs.Common.{◌≡◌, ◌≢◌, ℕ, ◌<◌, ◌≤◌, ◌++◌, List, [], true, false, length, map, refl, sym, ap, subst, ◌∙◌, append-nil, arith, le_refl}
-use Rattle.std.specs.Prelude.{Bool, MatchBool, Option, None, Some, Result, Ok, Err, IfErr, OnErr, OnOk, is_some}
+use Rattle.std.proofs.Common.{◌≡◌, ◌≢◌, ◌⊎◌, inl, inr, ℕ, suc, ◌<◌, ◌≤◌, ◌∷◌, ◌++◌, List, [], true, false, length, map, refl, sym, ap, subst, ◌∙◌, append-nil, arith, le_refl}
+use Rattle.std.specs.Prelude.{Bool, MatchBool, Option, None, Some, Result, Ok, Err, IfErr, OnErr, OnOk, is_some, slice_index_or}
 use Rattle.std.specs.Io.{StartsWith}
 use Rattle.std.specs.Io.KnownBytes.{Appends}
 use Rattle.std.proofs.Math.Seq.{take-length}
@@ -14,7 +14,7 @@ use Rattle.aho_core.specs.Replacement.{replaced, replaced_by}
 use Rattle.aho_core.specs.Search.{plain_search}
 use Rattle.aho_core.specs.declared.error.MatchErrorKind.{MatchErrorKind}
 use Rattle.aho_core.specs.declared.error.stream.StreamError.{StreamError}
-use Rattle.aho_core.specs.declared.error.stream.StreamError.TheVariants.{Match as Refused}
+use Rattle.aho_core.specs.declared.error.stream.StreamError.TheVariants.{Match as Refused, Memory}
 use Rattle.aho_core.specs.declared.search.Anchored.TheVariants.{No}
 use Rattle.aho_devices.specs.Errors.{CountsErrors}
 use Rattle.aho_devices.specs.Refusals.{IsFillRefusal}
@@ -25,6 +25,8 @@ use Rattle.aho_laws.proofs.CoverKept.{kept-uncovered}
 use Rattle.aho_laws.proofs.CoverRuns.{Covers}
 use Rattle.aho_laws.proofs.Iterations.{finds-exist}
 use Rattle.aho_automaton.specs.declared.automaton.Automaton.{Ghosts}
+use Rattle.aho_backward.specs.Searcher.{IsBackwardOf}
+use Rattle.aho_backward.specs.declared.backward.Backward.{Backward}
 use Rattle.aho_stream.specs.After.{greatest_position}
 use Rattle.aho_stream.specs.Refills.{is_limit}
 use Rattle.aho_stream.specs.Replacing.{BeginsReplacing, GaveAsMany, IsStreamFault, MayBe, ReplacesStream}
@@ -204,6 +206,20 @@ never_refused G automaton can (Err error) suits = tt
 fault_ends : (error : StreamError) → IsStreamFault error → IsStreamEnd error
 fault_ends (Refused cause) is = absurd is
 fault_ends error is = tt
+
+-- and one that is replaced by a walk backward
+pub back_ends : (error : StreamError) → (error ≡ Memory) ⊎ IsStreamFault error → IsStreamEnd error
+back_ends error (inl memory) = subst IsStreamEnd (sym memory) tt
+back_ends error (inr fault) = fault_ends error fault
+
+-- words of which none is empty
+some_words : (words : List (List ℕ)) → ((number : ℕ) → number < length words → 0 < length (slice_index_or words number [])) → 1 ≤ shortest (map length words)
+some_words [] full = omega arith
+some_words (word ∷ words) full = omega (arith, full 0 (omega arith), some_words words (λ number within. full (suc number) (omega (arith, within))))
+
+-- none is of a searcher by a walk backward
+pub some_back : {A : Type 0} (G : Ghosts A) (searcher : Backward A) (p : Patterns) → IsBackwardOf G searcher p → 1 ≤ shortest (map length p.words)
+some_back G searcher p is = some_words p.words is.turned_from.full
 
 -- no pattern is empty where a cover can begin
 pub some_cover : {A : Type 0} (G : Ghosts A) (automaton : A) {words : Bool} {progress : CoverProgress} (p : Patterns) → G.lengths automaton ≡ map length p.words → IsUnbegunWith words G automaton progress

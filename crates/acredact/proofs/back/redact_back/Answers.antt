@@ -3,8 +3,7 @@ use Rattle.std.proofs.Common.{false, refl}
 use Rattle.std.proofs.lemmas.Result.{IfErr-weaker}
 use Rattle.aho_backward.specs.Searcher.{IsBackwardOf}
 use Rattle.acredact.specs.Secrets.{redactor_by}
-use Rattle.acredact.proofs.Backed.{back_ends, some_back}
-use Rattle.acredact.proofs.Redactions.{outcome_plain}
+use Rattle.acredact.proofs.Redactions.{back_ends, outcome_plain, some_back}
 use Rattle.acredact.proofs.back.redact_back.Goals as goal
 
 pub returns : goal.returns

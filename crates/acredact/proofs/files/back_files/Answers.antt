@@ -1,7 +1,7 @@
 -- A walk backward and an automaton replace by the same patterns.
 use Rattle.std.proofs.Common.{rules, ◌≡◌, false}
 use Rattle.acredact.specs.Files.{redactor_of}
-use Rattle.acredact.proofs.Backed.{some_back}
+use Rattle.acredact.proofs.Redactions.{some_back}
 use Rattle.acredact.proofs.Suited.{redactor_is}
 use Rattle.acredact.proofs.files.back_files.Goals as goal
 
