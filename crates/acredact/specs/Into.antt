@@ -99,25 +99,11 @@ module _ {R Z E F X O : Type 0} {Reads : Readers R} (Writes : Writers Z) (K : Si
   abbrev pub TellsNone : Type 0
   TellsNone = (status ≡ 0 → ⊥) → TellsNew Writes K D U folder name outputs outputs' streams streams' given
 
-module _ {R Z E F X : Type 0} {Reads : Readers R} (Writes : Writers Z) (K : SinkGhosts E) (D : Folders F X) (folder : F) (status : ℕ) (streams streams' : Streams R Z E Reads) (given : List Given) where
-  -- where the status is 0, and pieces that are not clean are refused, no pattern is left
-  abbrev pub LeavesNoneAll : Type 0
-  LeavesNoneAll = RefusesUnclean given → status ≡ 0 → LeavesNoneAsked Writes D folder given streams streams'
-
-  -- and the counts that are asked for are told
-  abbrev pub CountsAll : Type 0
-  CountsAll = counts_asked given ≡ true → status ≡ 0 → CountsAsked Writes K D folder given streams streams'
-
--- else nothing is told but the pieces that are not clean
+-- where the status is 0, and no counts are asked for, nothing is told but the pieces that are not clean
 abbrev pub WarnsAll : {R Z E F X : Type 0} {Reads : Readers R} → SinkGhosts E → Folders F X → F → ℕ → (streams streams' : Streams R Z E Reads) → List Given → Type 0
 WarnsAll K D folder status streams streams' given = counts_asked given ≡ false → status ≡ 0 → WarnsAsked K D folder given streams streams'
 
--- what is told where a new file does not take the place
-abbrev pub TellsUnput : {R Z E F X : Type 0} {Reads : Readers R} → SinkGhosts E → Folders F X → F → List ℕ → ℕ → (streams streams' : Streams R Z E Reads) → List Given → Type 0
-TellsUnput K D folder name status streams streams' given = (status ≡ 0 → ⊥)
-    → TellsSome K (IsOutputLine (IsLineOf (call_of D folder given) (OutputFails streams.output streams'.output)) name) streams.errors streams'.errors
-
--- the same of a call with rules, whether one was made or not
+-- what is told of a call with rules where no new file takes the place, whether one was made or not
 abbrev pub RuledTellsUnput : {R W E F X : Type 0} {Reads : Readers R} → SinkGhosts E → Folders F X → F → List ℕ → ℕ → (streams streams' : Streams R W E Reads) → List Given → Type 0
 RuledTellsUnput K D folder name status streams streams' given = (status ≡ 0 → ⊥)
     → TellsSome K (IsOutputLine (IsRuledTold (call_of D folder given)) name) streams.errors streams'.errors
