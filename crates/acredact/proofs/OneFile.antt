@@ -16,7 +16,7 @@ use Rattle.tool_parts.specs.Names.{is_input}
 use Rattle.tool_parts.specs.Streams.{output_bytes}
 use Rattle.tool_parts.specs.declared.reason.Reason.{Reason}
 use Rattle.acredact.specs.Faults.{IsOutputEnd, IsStreamEnd, is_unread, reading_of}
-use Rattle.acredact.specs.Files.{BeginsNamed, BeginsText, BeginsWriting, ComesOfFile, ComesOfText, ReachesText, RedactsText, TextOutcome, Work, WritesText}
+use Rattle.acredact.specs.Files.{BeginsNamed, BeginsText, BeginsWriting, ComesOfFile, ComesOfText, ReachesText, RedactsText, TextDone, Work, WritesText}
 use Rattle.acredact.specs.Reads.{EachName, OfName}
 use Rattle.acredact.specs.Secrets.{BeginsRedaction, Redactor}
 use Rattle.acredact.specs.Streams.{ReachesStream, RedactsStream, StartsStream}
@@ -107,7 +107,7 @@ module _ {W : Type 0} (Writes : Writers W) (r : Redactor) (done : Result (Unit {
       → (r.covers ≡ true → IfErr done (λ error. IsFillRefusal error → ReachesText r left left' (output_bytes Writes output) (output_bytes Writes output')))
       → output'.failures ≡ counted (is_write_fault done) output.failures
       → output'.empty_writes ≡ counted (is_write_of_nothing done) output.empty_writes
-      → IfErr done IsStreamEnd → TextOutcome Writes r (reading_of done) left left' output output'
+      → IfErr done IsStreamEnd → TextDone Writes r (reading_of done) left left' output output'
   outcome_by redacted begun near write_failed took_nothing only = record {
     comes = comes_by done redacted begun near;
     fails = record {

@@ -194,7 +194,7 @@ ComesOfFile work name (Err error) left left' held held' = BeginsNamed work name 
 
 module _ {W : Type 0} (Writes : Writers W) where
   -- that, by what a reader of the text has left before and after
-  pub record TextOutcome (r : Redactor) (result : Result (Option Reason) StreamError) (left left' : Option (List ℕ)) (output output' : FromWrite W) : Type 0 where
+  pub record TextDone (r : Redactor) (result : Result (Option Reason) StreamError) (left left' : Option (List ℕ)) (output output' : FromWrite W) : Type 0 where
     pub comes : ComesOfText r result left left' (output_bytes Writes output) (output_bytes Writes output')
     pub fails : FailsByOutput result output output'
 

@@ -10,7 +10,7 @@ ghost use Rattle.tool_parts.specs.Streams.{bytes_left};
 ghost use Rattle.acredact.specs.Back.{DoesByPatterns, DoesJob, IfOfBoth};
 ghost use Rattle.acredact.specs.Bounds.{NumbersGiven, NumbersOfFile, NumbersRead};
 ghost use Rattle.acredact.specs.Faults.{is_unread, reading_of};
-ghost use Rattle.acredact.specs.Files.{CanDo, FileJob, TextOutcome, ToldOutcome, rule_for, work_of};
+ghost use Rattle.acredact.specs.Files.{CanDo, FileJob, TextDone, ToldOutcome, rule_for, work_of};
 ghost use Rattle.acredact.specs.Secrets.{IfOf, Redactor};
 ghost use Rattle.acredact.specs.Totals.{CountsFile, CountsOfText, CountsTold, DoesStream};
 ghost use Rattle.acredact.specs.Volumes.{AddsFile, AddsText, AddsStream, OneVolume, files_with};
@@ -304,7 +304,7 @@ fn redact_input<X: Way, I: Read, W: Write>(
     output: &mut FromWrite<W>,
 ) -> Result<Option<Reason>, StreamError>
     requires ready { (r : Redactor) × Redacts X.Way way.old r }
-    ensures outcome { IfBy X.Way way.old (λ r. TextOutcome W.Write r result
+    ensures outcome { IfBy X.Way way.old (λ r. TextDone W.Write r result
         (bytes_left input.old) (bytes_left input.new) output.old output.new) }
     ensures counted { result ≡ Ok None → IfBy X.Way way.old
         (CountsOfText (bytes_left input.old) (bytes_left input.new) counts.old counts.new) }

@@ -8,7 +8,7 @@ use Rattle.tool_parts.specs.Streams.{bytes_left}
 use Rattle.tool_parts.proofs.Ends.{at_end}
 use Rattle.tool_parts.specs.declared.reason.Reason.{Reason}
 use Rattle.acredact.specs.Faults.{is_unread}
-use Rattle.acredact.specs.Files.{TextOutcome}
+use Rattle.acredact.specs.Files.{TextDone}
 use Rattle.acredact.proofs.Bounded.{numbers_text}
 use Rattle.acredact.proofs.OneFile.{at_ok, begins_of, outcome_by, reaches_of, reading_unread, reading_whole, text_of}
 use Rattle.acredact.proofs.Metering.{text_bytes}
@@ -25,7 +25,7 @@ returns g c =
     record {
       outcome = λ red by.
           let stream = (run.ensures.done red by).outcome in
-          subst (λ (e : Result (Option Reason) StreamError). TextOutcome g.W.Write red e (bytes_left c.args.input.now) (bytes_left run.new.input) c.args.output.now run.new.output) (sym done)
+          subst (λ (e : Result (Option Reason) StreamError). TextDone g.W.Write red e (bytes_left c.args.input.now) (bytes_left run.new.input) c.args.output.now run.new.output) (sym done)
           (outcome_by g.W.Write _ run.result _ _ c.args.output.now run.new.output
           (on_ok_weaker run.result (λ whole. text_of _ _ _ _ _ _ _ _ left none ends whole) stream.redacted)
           (begins_of _ _ _ _ _ _ _ _ left none ends stream.begun)
