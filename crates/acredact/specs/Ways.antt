@@ -1,7 +1,6 @@
 -- By what a stream is redacted.
-use Rattle.std.specs.Prelude.{◌≡◌, ℕ, ◌≤◌, Bool, false, true, List, length, map}
+use Rattle.std.specs.Prelude.{◌≡◌, ℕ, Bool, false, true, List}
 use Rattle.std.specs.Borrow.{Bor}
-use Rattle.aho_core.specs.Laws.{shortest}
 use Rattle.aho_automaton.specs.declared.automaton.Automaton.{Ghosts}
 use Rattle.aho_cover.specs.Covers.{IsUnbegunWith}
 use Rattle.aho_cover.specs.Pieces.{PieceRule}
@@ -31,11 +30,6 @@ pub record IsCovering {A : Type 0} (G : Ghosts A) (automaton : A) (progress : Co
 abbrev pub IfCoverer : {A : Type 0} → Ghosts A → A → (words : Bool) → PieceRule → (Redactor → Type 0) → Type 0
 IfCoverer G automaton words rule Holds = (r : Redactor) → IsCoverer G automaton words rule r → Holds r
 
--- a way redacts so, and no pattern is empty
-pub record Redacts {X : Type 0} (G : Ways X) (way : X) (r : Redactor) : Type 0 where
-  pub by : G.by way r
-  pub some : 1 ≤ shortest (map length r.patterns.words)
-
 -- what holds of all by which a way redacts
 abbrev pub IfBy : {X : Type 0} → Ways X → X → (Redactor → Type 0) → Type 0
-IfBy G way Holds = (r : Redactor) → Redacts G way r → Holds r
+IfBy G way Holds = (r : Redactor) → G.by way r → Holds r

@@ -14,7 +14,7 @@ ghost use Rattle.acredact.specs.Files.{CanDo, FileJob, TextDone, ToldOutcome, ru
 ghost use Rattle.acredact.specs.Secrets.{IfOf, Redactor};
 ghost use Rattle.acredact.specs.Totals.{CountsFile, CountsOfText, CountsTold, DoesStream};
 ghost use Rattle.acredact.specs.Volumes.{AddsFile, AddsText, AddsStream, OneVolume, files_with};
-ghost use Rattle.acredact.specs.Ways.{IfBy, Redacts};
+ghost use Rattle.acredact.specs.Ways.{IfBy};
 
 use crate::back::Backing;
 use crate::failure::{tell_output, tell_unread};
@@ -177,7 +177,7 @@ fn redact_flushed<X: Way, F: Folder, I: Read, W: Write, E: Sink>(
     volume: &mut Volume,
     streams: &mut Streams<'_, I, W, E>,
 ) -> Result<bool, StreamError>
-    requires ready { (r : Redactor) × Redacts X.Way way.old r }
+    requires ready { (r : Redactor) × X.by way.old r }
     ensures done { IfBy X.Way way.old (DoesJob W.Write E.Sink F.Folder job.now
         result streams.old streams.new counts.old counts.new volume.old volume.new) }
 {
@@ -210,7 +210,7 @@ fn redact_told<X: Way, F: Folder, I: Read, W: Write, E: Sink>(
     volume: &mut Volume,
     streams: &mut Streams<'_, I, W, E>,
 ) -> Result<bool, StreamError>
-    requires ready { (r : Redactor) × Redacts X.Way way.old r }
+    requires ready { (r : Redactor) × X.by way.old r }
     ensures outcome { IfBy X.Way way.old (λ r. ToldOutcome W.Write E.Sink
         (work_of F.Folder job.now r) name.now result streams.old streams.new) }
     ensures counted { IfBy X.Way way.old (CountsTold F.Folder job.now name.now
@@ -220,7 +220,7 @@ fn redact_told<X: Way, F: Folder, I: Read, W: Write, E: Sink>(
     ensures most { NumbersOfFile F.Folder job.now name.now counts.old counts.new
         volume.old volume.new streams.old.input streams.new.input }
     ensures files { volume.new.files ≡ volume.old.files }
-    ensures still { IfBy X.Way way.old (Redacts X.Way way.new) }
+    ensures still { IfBy X.Way way.old (X.by way.new) }
 {
     if job.folder.is_output(name) {
         tell_output(&mut streams.errors, name);
@@ -253,7 +253,7 @@ fn redact_file<X: Way, F: Folder, I: Read, W: Write>(
     input: &mut FromRead<I>,
     output: &mut FromWrite<W>,
 ) -> Result<Option<Reason>, StreamError>
-    requires ready { (r : Redactor) × Redacts X.Way way.old r }
+    requires ready { (r : Redactor) × X.by way.old r }
     ensures outcome { IfBy X.Way way.old (FileJob W.Write F.Folder job.now name.now
         result input.old input.new output.old output.new) }
     ensures counted { IfBy X.Way way.old (CountsFile F.Folder job.now name.now
@@ -263,7 +263,7 @@ fn redact_file<X: Way, F: Folder, I: Read, W: Write>(
     ensures most { NumbersOfFile F.Folder job.now name.now counts.old counts.new
         volume.old volume.new input.old input.new }
     ensures files { volume.new.files ≡ volume.old.files }
-    ensures still { IfBy X.Way way.old (Redacts X.Way way.new) }
+    ensures still { IfBy X.Way way.old (X.by way.new) }
 {
     if is_input(name) {
         return redact_input(way, counts, volume, input, output);
@@ -303,7 +303,7 @@ fn redact_input<X: Way, I: Read, W: Write>(
     input: &mut FromRead<I>,
     output: &mut FromWrite<W>,
 ) -> Result<Option<Reason>, StreamError>
-    requires ready { (r : Redactor) × Redacts X.Way way.old r }
+    requires ready { (r : Redactor) × X.by way.old r }
     ensures outcome { IfBy X.Way way.old (λ r. TextDone W.Write r result
         (bytes_left input.old) (bytes_left input.new) output.old output.new) }
     ensures counted { result ≡ Ok None → IfBy X.Way way.old
@@ -312,7 +312,7 @@ fn redact_input<X: Way, I: Read, W: Write>(
     ensures most { NumbersRead counts.old counts.new volume.old.bytes volume.new.bytes
         (bytes_left input.old) (bytes_left input.new) }
     ensures files { volume.new.files ≡ volume.old.files }
-    ensures still { IfBy X.Way way.old (Redacts X.Way way.new) }
+    ensures still { IfBy X.Way way.old (X.by way.new) }
     ensures failed { input.new.failures ≡ counted (is_unread result) input.old.failures }
 {
     input.restart();
@@ -327,7 +327,7 @@ fn redact_with<'s, K: Known, X: Way, S: Source, W: Sink>(
     bytes: u64,
     sink: &mut W,
 ) -> Taken<'s, S, StreamError>
-    requires ready { (r : Redactor) × Redacts X.Way way.old r }
+    requires ready { (r : Redactor) × X.by way.old r }
     requires whole { K.whole ≡ S.remaining lent.source.now }
     requires start { K.start ≡ bytes }
     requires name { K.name ≡ lent.source.ghost_name }
@@ -337,7 +337,7 @@ fn redact_with<'s, K: Known, X: Way, S: Source, W: Sink>(
         lent.entry.source.now result.lent.source.now bytes result.bytes) }
     ensures most { NumbersGiven S.Source lent.entry.source.now result.lent.source.now
         counts.old counts.new bytes result.bytes }
-    ensures still { IfBy X.Way way.old (Redacts X.Way way.new) }
+    ensures still { IfBy X.Way way.old (X.by way.new) }
     ensures same { result.lent.source.ghost_name ≡ lent.entry.source.ghost_name }
 {
     let mut meter = Metered::<S, K> {
@@ -359,7 +359,7 @@ fn redact_metered<X: Way, I: Read, W: Write>(
     input: &mut FromRead<I>,
     output: &mut FromWrite<W>,
 ) -> Result<(), StreamError>
-    requires ready { (r : Redactor) × Redacts X.Way way.old r }
+    requires ready { (r : Redactor) × X.by way.old r }
     ensures done { IfBy X.Way way.old (DoesStream ⟦<FromRead<I> as Source>⟧ ⟦<FromWrite<W> as Sink>⟧ result
         input.old input.new output.old output.new counts.old counts.new) }
     ensures read { OnOk result (AddsStream ⟦<FromRead<I> as Source>⟧ input.old input.new
@@ -367,7 +367,7 @@ fn redact_metered<X: Way, I: Read, W: Write>(
     ensures most { NumbersGiven ⟦<FromRead<I> as Source>⟧ input.old input.new
         counts.old counts.new volume.old.bytes volume.new.bytes }
     ensures files { volume.new.files ≡ volume.old.files }
-    ensures still { IfBy X.Way way.old (Redacts X.Way way.new) }
+    ensures still { IfBy X.Way way.old (X.by way.new) }
 {
     let taken = redact_with::<Brand, X, FromRead<I>, FromWrite<W>>(
         way,

@@ -2,7 +2,6 @@
 use Rattle.std.proofs.Common.{rules, ◌≡◌}
 use Rattle.std.specs.Prelude.{Err}
 use Rattle.acredact.specs.Files.{redactor_of}
-use Rattle.acredact.proofs.Redactions.{some_of}
 use Rattle.acredact.proofs.Suited.{covering_is, job_unbegun}
 use Rattle.acredact.proofs.files.cover_by.Goals as goal
 
@@ -16,21 +15,10 @@ returns-in_err-start g c =
 
 pub redact_flushed-requires : goal.redact_flushed-requires
 redact_flushed-requires g c =
-    let of = c.requires.ready.of in
-    record {
-      ready = (
-        redactor_of c.args.job.now c.requires.ready.patterns,
-        record {
-          by = covering_is g.A.Automaton _ c.args.job.now _ of _ _ _ c.requires.covers c.requires.made c.in_ok-start.ensures.of c.in_ok-start.ensures.unbegun;
-          some = some_of g.A.Automaton _ _ (g.met.A.Automaton.laws _ _ of).lengths_are c.requires.ready.begins;
-        },
-      );
-    }
+    let ready = c.requires.ready in
+    record { ready = (redactor_of c.args.job.now ready.patterns, covering_is g.A.Automaton _ c.args.job.now ready.patterns ready.of _ _ _ c.requires.covers c.requires.made c.in_ok-start.ensures.of c.in_ok-start.ensures.unbegun) }
 
 pub returns : goal.returns
 returns g c = record {
-  done = λ p of. c.redact_flushed.ensures.done (redactor_of c.args.job.now p) (record {
-    by = covering_is g.A.Automaton _ c.args.job.now p of _ _ _ c.requires.covers c.requires.made c.in_ok-start.ensures.of c.in_ok-start.ensures.unbegun;
-    some = some_of g.A.Automaton _ p (g.met.A.Automaton.laws _ _ of).lengths_are c.requires.ready.begins;
-  });
+  done = λ p of. c.redact_flushed.ensures.done (redactor_of c.args.job.now p) (covering_is g.A.Automaton _ c.args.job.now p of _ _ _ c.requires.covers c.requires.made c.in_ok-start.ensures.of c.in_ok-start.ensures.unbegun);
 }

@@ -20,16 +20,16 @@ returns g c =
     let start = c.requires.start in
     let reads = consumes_settled meter.settled (g.S.Source.remaining c.args.lent.source.now) (g.S.Source.remaining meter.lent.source.now) in
     record {
-      done = λ r is. does_as _ g.S.Source g.W.Sink r _ meter c.args.lent.source.now meter.lent.source.now c.args.sink.now run.new.sink reads refl refl refl refl run.result c.args.counts.now run.new.counts (run.ensures.done r is.by);
+      done = λ r is. does_as _ g.S.Source g.W.Sink r _ meter c.args.lent.source.now meter.lent.source.now c.args.sink.now run.new.sink reads refl refl refl refl run.result c.args.counts.now run.new.counts (run.ensures.done r is);
       read = on_ok_weaker run.result (λ stream. record {
         text = stream.text;
         gives = gave_by _ g.S.Source _ meter c.args.lent.source.now meter.lent.source.now reads refl refl stream.text _ stream.gives;
         added = metered_added meter.settled g.K.Known.whole (g.S.Source.remaining c.args.lent.source.now) (g.S.Source.remaining meter.lent.source.now) g.K.Known.start c.args.bytes meter.bytes stream.text whole start stream.gives.bytes meter.metered;
-      }) (run.ensures.done red by.by).outcome.redacted;
+      }) (run.ensures.done red by).outcome.redacted;
       most =
           let most = run.ensures.most in
           numbers_of g.S.Source c.args.lent.source.now meter.lent.source.now c.args.counts.now run.new.counts meter.settled g.K.Known.whole g.K.Known.start c.args.bytes meter.bytes most.given most.ended
           whole start most.gives.bytes most.gives.end meter.metered most.counted;
-      still = λ r is. record { by = run.ensures.still r is.by; some = is.some };
+      still = run.ensures.still;
       same = meter.same ∙ c.requires.name;
     }

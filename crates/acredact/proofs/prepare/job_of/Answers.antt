@@ -1,6 +1,6 @@
 -- It is the work that is asked for, and what searches can do it.
-use Rattle.std.proofs.Common.{◌≡◌, ◌∙◌, ℕ, List, ap, refl, subst}
-use Rattle.std.specs.Prelude.{◌&&◌, Bool, Option, option_map}
+use Rattle.std.proofs.Common.{◌∙◌, ap, refl}
+use Rattle.std.specs.Prelude.{◌&&◌, Bool, option_map}
 use Rattle.aho_core.specs.Replacement.{pieces_of}
 use Rattle.tool_parts.specs.Names.{name_bytes}
 use Rattle.acredact.specs.Arguments.{all_given, covers_asked, has}
