@@ -15,7 +15,7 @@ use Rattle.tool_parts.specs.Streams.{bytes_left}
 use Rattle.tool_parts.specs.Telling.{Tells, TellsBytes, TellsSome}
 use Rattle.tool_parts.specs.declared.errors.Errors.{Errors}
 use Rattle.tool_parts.specs.declared.failure.Failure.TheVariants.{Build, OutOfMemory, Write as NotWritten, WriteZero as TakesNothing}
-use Rattle.tool_parts.proofs.Tellings.{tells-later}
+use Rattle.tool_parts.proofs.Tellings.{tells-later, tells-nothing}
 use Rattle.acredact.specs.Arguments.{Given, counts_asked}
 use Rattle.acredact.specs.Calls.{AreBounded, BeginsCall, Call, CallOutcome, CannotLoadCall, IsBuildRefusal, IsCountsFailure, IsCountsLine, IsLineOf, IsRunFailure, IsUnreadLine, IsUntouched, IsWordLine, MayFail, OutputFails, RestOutcome, RunOutcome, TellsCounts, TellsNumbers, call_of, names_asked, reading_by, redactor_by_given, work_by}
 use Rattle.acredact.specs.Builds.{patterns_by_given}
@@ -38,7 +38,7 @@ use Rattle.acredact.specs.declared.folder.Folder.{Ghosts as Folders}
 use Rattle.acredact.specs.declared.patterns.Rule.{Rule}
 use Rattle.acredact.specs.declared.streams.Streams.{Streams}
 use Rattle.acredact.specs.declared.summary.Volume.{Volume}
-use Rattle.acredact.proofs.Done.{concat_both, cut_of, redacted_of, tells_none}
+use Rattle.acredact.proofs.Done.{concat_both, cut_of, redacted_of}
 use Rattle.acredact.proofs.Totals.{totals_told}
 
 -- no line is one
@@ -67,7 +67,7 @@ module _ (work : Work) where
 
 -- nothing was told, where nothing has changed
 pub tells_same : {E : Type 0} (K : SinkGhosts E) (IsLine : List ℕ → Type 0) (old new : Errors E) → new ≡ old → Tells K IsLine old new
-tells_same K IsLine old new same = record { told = []; are_lines = All-nil IsLine; written = subst (λ (e : Errors _). TellsBytes K old e []) (sym same) (tells_none K old) }
+tells_same K IsLine old new same = record { told = []; are_lines = All-nil IsLine; written = subst (λ (e : Errors _). TellsBytes K old e []) (sym same) (tells-nothing K old) }
 
 -- one line was
 pub tells_line : {E : Type 0} (K : SinkGhosts E) (old new : Errors E) (line : List ℕ) → TellsBytes K old new line → Tells K (λ other. other ≡ line) old new
@@ -123,7 +123,7 @@ module _ {R : Type 0} {Reads : Readers R} {W E : Type 0} (Writes : Writers W) (K
     counts = λ some (is : Err failure ≡ Ok true). absurd (cc);
     partly = λ (is : Err failure ≡ Ok false). absurd (cc);
     fails = fails;
-    told = record { told = []; are_lines = All-nil _; written = tells_none K old.errors };
+    told = record { told = []; are_lines = All-nil _; written = tells-nothing K old.errors };
     numbers = inl (tells_same K (IsWordLine call) old.errors old.errors refl);
   }
 
@@ -183,7 +183,7 @@ module _ {R : Type 0} {Reads : Readers R} {W E : Type 0} (Writes : Writers W) (K
         | inr cut ↦ words_told cut.0 _ _ _ cut.1.0 mid.errors cut.1.1
       ]);
       told = elim run.cut [
-        | inl same ↦ record { told = []; are_lines = All-nil _; written = subst (λ (s : Streams R W E Reads). TellsBytes K old.errors s.errors []) (sym same) (tells_none K old.errors) }
+        | inl same ↦ record { told = []; are_lines = All-nil _; written = subst (λ (s : Streams R W E Reads). TellsBytes K old.errors s.errors []) (sym same) (tells-nothing K old.errors) }
         | inr cut ↦ record { told = cut.0; are_lines = lines_cut _ cut.0 _ _ _ cut.1.0; written = cut.1.1 }
       ];
     }

@@ -11,7 +11,7 @@ use Rattle.tool_parts.specs.Names.{IsOneOf, is_input}
 use Rattle.tool_parts.specs.Telling.{Tells, TellsBytes}
 use Rattle.tool_parts.specs.declared.errors.Errors.{Errors}
 use Rattle.tool_parts.specs.declared.reason.Reason.{Reason}
-use Rattle.tool_parts.proofs.Tellings.{tells-later}
+use Rattle.tool_parts.proofs.Tellings.{tells-later, tells-nothing}
 use Rattle.acredact.specs.Builds.{patterns_by_given}
 use Rattle.acredact.specs.Arguments.{has}
 use Rattle.acredact.specs.Calls.{Call, IsUnreadLine, gives_pattern, names_asked, reading_by}
@@ -32,7 +32,7 @@ use Rattle.acredact.specs.declared.look.Look.{Look}
 use Rattle.acredact.specs.declared.look.Look.TheVariants.{Clean, Found, Unread}
 use Rattle.acredact.specs.declared.look.Verdict.{Verdict}
 use Rattle.acredact.proofs.Calls.{tells_same}
-use Rattle.acredact.proofs.Done.{concat_both, tells_none}
+use Rattle.acredact.proofs.Done.{concat_both}
 use Rattle.acredact.proofs.OneFile.{known_read, of_folder, of_input}
 use Rattle.acredact.proofs.Warned.{all_members, tells_both}
 
@@ -134,7 +134,7 @@ seen_none K quest names errors left = record {
   lines = [];
   is_all = refl;
   are = All-nil (IsUnreadLine names);
-  told = tells_none K errors;
+  told = tells-nothing K errors;
   quiet = λ is. refl;
   among = λ name is. is;
   seen = λ found more left' seen. seen;

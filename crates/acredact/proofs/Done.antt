@@ -73,10 +73,6 @@ module _ (work : Work) where
       → IsDone work name first left between held meanwhile → AreCut work names rest between left' meanwhile held' → AreCut work (name ∷ names) (first ++ rest) left left' held held'
   cut_more name names first rest left between left' held meanwhile held' is others = inr (first, rest, refl, between, meanwhile, is, others)
 
--- nothing was told
-pub tells_none : {E : Type 0} (K : SinkGhosts E) (errors : Errors E) → TellsBytes K errors errors []
-tells_none K errors = tells-nothing K errors
-
 write_ends : (error : StreamError) → IsWriteRefusal error → IsOutputEnd error
 write_ends (Write fault) is = tt
 write_ends WriteZero is = tt
@@ -101,7 +97,7 @@ module _ {R W E : Type 0} {Reads : Readers R} (Writes : Writers W) (K : SinkGhos
   far_none names streams = record {
     lines = [];
     is_all = refl;
-    told = tells_none K streams.errors;
+    told = tells-nothing K streams.errors;
     quiet = λ all. refl;
     done = λ more left held done. done;
     cut = λ more left held cut. cut;
@@ -225,7 +221,7 @@ module _ {R W E : Type 0} {Reads : Readers R} (Writes : Writers W) (K : SinkGhos
   pub told_whole : (name : List ℕ) (old mid : Streams R W E Reads) → work.meets name false → FileOutcome Writes work name (Ok None) old.input mid.input old.output mid.output
       → mid.errors ≡ old.errors → ToldOutcome Writes K work name (Ok true) old mid
   told_whole name old mid apart file same = record {
-    done = ([], refl, (inl (refl, apart, file.comes), subst (λ (e : Errors E). TellsBytes K old.errors e []) (sym same) (tells_none K old.errors)));
+    done = ([], refl, (inl (refl, apart, file.comes), subst (λ (e : Errors E). TellsBytes K old.errors e []) (sym same) (tells-nothing K old.errors)));
     cut = tt;
     quiet = λ is. same;
     untold = tt;
@@ -236,7 +232,7 @@ module _ {R W E : Type 0} {Reads : Readers R} (Writes : Writers W) (K : SinkGhos
       → mid.errors ≡ old.errors → ToldOutcome Writes K work name (Err error) old mid
   told_cut name error old mid file same = record {
     done = tt;
-    cut = (file.comes, subst (λ (e : Errors E). TellsBytes K old.errors e []) (sym same) (tells_none K old.errors));
+    cut = (file.comes, subst (λ (e : Errors E). TellsBytes K old.errors e []) (sym same) (tells-nothing K old.errors));
     quiet = λ (is : Err error ≡ Ok true). absurd (cc);
     untold = same;
     fails = record { write_failed = file.fails.write_failed; took_nothing = file.fails.took_nothing; only = file.fails.only };

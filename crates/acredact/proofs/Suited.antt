@@ -21,6 +21,7 @@ use Rattle.aho_cover.specs.declared.progress.CoverProgress.{CoverProgress}
 use Rattle.aho_devices.specs.declared.device.Sink.{Ghosts as SinkGhosts}
 use Rattle.aho_stream.specs.Replacing.{IsMakingRefusal}
 use Rattle.aho_stream.specs.StreamRun.{CanBegin}
+use Rattle.tool_parts.proofs.Tellings.{tells-nothing}
 use Rattle.acredact.specs.Back.{DoesJob}
 use Rattle.acredact.specs.Files.{AreCut, CanDo, FilesOutcome, Work, key_for, redactor_of, rule_for, work_of}
 use Rattle.acredact.specs.Secrets.{CanRedact, Redactor}
@@ -29,7 +30,6 @@ use Rattle.acredact.specs.declared.files.Job.{Job}
 use Rattle.acredact.specs.declared.folder.Folder.{Ghosts as Folders}
 use Rattle.acredact.specs.declared.streams.Streams.{Streams}
 use Rattle.acredact.specs.declared.summary.Volume.{Volume}
-use Rattle.acredact.proofs.Done.{tells_none}
 use Rattle.acredact.proofs.OneFile.{named_none}
 use Rattle.acredact.proofs.Redactions.{some_of}
 
@@ -71,7 +71,7 @@ module _ {R W E : Type 0} {Reads : Readers R} (Writes : Writers W) (K : SinkGhos
   pub files_memory : (streams : Streams R W E Reads) → FilesOutcome Writes K work (Err Memory) streams streams
   files_memory streams = record {
     done = tt;
-    cut = ([], (cut_none work some work.names _ _, tells_none K streams.errors));
+    cut = ([], (cut_none work some work.names _ _, tells-nothing K streams.errors));
     quiet = λ (is : Err Memory ≡ Ok true). absurd (cc);
     fails = record { write_failed = refl; took_nothing = refl; only = tt };
   }
