@@ -21,7 +21,7 @@ use Rattle.tool_parts.specs.declared.errors.Errors.{Errors}
 use Rattle.tool_parts.specs.declared.reason.Reason.{Reason}
 use Rattle.tool_parts.proofs.Tellings.{tells-later, tells-nothing}
 use Rattle.acredact.specs.Faults.{IsOutputEnd}
-use Rattle.acredact.specs.Files.{AreCut, AreDone, AreRedacted, FileOutcome, FilesOutcome, IsDone, ToldOutcome, Work, are_none, unread_line}
+use Rattle.acredact.specs.Files.{AreCut, AreDone, AreRedacted, FileOutcome, FilesOutcome, ToldOutcome, Work, are_none, unread_line}
 use Rattle.acredact.specs.Messages.{output_line}
 use Rattle.acredact.specs.declared.streams.Streams.{Streams}
 
@@ -63,15 +63,6 @@ module _ (work : Work) where
   done_kept [] lines left left' held mid held' done kept = (done.0, done.1, Keeps-trans held mid held' done.2 kept)
   done_kept (name ∷ names) lines left left' held mid held' (first, rest, are, between, meanwhile, is, others) kept =
       (first, rest, are, between, meanwhile, is, done_kept names rest between left' meanwhile mid held' others kept)
-
-  -- a file, and then others
-  pub done_more : (name : List ℕ) (names first rest : List (List ℕ)) (left between left' held meanwhile held' : Option (List ℕ))
-      → IsDone work name first left between held meanwhile → AreDone work names rest between left' meanwhile held' → AreDone work (name ∷ names) (first ++ rest) left left' held held'
-  done_more name names first rest left between left' held meanwhile held' is others = (first, rest, refl, between, meanwhile, is, others)
-
-  pub cut_more : (name : List ℕ) (names first rest : List (List ℕ)) (left between left' held meanwhile held' : Option (List ℕ))
-      → IsDone work name first left between held meanwhile → AreCut work names rest between left' meanwhile held' → AreCut work (name ∷ names) (first ++ rest) left left' held held'
-  cut_more name names first rest left between left' held meanwhile held' is others = inr (first, rest, refl, between, meanwhile, is, others)
 
 write_ends : (error : StreamError) → IsWriteRefusal error → IsOutputEnd error
 write_ends (Write fault) is = tt
@@ -117,9 +108,9 @@ module _ {R W E : Type 0} {Reads : Readers R} (Writes : Writers W) (K : SinkGhos
         told = subst (TellsBytes K old.errors new.errors) (sym (concat_both so.lines first)) (tells-later K so.told tells);
         quiet = λ ends. let parts = both_so all whole both is ends in told.quiet (ap Ok parts.1) ∙ so.quiet parts.0;
         done = λ more left held rests. subst (λ (l : List (List ℕ)). AreDone work names l (bytes_left old.input) left (output_bytes Writes old.output) held) (sym (append_assoc so.lines first more))
-            (so.done (first ++ more) left held (done_more work name rest first more _ _ left _ _ held done rests));
+            (so.done (first ++ more) left held (first, more, refl, bytes_left new.input, output_bytes Writes new.output, done, rests));
         cut = λ more left held rests. subst (λ (l : List (List ℕ)). AreCut work names l (bytes_left old.input) left (output_bytes Writes old.output) held) (sym (append_assoc so.lines first more))
-            (so.cut (first ++ more) left held (cut_more work name rest first more _ _ left _ _ held done rests));
+            (so.cut (first ++ more) left held (inr (first, more, refl, bytes_left new.input, output_bytes Writes new.output, done, rests)));
         failures = told.fails.write_failed ∙ so.failures;
         empty_writes = told.fails.took_nothing ∙ so.empty_writes;
       }

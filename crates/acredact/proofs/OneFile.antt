@@ -169,9 +169,6 @@ begun_nothing Begins none left held = record {
   written = Appends-nil held;
 }
 
-begun_none : (r : Redactor) → 1 ≤ shortest (map length r.patterns.words) → (left held : Option (List ℕ)) → BeginsText r left left held held
-begun_none r some = begun_nothing (BeginsRedaction r) (begins_nothing r some [] false)
-
 -- the file of a name is that of the input, or of the folder
 pub of_input : (holds : List ℕ → Option (List ℕ)) (name : List ℕ) (Reads : Option (List ℕ) → Option (List ℕ) → Type 0) (left left' : Option (List ℕ)) → is_input name ≡ true
     → Reads left left' → OfName holds name Reads left left'
@@ -231,4 +228,5 @@ module _ (work : Work) (name : List ℕ) (left left' held held' : Option (List �
 
 -- nothing was read and written of any
 pub named_none : (work : Work) → 1 ≤ shortest (map length work.redactor.patterns.words) → (name : List ℕ) (left held : Option (List ℕ)) → BeginsNamed work name left left held held
-named_none work some name left held = name_unread work.holds name (λ l l'. BeginsText work.redactor l l' held held) left (λ l. begun_none work.redactor some l held)
+named_none work some name left held =
+    name_unread work.holds name (λ l l'. BeginsText work.redactor l l' held held) left (λ l. begun_nothing (BeginsRedaction work.redactor) (begins_nothing work.redactor some [] false) l held)
