@@ -36,7 +36,7 @@ use Rattle.acredact.specs.declared.summary.Volume.{Volume}
 use Rattle.acredact.proofs.Counted.{has_counted, no_more}
 use Rattle.acredact.proofs.Covered.{few_from}
 use Rattle.acredact.proofs.Metering.{consumes_settled, metered_added}
-use Rattle.acredact.proofs.OneFile.{known_read, name_unread, of_folder, of_input}
+use Rattle.acredact.proofs.OneFile.{known_read, name_unread, of_folder}
 use Rattle.acredact.proofs.Redactions.{some_of}
 use Rattle.acredact.proofs.Runs.{sums_few}
 
@@ -152,22 +152,11 @@ numbers_of S source source' counts counts' settled whole start bytes bytes' give
 pub numbers_there : {R : Type 0} (S : SourceGhosts R) (source there there' : R) (counts counts' : List ℕ) (bytes bytes' : ℕ) → there ≡ there' → NumbersGiven S source there counts counts' bytes bytes' → NumbersGiven S source there' counts counts' bytes bytes'
 numbers_there S source there there' counts counts' bytes bytes' same numbers = subst (λ s. NumbersGiven S source s counts counts' bytes bytes') same numbers
 
-pub numbers_text : {R : Type 0} (S : SourceGhosts R) (source source' : R) (before : Option (List ℕ)) (counts counts' : List ℕ) (bytes bytes' : ℕ) → S.remaining source ≡ before
-    → NumbersGiven S source source' counts counts' bytes bytes' → NumbersRead counts counts' bytes bytes' before (S.remaining source')
-numbers_text S source source' before counts counts' bytes bytes' left numbers = record {
-  given = numbers.given;
-  read = subst (λ l. Consumes l (S.remaining source') numbers.given) left numbers.gives.bytes;
-  counted = numbers.counted;
-  added = numbers.added;
-}
-
-module _ (holds : List ℕ → Option (List ℕ)) (name : List ℕ) (left left' : Option (List ℕ)) (counts counts' : List ℕ) (bytes bytes' : ℕ) where
-  pub input_numbers : is_input name ≡ true → NumbersRead counts counts' bytes bytes' left left' → NumbersOfName counts counts' bytes bytes' holds name left left'
-  input_numbers is numbers = of_input holds name (NumbersRead counts counts' bytes bytes') left left' is numbers
-
-  pub opened_numbers : is_input name ≡ false → left' ≡ left → (opened rest : Option (List ℕ)) → Keeps (holds name) opened → NumbersRead counts counts' bytes bytes' opened rest → NumbersOfName counts counts' bytes bytes' holds name left left'
-  opened_numbers is same opened rest kept numbers = of_folder holds name (NumbersRead counts counts' bytes bytes') left left' is same rest
-      (record { given = numbers.given; read = known_read (holds name) opened rest numbers.given kept numbers.read; counted = numbers.counted; added = numbers.added })
+-- the numbers of a file that the folder opened
+pub opened_numbers : (holds : List ℕ → Option (List ℕ)) (name : List ℕ) (left left' : Option (List ℕ)) (counts counts' : List ℕ) (bytes bytes' : ℕ) → is_input name ≡ false → left' ≡ left → (opened rest : Option (List ℕ)) → Keeps (holds name) opened
+    → NumbersRead counts counts' bytes bytes' opened rest → NumbersOfName counts counts' bytes bytes' holds name left left'
+opened_numbers holds name left left' counts counts' bytes bytes' is same opened rest kept numbers = of_folder holds name (NumbersRead counts counts' bytes bytes') left left' is same rest
+    (record { given = numbers.given; read = known_read (holds name) opened rest numbers.given kept numbers.read; counted = numbers.counted; added = numbers.added })
 
 -- nothing was read and nothing has grown
 read_nothing : (counts : List ℕ) (bytes : ℕ) (left : Option (List ℕ)) → NumbersRead counts counts bytes bytes left left

@@ -28,7 +28,7 @@ use Rattle.aho_automaton.specs.declared.automaton.Automaton.{Ghosts}
 use Rattle.aho_stream.specs.Refills.{is_limit}
 use Rattle.aho_stream.specs.Replacing.{MayBe, SourceGave}
 use Rattle.aho_stream.proofs.Called.{CalledOnFirst, stream_calls}
-use Rattle.aho_stream.specs.StreamRun.{CallsOn, CanBegin, RefusesUntouched, RunsAndLeaves, RunsLent, RunsOver, SinkTakes}
+use Rattle.aho_stream.specs.StreamRun.{CallsOn, CanBegin, RunsAndLeaves, RunsLent, RunsOver, SinkTakes}
 use Rattle.tool_parts.proofs.Beginnings.{beginning-later, beginning-more}
 use Rattle.acredact.specs.Faults.{IsStreamEnd}
 use Rattle.acredact.specs.Secrets.{BeginsRedaction, Redactor}
@@ -65,13 +65,10 @@ record Takes {W : Type 0} (K : SinkGhosts W) (stopped : Bool) (result : Result (
   only : IfErr result (IsRunError stopped)
 
 module _ {W : Type 0} (K : SinkGhosts W) (stopped : Bool) where
-  of_error : (error : StreamError) → MatchBool stopped (IsFillRefusal error) (IsWriteRefusal error) → IsRunError stopped error
-  of_error error is = inl is
-
   takes_sink : (old : W) (bytes : List ℕ) (result : Result (Unit {0}) StreamError) (new : W) → SinkTakes K stopped old bytes result new → Takes K stopped result old new bytes
   takes_sink old bytes (Ok x) new takes = record { whole = takes.whole; beginning = tt; write_failed = takes.write_failed; took_nothing = takes.took_nothing; only = tt }
   takes_sink old bytes (Err error) new takes =
-      record { whole = tt; beginning = takes.beginning; write_failed = takes.write_failed; took_nothing = takes.took_nothing; only = of_error error takes.only }
+      record { whole = tt; beginning = takes.beginning; write_failed = takes.write_failed; took_nothing = takes.took_nothing; only = inl takes.only }
 
   takes_piece : (old : W) (piece : List ℕ) (error : StreamError) (new : W) → WritesPiece K (Err error) old new piece → Takes K stopped (Err error) old new piece
   takes_piece old piece error new writes =
@@ -285,17 +282,6 @@ module _ {A R W F : Type 0} (G : Ghosts A) (S : SourceGhosts R) (K : SinkGhosts 
       (λ covers. absurd (no_cover r plain covers)) (record { read_failed = refl; write_failed = refl; took_nothing = refl })
       (λ (met : false ≡ true). absurd (cc)) tt
 
-  no_memory : (result : Result (Unit {0}) StreamError) → RefusesUntouched result Memory source source' sink sink' → StreamOutcome S K r result source source' sink sink'
-  no_memory result refused = rw (refused.0, refused.1, refused.2) untouched
-
-  -- whatever is answered, where the closure is lent
-  lent_of : (result : Result (Unit {0}) StreamError) (last : F) → (CanBegin G automaton → RunsLent S K (G.is_of automaton) calls source source' closure sink result last sink') → StreamOutcome S K r result source source' sink sink'
-  lent_of result last runs =
-      elim (runs can) [
-        | inl memory ↦ no_memory result memory.0
-        | inr over ↦ ran result (over_lent over)
-      ]
-
   -- and what was counted
   module _ (last : F) (name_of : F → ℕ) (counts_of : F → List ℕ)
       (counts : (f : F) (m : Occurrence) (matched : List ℕ) (old : W) (answer : Result (Unit {0}) StreamError) (next : F) (new : W) → CalledOn calls f m matched old answer next new
@@ -330,4 +316,10 @@ module _ {A R W F : Type 0} (G : Ghosts A) (S : SourceGhosts R) (K : SinkGhosts 
     -- whatever is answered
     pub lent_does : (result : Result (Unit {0}) StreamError) → (CanBegin G automaton → RunsLent S K (G.is_of automaton) calls source source' closure sink result last sink')
         → StreamOutcome S K r result source source' sink sink' × OnOk result Counted
-    lent_does result runs = (lent_of result last runs, lent_counts result runs)
+    lent_does result runs = (
+      elim (runs can) [
+        | inl memory ↦ rw (memory.0.0, memory.0.1, memory.0.2) untouched
+        | inr over ↦ ran result (over_lent over)
+      ],
+      lent_counts result runs,
+    )

@@ -28,7 +28,7 @@ use Rattle.secret_forms.specs.declared.form.Form.{Form}
 use Rattle.secret_forms.specs.declared.form.Form.TheVariants.{Base64, Hex, Url, Json, Xml, Shell, Lines}
 use Rattle.acredact.specs.Files.{AreRedacted, RedactsText, Work, WritesText}
 use Rattle.acredact.specs.Forms.{AskedForms, HideSecrets, HidesNestedForm, HidesSecret, filled, form_secret, forms_from, forms_of, once_patterns, asked_form_patterns, twice_patterns, with_forms}
-use Rattle.acredact.specs.Hidden.{AreHidden, HidesForms, NoneShows, NoneShowsOnce, NoneShowsTwice, ShowsBits, SpellsEach, ShowsForm, SpellsForm}
+use Rattle.acredact.specs.Hidden.{AreHidden, HidesForms, NoneShowsOnce, NoneShowsTwice, ShowsBits, SpellsEach, ShowsForm, SpellsForm}
 use Rattle.acredact.specs.Secrets.{NoByteIsKept, NoneIsWhole, Redactor}
 use Rattle.acredact.specs.Tables.{Secret, patterns_in}
 use Rattle.aho_cover.specs.Pieces.{PieceRule}
@@ -177,17 +177,15 @@ module _ (asked : AskedForms) (secrets : List Secret) (r : Redactor) (covers : r
       (Contains-append_right (once_patterns asked.forms secret.pattern) (flat_map (twice_patterns secret.pattern) asked.nested) pattern (Contains-flat_map (twice_patterns secret.pattern) asked.nested one pattern nested_there among)))
       (form_hidden patterns made text place one.outer (All-contains (HidesNested patterns one.outer) (form_patterns secret.pattern one.inner) made law of) shows)
 
-  none_shows : (text : List ℕ) (ranges : List Occurrence) → NoByteIsKept r text ranges → NoneShows asked secrets text ranges
-  none_shows text ranges kept = record { once = none_once text ranges kept; twice = none_twice text ranges kept }
-
   text_hidden : (left left' held held' : Option (List ℕ)) → RedactsText r left left' held held' → WritesText (HidesForms asked secrets r) left left' held held'
   text_hidden left left' held held' of =
       let is = of.redacts in
+      let kept : NoByteIsKept r of.text is.ranges = subst (λ (b : Bool). MatchBool b (NoByteIsKept r of.text is.ranges) (NoneIsWhole r.patterns of.text is.ranges)) covers is.safe in
       record {
         text = of.text;
         reads = of.reads;
         redaction = of.redaction;
-        redacts = record { redacts = is; none = none_shows of.text is.ranges (subst (λ (b : Bool). MatchBool b (NoByteIsKept r of.text is.ranges) (NoneIsWhole r.patterns of.text is.ranges)) covers is.safe) };
+        redacts = record { redacts = is; none = record { once = none_once of.text is.ranges kept; twice = none_twice of.text is.ranges kept } };
         written = of.written;
       }
 

@@ -41,7 +41,7 @@ use Rattle.acredact.specs.Pseudonyms.{pseudonym_rule}
 use Rattle.acredact.specs.Secrets.{AreCleanBy, AreReplaced, BeginsRedaction, CountsFor, IsRedaction, Keyed, NoByteIsKept, NoneIsWhole, NoneOccurs, Redactor, rule_by, rule_of}
 use Rattle.acredact.specs.Streams.{ReachesStream, RedactsStream, StartsStream, StreamOutcome}
 use Rattle.acredact.specs.Totals.{CountsOfStream, DoesStream}
-use Rattle.acredact.proofs.Covered.{none_left}
+use Rattle.acredact.proofs.Covered.{touched_from}
 use Rattle.acredact.proofs.MadeClean.{made-free}
 use Rattle.acredact.proofs.NoneSpelled.{pseudonyms_clean}
 
@@ -65,7 +65,7 @@ module _ (r : Redactor) (text : List ℕ) where
   safe_by : (covers : Bool) (ranges : List Occurrence) → 1 ≤ shortest (map length r.patterns.words) → MatchBool covers (AreRunsOf (CountsFor r text) ranges) (AreFinds r.patterns (plain_search text) None ranges)
       → MatchBool covers (NoByteIsKept r text ranges) (NoneIsWhole r.patterns text ranges)
   safe_by true ranges some found = runs_hide ranges found
-  safe_by false ranges some found = none_left r.patterns some text ranges found
+  safe_by false ranges some found = record { touched = λ o occurs. touched_from r.patterns some text ranges 0 None found o occurs }
 
   ranges_exist : (covers : Bool) → (ranges : List Occurrence) × MatchBool covers (AreRunsOf (CountsFor r text) ranges) (AreFinds r.patterns (plain_search text) None ranges)
   ranges_exist true = (all_runs r.words r.patterns text, all-made r.patterns text r.words)

@@ -34,17 +34,13 @@ use Rattle.acredact.proofs.OneFile.{named_none}
 use Rattle.acredact.proofs.Redactions.{some_of}
 
 module _ {A : Type 0} (G : Ghosts A) where
-  -- a cover counts what it was asked to
-  pub begun_as : (automaton : A) (progress : CoverProgress) (words : Bool) → IsUnbegunWith words G automaton progress → IsUnbegunWith progress.words G automaton progress
-  begun_as automaton progress words unbegun = subst (λ (b : Bool). IsUnbegunWith b G automaton progress) (sym unbegun.chosen) unbegun
-
-  -- it is as before after a stream
+  -- a cover is as before after a stream
   pub covering_still : (automaton automaton' : A) (progress progress' : CoverProgress) (rule rule' : PieceRule) (r : Redactor) → automaton' ≡ automaton → rule' ≡ rule
       → IsUnbegunWith progress.words G automaton' progress' → IsCovering G automaton progress rule r → IsCovering G automaton' progress' rule' r
   covering_still automaton automaton' progress progress' rule rule' r same alike unbegun is = record {
     coverer = subst (λ (a : A). IsCoverer G a progress'.words rule' r) (sym same)
         (record { of = is.coverer.of; covers = is.coverer.covers; chosen = is.coverer.chosen ∙ sym unbegun.chosen; is = is.coverer.is ∙ sym alike });
-    unbegun = begun_as automaton' progress' progress.words unbegun;
+    unbegun = rw unbegun.chosen unbegun;
   }
 
   -- by a standard automaton without empty patterns no cover is refused

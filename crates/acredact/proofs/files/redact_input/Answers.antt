@@ -1,6 +1,7 @@
 -- The input is read to its end.
 use Rattle.std.proofs.Common.{◌≢◌, ap, sym, subst, ◌∙◌, Option}
 use Rattle.std.specs.Prelude.{Bool, Result}
+use Rattle.std.specs.Io.KnownBytes.{Consumes}
 use Rattle.std.proofs.lemmas.Result.{IfErr-weaker, on_ok_weaker}
 use Rattle.aho_core.specs.declared.error.stream.StreamError.{StreamError}
 use Rattle.aho_devices.specs.Counts.{counted}
@@ -9,7 +10,6 @@ use Rattle.tool_parts.proofs.Ends.{at_end}
 use Rattle.tool_parts.specs.declared.reason.Reason.{Reason}
 use Rattle.acredact.specs.Faults.{is_unread}
 use Rattle.acredact.specs.Files.{TextDone}
-use Rattle.acredact.proofs.Bounded.{numbers_text}
 use Rattle.acredact.proofs.OneFile.{at_ok, begins_of, outcome_by, reaches_of, reading_unread, reading_whole, text_of}
 use Rattle.acredact.proofs.Metering.{text_bytes}
 use Rattle.acredact.proofs.Totals.{text_counts}
@@ -32,7 +32,9 @@ returns g c =
           (λ covers. IfErr-weaker run.result _ _ (λ error up fills. reaches_of _ _ _ _ _ _ _ _ left none ends (up fills)) (stream.near covers)) stream.errors.write_failed stream.errors.took_nothing stream.only);
       counted = λ whole red by. text_counts _ red _ _ _ _ _ left none ends (at_ok run.result (reading_whole run.result (sym done ∙ whole)) (run.ensures.done red by).counted);
       read = λ whole. text_bytes _ _ _ _ _ _ left none ends (at_ok run.result (reading_whole run.result (sym done ∙ whole)) run.ensures.read);
-      most = numbers_text _ _ _ _ _ _ _ _ left run.ensures.most;
+      most =
+          let most = run.ensures.most in
+          record { given = most.given; read = subst (λ l. Consumes l (bytes_left run.new.input) most.given) left most.gives.bytes; counted = most.counted; added = most.added };
       files = run.ensures.files;
       still = run.ensures.still;
       failed =
