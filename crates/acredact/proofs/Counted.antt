@@ -34,7 +34,7 @@ use Rattle.acredact.specs.Faults.{IsStreamEnd}
 use Rattle.acredact.specs.Secrets.{BeginsRedaction, Redactor}
 use Rattle.acredact.specs.Streams.{StreamOutcome, WritesPiece}
 use Rattle.acredact.specs.Totals.{CountsOfStream}
-use Rattle.acredact.proofs.Redactions.{begins_by, begins_nothing, comes_of, no_cover, of_finds, redacted, redacted_alike, redaction_by, some_of, to_finds}
+use Rattle.acredact.proofs.Redactions.{begins_by, begins_nothing, comes_of, no_cover, of_way, redacted, redacted_alike, redaction_by, some_of, to_way}
 
 -- an error of a run: of the reading where it stopped, or of a write
 abbrev IsRunError : Bool → StreamError → Type 0
@@ -202,7 +202,7 @@ module _ (r : Redactor) (plain : r.covers ≡ false) (unkeyed : r.key ≡ None) 
       let one = each given finds.0 (no_more given ended) finds.1 in
       let part = take one.0 (replaced given finds.0 r.pieces) in (
         part,
-        begins_by r some given ended part (λ bytes ms may found. let other = each bytes ms may (to_finds r plain bytes ms found) in
+        begins_by r some given ended part (λ bytes ms may found. let other = each bytes ms may (to_way r false plain bytes ms found) in
             subst (λ (all : List ℕ). StartsWith all part) (sym (redacted_alike r unkeyed bytes ms)) (same_beginning old new part (replaced bytes ms r.pieces) other.0 one.2 other.1 other.2)),
         one.2,
       )
@@ -243,7 +243,7 @@ module _ {A R W F : Type 0} (G : Ghosts A) (S : SourceGhosts R) (K : SinkGhosts 
         text = over.given;
         gives = subst (SourceGave S source source' over.given) over.whole over.gives;
         redaction = redacted r over.given ms;
-        redacts = redaction_by r some_one over.given ms (of_finds r plain over.given ms found);
+        redacts = redaction_by r some_one over.given ms (of_way r false plain over.given ms found);
         written = subst (Appends (K.taken sink) (K.taken sink')) (sym (redacted_alike r unkeyed over.given ms)) taken.whole;
       })
       tt (λ covers. tt)
@@ -300,7 +300,7 @@ module _ {A R W F : Type 0} (G : Ghosts A) (S : SourceGhosts R) (K : SinkGhosts 
             text = over.given;
             gives = subst (SourceGave S source source' over.given) over.whole over.gives;
             ranges = finds.0;
-            found = of_finds r plain over.given finds.0 finds.1;
+            found = of_way r false plain over.given finds.0 finds.1;
             counted = subst (λ (ms : List Occurrence). CountsThese ms (counts_of closure) (counts_of last)) (sym all) first.holds.1;
           },
         )

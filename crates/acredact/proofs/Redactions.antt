@@ -71,18 +71,15 @@ module _ (r : Redactor) (text : List ℕ) where
   ranges_exist true = (all_runs r.words r.patterns text, all-made r.patterns text r.words)
   ranges_exist false = finds-exist r.patterns (plain_search text) None (le_refl (length text))
 
--- what is replaced where there is no cover, and where there is one
-pub of_finds : (r : Redactor) → r.covers ≡ false → (text : List ℕ) (ms : List Occurrence) → AreFinds r.patterns (plain_search text) None ms → AreReplaced r text ms
-of_finds r plain text ms found = subst (λ (b : Bool). MatchBool b (AreRunsOf (CountsFor r text) ms) (AreFinds r.patterns (plain_search text) None ms)) (sym plain) found
+-- what is replaced where there is a cover, or where there is none
+abbrev AreBy : Redactor → Bool → List ℕ → List Occurrence → Type 0
+AreBy r covers text ranges = MatchBool covers (AreRunsOf (CountsFor r text) ranges) (AreFinds r.patterns (plain_search text) None ranges)
 
-pub to_finds : (r : Redactor) → r.covers ≡ false → (text : List ℕ) (ms : List Occurrence) → AreReplaced r text ms → AreFinds r.patterns (plain_search text) None ms
-to_finds r plain text ms found = subst (λ (b : Bool). MatchBool b (AreRunsOf (CountsFor r text) ms) (AreFinds r.patterns (plain_search text) None ms)) plain found
+pub of_way : (r : Redactor) (covers : Bool) → r.covers ≡ covers → (text : List ℕ) (ranges : List Occurrence) → AreBy r covers text ranges → AreReplaced r text ranges
+of_way r covers is text ranges found = subst (λ (b : Bool). AreBy r b text ranges) (sym is) found
 
-of_runs : (r : Redactor) → r.covers ≡ true → (text : List ℕ) (ms : List Occurrence) → AreRunsOf (CountsFor r text) ms → AreReplaced r text ms
-of_runs r covers text ms found = subst (λ (b : Bool). MatchBool b (AreRunsOf (CountsFor r text) ms) (AreFinds r.patterns (plain_search text) None ms)) (sym covers) found
-
-to_runs : (r : Redactor) → r.covers ≡ true → (text : List ℕ) (ms : List Occurrence) → AreReplaced r text ms → AreRunsOf (CountsFor r text) ms
-to_runs r covers text ms found = subst (λ (b : Bool). MatchBool b (AreRunsOf (CountsFor r text) ms) (AreFinds r.patterns (plain_search text) None ms)) covers found
+pub to_way : (r : Redactor) (covers : Bool) → r.covers ≡ covers → (text : List ℕ) (ranges : List Occurrence) → AreReplaced r text ranges → AreBy r covers text ranges
+to_way r covers is text ranges found = subst (λ (b : Bool). AreBy r b text ranges) is found
 
 -- a text with ranges replaced
 abbrev pub redacted : Redactor → List ℕ → List Occurrence → List ℕ
@@ -107,7 +104,7 @@ module _ (r : Redactor) (some : 1 ≤ shortest (map length r.patterns.words)) wh
     found = found;
     safe = safe_by r text r.covers ranges some found;
     is = refl;
-    clean = λ covers all are m. clean_by r.key r.patterns r.pieces are text ranges (plain_runs r text ranges all (to_runs r covers text ranges found)) m;
+    clean = λ covers all are m. clean_by r.key r.patterns r.pieces are text ranges (plain_runs r text ranges all (to_way r true covers text ranges found)) m;
   }
 
   -- what begins the replacement of each text that may come begins its redaction
@@ -171,7 +168,7 @@ module _ {R W : Type 0} (S : SourceGhosts R) (K : SinkGhosts W) (r : Redactor) (
         text = whole.given;
         gives = whole.gives;
         redaction = redacted r whole.given finds.0;
-        redacts = redaction_by r some whole.given finds.0 (of_finds r plain whole.given finds.0 finds.1);
+        redacts = redaction_by r some whole.given finds.0 (of_way r false plain whole.given finds.0 finds.1);
         written = subst (Appends (K.taken sink) (K.taken sink')) (sym (redacted_alike r unkeyed whole.given finds.0)) (whole.writes r.patterns finds.0 of finds.1);
       }
 
@@ -182,7 +179,7 @@ module _ {R W : Type 0} (S : SourceGhosts R) (K : SinkGhosts W) (r : Redactor) (
     gives = begun.gives;
     part = begun.written;
     begins = begins_by r some begun.given begun.ended begun.written (λ text ms may found.
-        subst (λ (bytes : List ℕ). StartsWith bytes begun.written) (sym (redacted_alike r unkeyed text ms)) (begun.beginning r.patterns text ms of may (to_finds r plain text ms found)));
+        subst (λ (bytes : List ℕ). StartsWith bytes begun.written) (sym (redacted_alike r unkeyed text ms)) (begun.beginning r.patterns text ms of may (to_way r false plain text ms found)));
     written = begun.writes;
   }
 
@@ -236,7 +233,7 @@ module _ {R W : Type 0} (S : SourceGhosts R) (K : SinkGhosts W) (r : Redactor) (
         text = whole.given;
         gives = whole.gives;
         redaction = whole.output;
-        redacts = subst (IsRedaction r whole.given) (sym cover.2) (redaction_by r some whole.given cover.0 (of_runs r covers whole.given cover.0 cover.1));
+        redacts = subst (IsRedaction r whole.given) (sym cover.2) (redaction_by r some whole.given cover.0 (of_way r true covers whole.given cover.0 cover.1));
         written = whole.writes;
       }
 
@@ -247,7 +244,7 @@ module _ {R W : Type 0} (S : SourceGhosts R) (K : SinkGhosts W) (r : Redactor) (
     gives = begun.gives;
     part = begun.written;
     begins = begins_by r some begun.given begun.ended begun.written
-        (λ text runs may found. begun.beginning r.patterns text (redacted r text runs) of may (runs, to_runs r covers text runs found, refl));
+        (λ text runs may found. begun.beginning r.patterns text (redacted r text runs) of may (runs, to_way r true covers text runs found, refl));
     written = begun.writes;
   }
 
@@ -259,7 +256,7 @@ module _ {R W : Type 0} (S : SourceGhosts R) (K : SinkGhosts W) (r : Redactor) (
     place = up.place;
     within = up.within;
     prompt = λ at behind before out. up.prompt r.patterns at of behind before out;
-    written = λ text ranges may found. up.writes r.patterns text ranges of may (to_runs r covers text ranges found);
+    written = λ text ranges may found. up.writes r.patterns text ranges of may (to_way r true covers text ranges found);
   }
 
   -- what a cover counts
@@ -267,7 +264,7 @@ module _ {R W : Type 0} (S : SourceGhosts R) (K : SinkGhosts W) (r : Redactor) (
   runs_counted counts counts' whole =
       let runs = all_runs r.words r.patterns whole.given in
       let are = all-made r.patterns whole.given r.words in
-      record { text = whole.given; gives = whole.gives; ranges = runs; found = of_runs r covers whole.given runs are; counted = whole.counted r.patterns runs of are }
+      record { text = whole.given; gives = whole.gives; ranges = runs; found = of_way r true covers whole.given runs are; counted = whole.counted r.patterns runs of are }
 
   pub does_cover : (result : Result (Unit {0}) StreamError) (counts counts' : List ℕ) → LeavesCoveredWith S K AreSearched r.words (rule_of r) source source' sink sink' result
       → OnOk result (CountsRunsWith S AreSearched r.words source source' counts counts') → CountsErrors S K source source' sink sink' result → IfErr result IsStreamFault
