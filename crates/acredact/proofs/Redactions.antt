@@ -72,7 +72,7 @@ module _ (r : Redactor) (text : List ℕ) where
   ranges_exist false = finds-exist r.patterns (plain_search text) None (le_refl (length text))
 
 -- what is replaced where there is a cover, or where there is none
-abbrev AreBy : Redactor → Bool → List ℕ → List Occurrence → Type 0
+abbrev pub AreBy : Redactor → Bool → List ℕ → List Occurrence → Type 0
 AreBy r covers text ranges = MatchBool covers (AreRunsOf (CountsFor r text) ranges) (AreFinds r.patterns (plain_search text) None ranges)
 
 pub of_way : (r : Redactor) (covers : Bool) → r.covers ≡ covers → (text : List ℕ) (ranges : List Occurrence) → AreBy r covers text ranges → AreReplaced r text ranges
