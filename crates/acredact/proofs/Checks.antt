@@ -21,7 +21,7 @@ use Rattle.acredact.specs.Failures.{IsFailureLine}
 use Rattle.acredact.specs.Faults.{IsReadReason}
 use Rattle.acredact.specs.Files.{are_none, unread_line}
 use Rattle.acredact.specs.Loading.{AreGiven, CannotLoadAll}
-use Rattle.acredact.specs.Looks.{IsLook, HoldsNoMatch, is_found, is_unread_look, verdict_with}
+use Rattle.acredact.specs.Looks.{IsLook, HoldsNoMatch, both_seen, is_found, is_unread_look, verdict_of}
 use Rattle.acredact.specs.Reads.{OfName}
 use Rattle.acredact.specs.Secrets.{Redactor}
 use Rattle.acredact.specs.Statuses.{check_status}
@@ -31,7 +31,7 @@ use Rattle.acredact.specs.declared.failure.Failure.{Failure}
 use Rattle.acredact.specs.declared.look.Look.{Look}
 use Rattle.acredact.specs.declared.look.Look.TheVariants.{Clean, Found, Unread}
 use Rattle.acredact.specs.declared.look.Verdict.{Verdict}
-use Rattle.acredact.proofs.Calls.{tells_same}
+use Rattle.acredact.proofs.Calls.{none_are, tells_same}
 use Rattle.acredact.proofs.Done.{concat_both, tells_none}
 use Rattle.acredact.proofs.OneFile.{known_read, of_folder, of_input}
 use Rattle.acredact.proofs.Warned.{all_members, tells_both}
@@ -95,7 +95,7 @@ module _ {E : Type 0} (K : SinkGhosts E) (quest : Quest) (names : List (List ℕ
 
   -- one more
   pub seen_more : (name : List ℕ) (rest : List (List ℕ)) (verdict : Verdict) (look : Look) (left left' : Option (List ℕ)) (mid new : Errors E) → SeenSoFar (name ∷ rest) verdict left mid → IsLookOf quest name look left left'
-      → TellsBytes K mid new (concat (look_lines name look)) → (is_unread_look look ≡ false → new ≡ mid) → SeenSoFar rest (verdict_with verdict look) left' new
+      → TellsBytes K mid new (concat (look_lines name look)) → (is_unread_look look ≡ false → new ≡ mid) → SeenSoFar rest (both_seen verdict (verdict_of look)) left' new
   seen_more name rest verdict look left left' mid new so looks told quiet = record {
     lines = so.lines ++ look_lines name look;
     is_all = none_more so.lines name look verdict.all so.is_all;
@@ -139,10 +139,6 @@ seen_none K quest names errors left = record {
   among = λ name is. is;
   seen = λ found more left' seen. seen;
 }
-
--- nothing was looked at
-pub seen_refused : {E X : Type 0} (K : SinkGhosts E) (quest : Quest) (names : List (List ℕ)) (error : X) (left left' : Option (List ℕ)) (errors : Errors E) → SeesFiles K quest names (Err error) left left' errors errors
-seen_refused K quest names error left left' errors = record { seen = tt; quiet = tt; told = tells_same K (IsUnreadLine names) errors errors refl }
 
 -- what is seen of files stays so, with another error
 pub seen_fails : {E X Y : Type 0} (K : SinkGhosts E) (quest quest' : Quest) (names names' : List (List ℕ)) (error : X) (other : Y) (left left' : Option (List ℕ)) (errors errors' : Errors E) → names ≡ names'
@@ -195,11 +191,6 @@ pub check_load_fails : (call : Call) (failure : Failure) → CannotLoadAll (read
 check_load_fails call failure (inl one) = inr (inl one)
 check_load_fails call failure (inr memory) = inr (inr (inr (inl memory)))
 
--- no lines are none
-are_nothing : (lines : List (List ℕ)) → true ≡ are_none lines → lines ≡ []
-are_nothing [] none = refl
-are_nothing (line ∷ lines) none = absurd (cc)
-
 module _ {E : Type 0} (K : SinkGhosts E) (call : Call) (left left' : Option (List ℕ)) (old : Errors E) where
   -- what is told of patterns of lists is one line of a check after another
   lists_tell : (secrets : List Secret) (between : Option (List ℕ)) (new : Errors E) → AreGiven (reading_by call) call.given secrets left between → (strict : Bool) → has Strict call.given ≡ strict
@@ -246,7 +237,7 @@ module _ {E : Type 0} (K : SinkGhosts E) (call : Call) (left left' : Option (Lis
       let (lines, is_all, looks) = of.seen in
       record {
         unmatched = λ (is : 1 ≡ 0). absurd (omega arith);
-        matched = λ is. subst (λ (l : List (List ℕ)). SeesCall call true l left left') (are_nothing lines is_all) looks.sees;
+        matched = λ is. subst (λ (l : List (List ℕ)). SeesCall call true l left left') (none_are lines (sym is_all)) looks.sees;
         quiet = λ less. of.quiet refl;
         tells = λ (is : 1 ≡ 2). absurd (omega arith);
         bound = omega arith;
@@ -254,7 +245,7 @@ module _ {E : Type 0} (K : SinkGhosts E) (call : Call) (left left' : Option (Lis
   status_whole false new of =
       let (lines, is_all, looks) = of.seen in
       record {
-        unmatched = λ is. unmatched_call call left left' (subst (λ (l : List (List ℕ)). SeesCall call false l left left') (are_nothing lines is_all) looks.sees);
+        unmatched = λ is. unmatched_call call left left' (subst (λ (l : List (List ℕ)). SeesCall call false l left left') (none_are lines (sym is_all)) looks.sees);
         matched = λ (is : 0 ≡ 1). absurd (omega arith);
         quiet = λ less. of.quiet refl;
         tells = λ (is : 0 ≡ 2). absurd (omega arith);

@@ -4,6 +4,7 @@ use Rattle.std.specs.Prelude.{Bool, MatchBool, Result, Ok, Err, IfOk, IsErr, OnO
 use Rattle.std.proofs.KnownBytes.{Keeps-refl}
 use Rattle.std.proofs.lemmas.List.{get_or-replicate, length-map, length-replicate}
 use Rattle.std.proofs.lemmas.List.Elements.{All-cons, All-nil}
+use Rattle.std.proofs.lemmas.Result.{IfOk-weaker}
 use Rattle.aho_core.specs.Occurrence.{Occurrence}
 use Rattle.std.specs.Borrow.{Bor}
 use Rattle.aho_cover.specs.Counting.{CountsThese, runs_named}
@@ -36,23 +37,8 @@ use Rattle.acredact.specs.declared.summary.Volume.{Volume}
 use Rattle.acredact.proofs.Calls.{tells_last, tells_same}
 use Rattle.acredact.proofs.LongLines.{long_of_runs}
 use Rattle.acredact.proofs.PlacedCalls.{tells_weaker}
-use Rattle.acredact.proofs.RuledFiles.{none_begun, some_then, some_weaker}
+use Rattle.acredact.proofs.RuledFiles.{none_begun, some_then, some_weaker, told_any, told_as}
 use Rattle.acredact.proofs.Warned.{all_members, some_behind, tells_both}
-
-abbrev done_as : Bool → Result Bool RuledFailure
-done_as all = Ok all
-
-ok_is : (a b : Bool) → done_as a ≡ done_as b → a ≡ b
-ok_is a b same = let is = same in cc
-
--- what a call answers is what its files answered
-answers_all : (all done : Bool) (result : Result Bool RuledFailure) → IfOk result (λ done. done ≡ all) → result ≡ Ok done → all ≡ done
-answers_all all done (Ok other) same is = sym same ∙ ok_is other done is
-answers_all all done (Err failure) same is = absurd (cc)
-
-on_all : {P : Type 0} (done : Bool) (result : Result Bool RuledFailure) → OnOk result P → result ≡ Ok done → P
-on_all done (Ok other) holds is = holds
-on_all done (Err failure) holds is = absurd (cc)
 
 -- counts that were zero are those of all runs
 totals_of : (last size : ℕ) (runs : List Occurrence) (zeros counts' : List ℕ) → zeros ≡ replicate size 0 → size ≡ last + 1 → CountsThese runs zeros counts' → AreTotals (last + 1) runs counts'
@@ -130,21 +116,16 @@ module _ {E : Type 0} (K : SinkGhosts E) (result : Result Bool LineError) (count
 module _ {E : Type 0} (K : SinkGhosts E) (call : Call) where
   -- it ended before a file was read
   pub ruled_early : (failure : RuledFailure) (left left' held : Option (List ℕ)) (errors errors' : Errors E) → Tells K (IsRuledTold call) errors errors' → RuledCall K call (Err failure) left left' held held errors errors'
-  ruled_early failure left left' held errors errors' told = record {
-    whole = λ (is : Err failure ≡ Ok true). absurd (cc);
-    begun = inl (Keeps-refl held);
-    tells = record { told = told; partly = λ (is : Err failure ≡ Ok false). absurd (cc) };
-    notes = λ (is : Err failure ≡ Ok true). absurd (cc);
-  }
+  ruled_early failure left left' held errors errors' told = record { whole = tt; begun = inl (Keeps-refl held); tells = record { told = told; partly = tt }; notes = tt }
 
   -- the same of what was loaded
   pub ruled_none : (load : RuledLoad) (result : Result Bool RuledFailure) (left held : Option (List ℕ)) (errors : Errors E) → IsErr result → RuledOutcome K call load result left left held held errors errors
   ruled_none load (Ok all) left held errors is = absurd (cc)
   ruled_none load (Err failure) left held errors is = record {
-    whole = λ (is : Err failure ≡ Ok true). absurd (cc);
+    whole = tt;
     begun = none_begun (ruled_by call load) (names_asked call.given) left held;
-    tells = record { told = tells_same K (IsRuledTold call) errors errors refl; partly = λ (is : Err failure ≡ Ok false). absurd (cc) };
-    notes = λ (is : Err failure ≡ Ok true). absurd (cc);
+    tells = record { told = tells_same K (IsRuledTold call) errors errors refl; partly = tt };
+    notes = tt;
   }
 
   -- doubtful patterns of lists may be told
@@ -168,13 +149,13 @@ module _ {E : Type 0} (K : SinkGhosts E) (call : Call) where
   ruled_behind load result left between left' held held' errors meanwhile errors' loaded doubted of =
       let before = all_doubts_told load.secrets errors meanwhile doubted in
       record {
-        whole = λ is. record { load = load; between = between; loaded = loaded; redacted = of.whole is };
+        whole = IfOk-weaker result _ _ (λ all whole is. record { load = load; between = between; loaded = loaded; redacted = whole is }) of.whole;
         begun = inr (record { load = load; between = between; loaded = loaded; begun = of.begun });
         tells = record {
           told = tells_both K (IsRuledTold call) errors meanwhile errors' before of.tells.told;
-          partly = λ is. some_behind K (IsRuledTold call) errors meanwhile errors' before (of.tells.partly is);
+          partly = IfOk-weaker result _ _ (λ all partly is. some_behind K (IsRuledTold call) errors meanwhile errors' before (partly is)) of.tells.partly;
         };
-        notes = λ is. record { load = load; between = between; loaded = loaded; notes = record { meanwhile = meanwhile; doubted = doubted; numbers = of.notes is } };
+        notes = IfOk-weaker result _ _ (λ all notes is. record { load = load; between = between; loaded = loaded; notes = record { meanwhile = meanwhile; doubted = doubted; numbers = notes is } }) of.notes;
       }
 
   -- how many lines were too long may be told
@@ -254,35 +235,38 @@ module _ {E : Type 0} (K : SinkGhosts E) (call : Call) where
       → (all ≡ true → ReadsVolume call.holds (names_asked call.given) no_volume volume left left')
       → TellsBytes K first second (long_told (most_asked call.given) (last_of counts')) → IfOk result (λ done. done ≡ all) → OnOk result (TellsCountsAny K call.given load counts' volume second errors')
       → Tells K (IsRunsLine call.given) second errors' → RuledOutcome K call load result left left' held held' errors errors'
-  files_done load all result size zeros counts' volume left left' held held' errors first second errors' files are sized read long same told lines =
-      let unread = λ (line : List ℕ) (is : IsUnreadLine (names_asked call.given) line). inl is in
-      let later = tells_both K (IsRuledTold call) first second errors' (long_lines (last_of counts') first second long) (counts_lines second errors' lines) in
-      record {
-        whole = λ is. files.whole (ap Ok (answers_all all true result same is));
+  files_done load all result size zeros counts' volume left left' held held' errors first second errors' files are sized read long same told lines = by result same told
+    where
+      later : Tells K (IsRuledTold call) first errors'
+      later = tells_both K (IsRuledTold call) first second errors' (long_lines (last_of counts') first second long) (counts_lines second errors' lines)
+
+      all_told : Tells K (IsRuledTold call) errors errors'
+      all_told = tells_both K (IsRuledTold call) errors first errors' (told_any K (names_asked call.given) (IsRuledTold call) (Ok all) errors first (λ line is. inl is) files.told) later
+
+      by : (result : Result Bool RuledFailure) → IfOk result (λ done. done ≡ all) → OnOk result (TellsCountsAny K call.given load counts' volume second errors') → RuledOutcome K call load result left left' held held' errors errors'
+      by (Ok done) same told = record {
+        whole = λ is. (files.whole (sym same ∙ is)).0;
         begun = files.begun;
         tells = record {
-          told = tells_both K (IsRuledTold call) errors first errors' (tells_weaker K (IsUnreadLine (names_asked call.given)) (IsRuledTold call) errors first unread files.told) later;
+          told = all_told;
           partly = λ is. some_then K (IsRuledTold call) errors first errors'
-              (some_weaker K (IsUnreadLine (names_asked call.given)) (IsRuledTold call) errors first unread (files.partly (ap Ok (answers_all all false result same is)))) later;
+              (some_weaker K (IsUnreadLine (names_asked call.given)) (IsRuledTold call) errors first (λ line unread. inl unread) (told_as K (names_asked call.given) all false errors first (sym same ∙ is) files.told)) later;
         };
         notes = λ is.
-            let whole = answers_all all true result same is in
-            numbers_of load size zeros counts' volume left left' errors second errors' are sized (files.counted (ap Ok whole)) (read whole)
-            (subst (λ (e : Errors E). TellsBytes K e second (long_told (most_asked call.given) (last_of counts'))) (files.quiet (ap Ok whole)) long)
-            (on_all true result told is);
+            let whole = sym same ∙ is in
+            numbers_of load size zeros counts' volume left left' errors second errors' are sized (files.whole whole).1 (read whole)
+            (subst (λ (e : Errors E). TellsBytes K e second (long_told (most_asked call.given) (last_of counts'))) (told_as K (names_asked call.given) all true errors first whole files.told) long) told;
       }
+      by (Err failure) same told = record { whole = tt; begun = files.begun; tells = record { told = all_told; partly = tt }; notes = tt }
 
   -- or not all of them
   pub files_failed : (load : RuledLoad) (error : LineError) (failure : RuledFailure) (counts counts' : List ℕ) (left left' held held' : Option (List ℕ)) (errors errors' : Errors E)
       → LinedFiles K (ruled_by call load) (names_asked call.given) (Err error) counts counts' left left' held held' errors errors' → RuledOutcome K call load (Err failure) left left' held held' errors errors'
   files_failed load error failure counts counts' left left' held held' errors errors' files = record {
-    whole = λ (is : Err failure ≡ Ok true). absurd (cc);
+    whole = tt;
     begun = files.begun;
-    tells = record {
-      told = tells_weaker K (IsUnreadLine (names_asked call.given)) (IsRuledTold call) errors errors' (λ line is. inl is) files.told;
-      partly = λ (is : Err failure ≡ Ok false). absurd (cc);
-    };
-    notes = λ (is : Err failure ≡ Ok true). absurd (cc);
+    tells = record { told = told_any K (names_asked call.given) (IsRuledTold call) (Err error) errors errors' (λ line is. inl is) files.told; partly = tt };
+    notes = tt;
   }
 
   -- all was done

@@ -19,7 +19,7 @@ use Rattle.acredact.specs.Failures.{IsFailureLine}
 use Rattle.acredact.specs.RuleLines.{IsRuledLine}
 use Rattle.acredact.specs.LineRules.{most_asked}
 use Rattle.acredact.specs.Ruled.{AreRulesGiven, IsRuledTold, patterns_by_case}
-use Rattle.acredact.specs.RuledChecks.{BeginsLoadedCheck, BeginsRuledCheck, CheckLoad, CheckedLines, LineQuest, RuledCheck, RuledCheckStatus, SeenFiles, TellsRuledCheck, line_quest_by}
+use Rattle.acredact.specs.RuledChecks.{BeginAllTelling, BeginsLoadedCheck, BeginsRuledCheck, CheckLoad, CheckedLines, LineQuest, RuledCheck, RuledCheckStatus, SeenFiles, line_quest_by}
 use Rattle.acredact.specs.Statuses.{check_status}
 use Rattle.acredact.specs.Tables.{patterns_in}
 use Rattle.acredact.specs.declared.arguments.Word.TheVariants.{AsWord, Summary}
@@ -28,9 +28,8 @@ use Rattle.acredact.specs.declared.look.Verdict.{Verdict}
 use Rattle.acredact.specs.declared.ruled_failure.RuledFailure.{RuledFailure}
 use Rattle.acredact.specs.declared.ruled_failure.RuledFailure.TheVariants.{Plain}
 use Rattle.acredact.proofs.Calls.{tells_last, tells_same}
-use Rattle.acredact.proofs.PlacedCalls.{tells_weaker}
 use Rattle.acredact.proofs.RuledCalls.{all_doubts_told}
-use Rattle.acredact.proofs.RuledFiles.{some_weaker}
+use Rattle.acredact.proofs.RuledFiles.{some_weaker, told_any, told_as}
 use Rattle.acredact.proofs.Warned.{some_behind, tells_both}
 
 -- what is looked for by such parts is that of the call
@@ -76,62 +75,43 @@ module _ {E : Type 0} (K : SinkGhosts E) (call : Call) where
   check_none load (Ok verdict) left held errors is = absurd (cc)
   check_none load (Err failure) left held errors is = record { whole = tt; begun = inl (Keeps-refl held); tells = record { told = tells_same K (IsRuledTold call) errors errors refl; partly = tt }; quiet = tt }
 
-  unread : (line : List ℕ) → IsUnreadLine (names_asked call.given) line → IsRuledTold call line
-  unread line is = inl is
+  module _ (load : CheckLoad) (left left' held held' seen seen' : Option (List ℕ)) (errors errors' : Errors E)
+      (told : has Summary call.given ≡ true → (seen ≡ held) × (seen' ≡ held')) (untold : has Summary call.given ≡ false → Keeps held held') where
+    -- where that is asked for it was told what was found
+    begun_told : BeginAllTelling (line_quest_by call load) (names_asked call.given) left left' seen seen' → BeginsLoadedCheck call left left' held held' load
+    begun_told begun = by (has Summary call.given) refl
+      where
+        by : (b : Bool) → has Summary call.given ≡ b → BeginsLoadedCheck call left left' held held' load
+        by true is = let same = told is in inr (rw same.1 at (rw same.0 at begun))
+        by false is = inl (untold is)
 
-  -- the files were looked at, and where that is asked for it was told what was found
-  pub files_looked : (load : CheckLoad) (verdict : Verdict) (left left' held held' seen seen' : Option (List ℕ)) (errors errors' : Errors E)
-      → SeenFiles K (line_quest_by call load) (names_asked call.given) (Ok verdict) left left' seen seen' errors errors'
-      → (has Summary call.given ≡ true → (seen ≡ held) × (seen' ≡ held')) → (has Summary call.given ≡ false → Keeps held held')
-      → CheckedLines K call load (Ok verdict) left left' held held' errors errors'
-  files_looked load verdict left left' held held' seen seen' errors errors' files told untold = by (has Summary call.given) refl
-    where
-      by : (b : Bool) → has Summary call.given ≡ b → CheckedLines K call load (Ok verdict) left left' held held' errors errors'
-      by true is =
-          let same = told is in
-          let mine = subst (λ (h : Option (List ℕ)). SeenFiles K (line_quest_by call load) (names_asked call.given) (Ok verdict) left left' held h errors errors') same.1
-          (subst (λ (h : Option (List ℕ)). SeenFiles K (line_quest_by call load) (names_asked call.given) (Ok verdict) left left' h seen' errors errors') same.0 files) in
-          record {
-            whole = λ all. let sees = mine.whole all in record { runs = sees.runs; have = sees.have; found_is = sees.found_is; told = λ summary. sees.told };
-            begun = inr mine.begun;
-            tells = record {
-              told = tells_weaker K (IsUnreadLine (names_asked call.given)) (IsRuledTold call) errors errors' unread mine.told;
-              partly = λ none. some_weaker K (IsUnreadLine (names_asked call.given)) (IsRuledTold call) errors errors' unread (mine.partly none);
-            };
-            quiet = mine.quiet;
-          }
-      by false is = record {
-        whole = λ all. let sees = files.whole all in record {
-          runs = sees.runs;
-          have = sees.have;
-          found_is = sees.found_is;
-          told = λ summary. let clash : true ≡ false = sym summary ∙ is in absurd (cc);
-        };
-        begun = inl (untold is);
-        tells = record {
-          told = tells_weaker K (IsUnreadLine (names_asked call.given)) (IsRuledTold call) errors errors' unread files.told;
-          partly = λ none. some_weaker K (IsUnreadLine (names_asked call.given)) (IsRuledTold call) errors errors' unread (files.partly none);
-        };
-        quiet = files.quiet;
-      }
+    -- the files were looked at
+    pub files_looked : (verdict : Verdict) → SeenFiles K (line_quest_by call load) (names_asked call.given) (Ok verdict) left left' seen seen' errors errors' → CheckedLines K call load (Ok verdict) left left' held held' errors errors'
+    files_looked verdict files = record {
+      whole = λ all. let sees = files.whole all in record {
+        runs = sees.runs;
+        have = sees.have;
+        found_is = sees.found_is;
+        told = λ summary. let same = told summary in rw same.1 at (rw same.0 at sees.told);
+      };
+      begun = begun_told files.begun;
+      tells = record {
+        told = told_any K (names_asked call.given) (IsRuledTold call) (Ok verdict.all) errors errors' (λ line is. inl is) files.told;
+        partly = λ none. some_weaker K (IsUnreadLine (names_asked call.given)) (IsRuledTold call) errors errors' (λ line is. inl is)
+            (told_as K (names_asked call.given) verdict.all false errors errors' none files.told);
+      };
+      quiet = λ all. told_as K (names_asked call.given) verdict.all true errors errors' all files.told;
+    }
 
-  -- or not all of them
-  pub files_unlooked : (load : CheckLoad) (error : LineError) (failure : RuledFailure) (left left' held held' seen seen' : Option (List ℕ)) (errors errors' : Errors E)
-      → SeenFiles K (line_quest_by call load) (names_asked call.given) (Err error) left left' seen seen' errors errors'
-      → (has Summary call.given ≡ true → (seen ≡ held) × (seen' ≡ held')) → (has Summary call.given ≡ false → Keeps held held')
-      → CheckedLines K call load (Err failure) left left' held held' errors errors'
-  files_unlooked load error failure left left' held held' seen seen' errors errors' files told untold = by (has Summary call.given) refl
-    where
-      tells : TellsRuledCheck K call (Err failure) errors errors'
-      tells = record { told = tells_weaker K (IsUnreadLine (names_asked call.given)) (IsRuledTold call) errors errors' unread files.told; partly = tt }
-
-      by : (b : Bool) → has Summary call.given ≡ b → CheckedLines K call load (Err failure) left left' held held' errors errors'
-      by true is =
-          let same = told is in
-          let mine = subst (λ (h : Option (List ℕ)). SeenFiles K (line_quest_by call load) (names_asked call.given) (Err error) left left' held h errors errors') same.1
-          (subst (λ (h : Option (List ℕ)). SeenFiles K (line_quest_by call load) (names_asked call.given) (Err error) left left' h seen' errors errors') same.0 files) in
-          record { whole = tt; begun = inr mine.begun; tells = tells; quiet = tt }
-      by false is = record { whole = tt; begun = inl (untold is); tells = tells; quiet = tt }
+    -- or not all of them
+    pub files_unlooked : (error : LineError) (failure : RuledFailure) → SeenFiles K (line_quest_by call load) (names_asked call.given) (Err error) left left' seen seen' errors errors'
+        → CheckedLines K call load (Err failure) left left' held held' errors errors'
+    files_unlooked error failure files = record {
+      whole = tt;
+      begun = begun_told files.begun;
+      tells = record { told = told_any K (names_asked call.given) (IsRuledTold call) (Err error) errors errors' (λ line is. inl is) files.told; partly = tt };
+      quiet = tt;
+    }
 
   -- behind what is told of doubtful patterns what was loaded decides what comes of the call
   pub check_behind : (load : CheckLoad) (result : Result Verdict RuledFailure) (left between left' held held' : Option (List ℕ)) (errors meanwhile errors' : Errors E)

@@ -187,6 +187,12 @@ MayFail call fails failure =
 abbrev pub IsUnreadLine : List (List ℕ) → List ℕ → Type 0
 IsUnreadLine names line = (name : List ℕ) × IsOneOf name names × (((reason : Reason) × (line ≡ unread_line name reason)) ⊎ (line ≡ output_line name))
 
+-- what is told of files, by whether all were read to their ends, where that is answered
+abbrev pub TellsOfFiles : {E X : Type 0} → SinkGhosts E → List (List ℕ) → Result Bool X → (errors errors' : Errors E) → Type 0
+TellsOfFiles K names (Ok true) errors errors' = errors' ≡ errors
+TellsOfFiles K names (Ok false) errors errors' = TellsSome K (IsUnreadLine names) errors errors'
+TellsOfFiles K names (Err error) errors errors' = Tells K (IsUnreadLine names) errors errors'
+
 -- the lines of the counts of some patterns, each with the line of its file
 abbrev pub IsCountsText : List Given → List Secret → List ℕ → Type 0
 IsCountsText given secrets text = (counts : List ℕ) × (volume : Volume) × (text ≡ totals_text given (secret_lines secrets) counts volume)

@@ -1,5 +1,5 @@
 -- What a check by rules sees in the lines of files, and what it writes of that.
-use Rattle.std.specs.Prelude.{◌≡◌, ◌⊎◌, ℕ, ◌+◌, ◌-◌, ◌<◌, ◌≤◌, ◌^◌, min, nat_lt, ◌&&◌, ◌||◌, not, Bool, true, false, List, [], ◌∷◌, ◌++◌, Option, None, Some, Result, Ok, Err, IfOk, codes, decimal, if◌then◌else◌, length, replicate, slice_get, slice_index_or, slice_set, string_bytes, ⊤}
+use Rattle.std.specs.Prelude.{◌≡◌, ◌⊎◌, ℕ, ◌+◌, ◌-◌, ◌<◌, ◌≤◌, ◌^◌, min, nat_lt, ◌&&◌, ◌||◌, not, Bool, true, false, List, [], ◌∷◌, ◌++◌, Option, None, Some, Result, Ok, Err, IfOk, codes, decimal, if◌then◌else◌, length, replicate, slice_get, slice_index_or, slice_set, string_bytes}
 use Rattle.std.specs.Borrow.{Bor, MutBor}
 use Rattle.std.specs.Io.{StartsWith}
 use Rattle.std.specs.Io.KnownBytes.{Appends, Consumes, IsAtEnd, Keeps}
@@ -15,7 +15,7 @@ use Rattle.aho_devices.specs.declared.device.Source.{Ghosts as SourceGhosts}
 use Rattle.aho_stream.specs.Replacing.{MayBe, SourceGave}
 use Rattle.tool_parts.specs.Names.{name_bytes}
 use Rattle.tool_parts.specs.Streams.{bytes_left, output_bytes}
-use Rattle.tool_parts.specs.Telling.{Tells, TellsSome}
+use Rattle.tool_parts.specs.Telling.{TellsSome}
 use Rattle.tool_parts.specs.declared.errors.Errors.{Errors}
 use Rattle.tool_parts.specs.declared.reason.Reason.TheVariants.{PositionLimit as TooLong, ReadFault}
 use Rattle.secret_rules.specs.Covering.{AreLineRuns, Covering, covering_by}
@@ -28,14 +28,15 @@ use Rattle.secret_rules.specs.declared.error.LineError.TheVariants.{Mark, Stream
 use Rattle.secret_rules.specs.declared.line_cover.LineCover.{LineCover}
 use Rattle.secret_rules.specs.declared.rule.Rule.{Rule}
 use Rattle.acredact.specs.Arguments.{AsksForRulesCheck, Given, all_given, has}
-use Rattle.acredact.specs.Calls.{Call, IsUnreadLine, call_of, names_asked, reading_by}
+use Rattle.acredact.specs.Calls.{Call, TellsOfFiles, call_of, names_asked, reading_by}
 use Rattle.acredact.specs.Counts.{counted_more}
 use Rattle.acredact.specs.Doubts.{TellsDoubts}
 use Rattle.acredact.specs.LineRules.{most_asked}
+use Rattle.acredact.specs.Looks.{all_seen, verdict_of}
 use Rattle.rule_files.specs.Messages.{as_shown}
 use Rattle.acredact.specs.Reads.{EachName, OfName, ReadsText}
 use Rattle.rule_files.specs.Flaws.{name_or_number}
-use Rattle.acredact.specs.Ruled.{AreRulesGiven, AreRulesGivenBy, Between, IsRuledTold, ruling_by}
+use Rattle.acredact.specs.Ruled.{AreRulesGiven, AreRulesGivenBy, Between, IsRuledTold, TellsRuled, ruling_by}
 use Rattle.acredact.specs.Sums.{counts_for}
 use Rattle.acredact.specs.Tables.{Secret, secrets_of}
 use Rattle.acredact.specs.declared.arguments.Word.TheVariants.{Summary}
@@ -249,47 +250,27 @@ abbrev pub found_of : Result (Unit {0}) LineError → Bool → Result Bool LineE
 found_of (Ok done) found = Ok found
 found_of (Err error) found = Err error
 
--- what holds where a file was read to its end, by whether something was found
-abbrev pub IfLooked : Result Look LineError → (Bool → Type 0) → Type 0
-IfLooked (Ok Clean) Holds = Holds false
-IfLooked (Ok Found) Holds = Holds true
-IfLooked (Ok (Unread reason)) Holds = ⊤
-IfLooked (Err error) Holds = ⊤
-
-abbrev pub IfSeenWhole : Result (Option Bool) LineError → (Bool → Type 0) → Type 0
-IfSeenWhole (Ok None) Holds = ⊤
-IfSeenWhole (Ok (Some found)) Holds = Holds found
-IfSeenWhole (Err error) Holds = ⊤
-
--- what is seen of all files, with one more
-abbrev pub verdict_seen : Verdict → Option Bool → Verdict
-verdict_seen verdict None = record { found = verdict.found; all = false }
-verdict_seen verdict (Some found) = record { found = verdict.found || found; all = verdict.all }
-
 -- what comes of a text, and of the file of a name
 pub record LookedText (covering : Covering) (labels : Labels) (name : List ℕ) (result : Result Look LineError) (left left' held held' : Option (List ℕ)) : Type 0 where
-  pub whole : IfLooked result (λ found. SeesText covering labels name found left left' held held')
+  pub whole : IfOk result (λ look. (verdict_of look).all ≡ true → SeesText covering labels name (verdict_of look).found left left' held held')
   pub begun : BeginsTelling covering labels name left left' held held'
 
 pub record LookedNamed (quest : LineQuest) (name : List ℕ) (result : Result Look LineError) (left left' held held' : Option (List ℕ)) : Type 0 where
-  pub whole : IfLooked result (λ found. SeesNamed quest name found left left' held held')
+  pub whole : IfOk result (λ look. (verdict_of look).all ≡ true → SeesNamed quest name (verdict_of look).found left left' held held')
   pub begun : BeginsNamedTelling quest name left left' held held'
 
 module _ {E : Type 0} (K : SinkGhosts E) where
   -- where it was not read to its end that is told
-  pub record SeenFile (quest : LineQuest) (name : List ℕ) (result : Result (Option Bool) LineError) (left left' held held' : Option (List ℕ)) (errors errors' : Errors E) : Type 0 where
-    pub whole : IfSeenWhole result (λ found. SeesNamed quest name found left left' held held')
+  pub record SeenFile (quest : LineQuest) (name : List ℕ) (result : Result Verdict LineError) (left left' held held' : Option (List ℕ)) (errors errors' : Errors E) : Type 0 where
+    pub whole : IfOk result (λ verdict. verdict.all ≡ true → SeesNamed quest name verdict.found left left' held held')
     pub begun : BeginsNamedTelling quest name left left' held held'
-    pub partly : result ≡ Ok None → TellsSome K (IsUnreadLine (name ∷ [])) errors errors'
-    pub untold : (result ≡ Ok None → ⊥) → errors' ≡ errors
+    pub told : TellsOfFiles K (name ∷ []) (all_seen result) errors errors'
 
   -- the same of files, one after another
   pub record SeenFiles (quest : LineQuest) (names : List (List ℕ)) (result : Result Verdict LineError) (left left' held held' : Option (List ℕ)) (errors errors' : Errors E) : Type 0 where
     pub whole : IfOk result (λ verdict. verdict.all ≡ true → SeesAllLines quest names verdict.found left left' held held')
     pub begun : BeginAllTelling quest names left left' held held'
-    pub told : Tells K (IsUnreadLine names) errors errors'
-    pub partly : IfOk result (λ verdict. verdict.all ≡ false → TellsSome K (IsUnreadLine names) errors errors')
-    pub quiet : IfOk result (λ verdict. verdict.all ≡ true → errors' ≡ errors)
+    pub told : TellsOfFiles K names (all_seen result) errors errors'
 
 -- what is loaded: the secrets that are patterns, and the rules
 pub record CheckLoad : Type 0 where
@@ -344,16 +325,11 @@ module _ (call : Call) (left left' held held' : Option (List ℕ)) where
   BeginsLoadedCheck load = Keeps held held' ⊎ BeginAllTelling (line_quest_by call load) (names_asked call.given) left left' held held'
 
 module _ {E : Type 0} (K : SinkGhosts E) where
-  -- what is told of a check that does not read all
-  pub record TellsRuledCheck (call : Call) (result : Result Verdict RuledFailure) (errors errors' : Errors E) : Type 0 where
-    pub told : Tells K (IsRuledTold call) errors errors'
-    pub partly : IfOk result (λ verdict. verdict.all ≡ false → TellsSome K (IsRuledTold call) errors errors')
-
   -- what comes of the files of a call whose patterns and rules were loaded
   pub record CheckedLines (call : Call) (load : CheckLoad) (result : Result Verdict RuledFailure) (left left' held held' : Option (List ℕ)) (errors errors' : Errors E) : Type 0 where
     pub whole : IfOk result (λ verdict. verdict.all ≡ true → SeesLoaded call verdict.found left left' held held' load)
     pub begun : BeginsLoadedCheck call left left' held held' load
-    pub tells : TellsRuledCheck call result errors errors'
+    pub tells : TellsRuled K call (all_seen result) errors errors'
     pub quiet : IfOk result (λ verdict. verdict.all ≡ true → errors' ≡ errors)
 
   -- nothing was told but of the patterns of the lists that were loaded
@@ -367,7 +343,7 @@ module _ {E : Type 0} (K : SinkGhosts E) where
   pub record RuledCheck (call : Call) (result : Result Verdict RuledFailure) (left left' held held' : Option (List ℕ)) (errors errors' : Errors E) : Type 0 where
     pub whole : IfOk result (λ verdict. verdict.all ≡ true → SeesByRules call verdict.found left left' held held')
     pub begun : BeginsRuledCheck call left left' held held'
-    pub tells : TellsRuledCheck call result errors errors'
+    pub tells : TellsRuled K call (all_seen result) errors errors'
     pub quiet : IfOk result (λ verdict. verdict.all ≡ true → TellsListsBeside call left errors errors')
 
   -- what its status says
@@ -441,7 +417,7 @@ module _ {W : Type 0} (K : SinkGhosts W) where
 
     module _ {E : Type 0} (L : SinkGhosts E) where
       -- where it is told if it was not read to its end
-      abbrev pub SeesFile : {F X : Type 0} → Folders F X → Checked F → List ℕ → Result (Option Bool) LineError → (input input' : FromRead R Reads) → (output output' : W) → (errors errors' : Errors E) → Covering → Type 0
+      abbrev pub SeesFile : {F X : Type 0} → Folders F X → Checked F → List ℕ → Result Verdict LineError → (input input' : FromRead R Reads) → (output output' : W) → (errors errors' : Errors E) → Covering → Type 0
       SeesFile D checked name result input input' output output' errors errors' covering =
           SeenFile L (quest_in D checked covering) name result (bytes_left input) (bytes_left input') (K.taken output) (K.taken output') errors errors'
 

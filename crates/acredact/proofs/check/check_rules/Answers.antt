@@ -1,18 +1,19 @@
 -- What is ready is looked for in the files that are asked for.
-use Rattle.std.proofs.Common.{rules, ◌≡◌, ◌∙◌, ap, subst, sym}
+use Rattle.std.proofs.Common.{rules, ◌≡◌, ◌∙◌, ap, refl, subst, sym}
 use Rattle.std.specs.Prelude.{Bool, Err, Result}
 use Rattle.tool_parts.specs.Names.{name_bytes}
 use Rattle.tool_parts.specs.Streams.{bytes_left}
 use Rattle.tool_parts.specs.declared.failure.Failure.TheVariants.{OutOfMemory}
 use Rattle.acredact.specs.Arguments.{all_given}
 use Rattle.acredact.specs.Builds.{patterns_by_given}
-use Rattle.acredact.specs.Calls.{call_of, names_asked}
+use Rattle.acredact.specs.Calls.{IsUnreadLine, call_of, names_asked}
 use Rattle.acredact.specs.Checks.{SeesFiles, quest_by, quest_of}
 use Rattle.acredact.specs.Tables.{patterns_in, secrets_of}
 use Rattle.acredact.specs.declared.failure.Failure.{Failure}
 use Rattle.acredact.specs.declared.failure.Failure.TheVariants.{Other}
 use Rattle.acredact.specs.declared.look.Verdict.{Verdict}
-use Rattle.acredact.proofs.Checks.{seen_fails, seen_refused, seen_whole}
+use Rattle.acredact.proofs.Calls.{tells_same}
+use Rattle.acredact.proofs.Checks.{seen_fails, seen_whole}
 use Rattle.acredact.proofs.Ready.{ready_looks}
 use Rattle.acredact.proofs.check.check_rules.Goals as goal
 
@@ -32,4 +33,4 @@ returns-in_ok-look_by-in-Ok-clause-sees g c =
     (c.in_ok-look_by-in-Ok.ensures.sees p c.in-Ok.ensures.ready.of)
 
 pub returns-in-Err-clause-sees : goal.returns-in-Err-clause-sees
-returns-in-Err-clause-sees g c = seen_refused g.E.Sink _ _ _ _ _ _
+returns-in-Err-clause-sees g c = record { seen = tt; quiet = tt; told = tells_same g.E.Sink (IsUnreadLine (names_asked (all_given c.args.given.now))) _ _ refl }
