@@ -5,19 +5,18 @@ use Rattle.std.specs.List.{All, concat}
 use Rattle.std.specs.declared.io.traits.Read.{Ghosts as Readers}
 use Rattle.std.specs.declared.io.traits.Write.{Ghosts as Writers}
 use Rattle.std.proofs.lemmas.List.Elements.{All-append, All-cons, All-head, All-nil, All-tail, All-weaker}
-use Rattle.aho_core.specs.Patterns.{Patterns}
 use Rattle.aho_core.specs.declared.error.stream.StreamError.{StreamError}
 use Rattle.aho_core.specs.declared.error.stream.StreamError.TheVariants.{Match, Read, Write, WriteZero, Memory, PositionLimit}
-use Rattle.aho_devices.specs.declared.adapters.FromRead.{FromRead}
+use Rattle.aho_devices.specs.declared.adapters.FromWrite.{FromWrite}
 use Rattle.aho_devices.specs.declared.device.Sink.{Ghosts as SinkGhosts}
 use Rattle.tool_parts.specs.Failures.{failure_of_stream}
 use Rattle.tool_parts.specs.Streams.{bytes_left}
 use Rattle.tool_parts.specs.Telling.{Tells, TellsBytes, TellsSome}
 use Rattle.tool_parts.specs.declared.errors.Errors.{Errors}
-use Rattle.tool_parts.specs.declared.failure.Failure.TheVariants.{Build, OutOfMemory, Write as NotWritten, WriteZero as TakesNothing}
+use Rattle.tool_parts.specs.declared.failure.Failure.TheVariants.{OutOfMemory}
 use Rattle.tool_parts.proofs.Tellings.{tells-later}
 use Rattle.acredact.specs.Arguments.{Given, counts_asked}
-use Rattle.acredact.specs.Calls.{AreBounded, BeginsCall, Call, CallOutcome, CannotLoadCall, IsBuildRefusal, IsCountsFailure, IsCountsLine, IsLineOf, IsRunFailure, IsUnreadLine, IsUntouched, IsWordLine, MayFail, OutputFails, RestOutcome, RunOutcome, TellsCounts, TellsNumbers, call_of, names_asked, reading_by, redactor_by_given, work_by}
+use Rattle.acredact.specs.Calls.{AreBounded, Call, CallOutcome, CannotLoadCall, IsCountsFailure, IsCountsLine, IsLineOf, IsRunFailure, IsUnreadLine, IsWordLine, MayFail, OutputFails, RestOutcome, RunOutcome, TellsCounts, TellsNumbers, call_of, names_asked, reading_by, redactor_by_given, work_by}
 use Rattle.acredact.specs.Builds.{patterns_by_given}
 use Rattle.acredact.specs.Counts.{secret_lines, zeros}
 use Rattle.acredact.specs.Files.{AreCut, FilesOutcome, IsDone, Work, are_none, redactor_of, unread_line, work_of}
@@ -30,9 +29,8 @@ use Rattle.acredact.specs.Sums.{sums_of}
 use Rattle.acredact.specs.Tables.{Secret, patterns_in, secrets_of}
 use Rattle.acredact.specs.Totals.{CountsOfNames}
 use Rattle.acredact.specs.Volumes.{ReadsVolume}
-use Rattle.acredact.specs.declared.clean.Unclean.{Unclean}
 use Rattle.acredact.specs.declared.failure.Failure.{Failure}
-use Rattle.acredact.specs.declared.failure.Failure.TheVariants.{Counts, Other, Unclean as UncleanPiece}
+use Rattle.acredact.specs.declared.failure.Failure.TheVariants.{Other}
 use Rattle.acredact.specs.declared.files.Job.{Job}
 use Rattle.acredact.specs.declared.folder.Folder.{Ghosts as Folders}
 use Rattle.acredact.specs.declared.patterns.Rule.{Rule}
@@ -110,36 +108,26 @@ module _ {R : Type 0} {Reads : Readers R} {W E : Type 0} (Writes : Writers W) (K
   pub run_done : (all : Bool) (old new : Streams R W E Reads) → FilesOutcome Writes K work (Ok all) old new → RunOutcome Writes K work (Ok all) old new
   run_done all old new files = record { done = files.done; cut = tt; quiet = λ is. files.quiet (let so : Ok all ≡ Ok true = is in cc); fails = tt }
 
-module _ {R : Type 0} {Reads : Readers R} {W E : Type 0} (Writes : Writers W) (K : SinkGhosts E) (call : Call) (left : Option (List ℕ)) where
-  -- what comes of a call that ends before its files
-  pub call_refused : (input : FromRead R Reads) (old : Streams R W E Reads) (failure : Failure) → MayFail call (OutputFails old.output old.output) failure
-      → CallOutcome Writes K call left (Err failure) old (record old { input = input })
-  call_refused input old failure fails = record {
-    redacts = λ (is : Err failure ≡ Ok true). absurd (cc);
-    strict = λ asked (is : Err failure ≡ Ok true). absurd (cc);
-    refused = λ unclean is. record { output = refl; errors = refl };
-    begins = inl refl;
-    quiet = λ none (is : Err failure ≡ Ok true). absurd (cc);
-    counts = λ some (is : Err failure ≡ Ok true). absurd (cc);
-    partly = λ (is : Err failure ≡ Ok false). absurd (cc);
-    fails = fails;
-    told = record { told = []; are_lines = All-nil _; written = tells_none K old.errors };
-    numbers = inl (tells_same K (IsWordLine call) old.errors old.errors refl);
-  }
+-- what comes of a call that ends before its files
+pub call_ended : {W E : Type 0} (Writes : Writers W) (K : SinkGhosts E) (call : Call) (left left' : Option (List ℕ)) (failure : Failure) (output : FromWrite W) (errors errors' : Errors E) → MayFail call (OutputFails output output) failure
+    → Tells K (IsLineOf call (OutputFails output output)) errors errors' → Tells K (IsWordLine call) errors errors' → CallOutcome Writes K call left left' (Err failure) output output errors errors'
+call_ended Writes K call left left' failure output errors errors' fails told words = record {
+  redacts = λ (is : Err failure ≡ Ok true). absurd (cc);
+  strict = λ asked (is : Err failure ≡ Ok true). absurd (cc);
+  begins = inl refl;
+  quiet = λ none (is : Err failure ≡ Ok true). absurd (cc);
+  counts = λ some (is : Err failure ≡ Ok true). absurd (cc);
+  partly = λ (is : Err failure ≡ Ok false). absurd (cc);
+  fails = fails;
+  told = told;
+  numbers = inl words;
+}
 
--- why a run fails, and that it is no piece
-pub run_other : (fails : Type 0) (failure : Failure) (unclean : Unclean) → IsRunFailure fails failure → failure ≡ UncleanPiece unclean → ⊥
-run_other fails failure unclean (inl of) is = let clash : Other OutOfMemory ≡ UncleanPiece unclean = sym of ∙ is in cc
-run_other fails failure unclean (inr (inl of, why)) is = let clash : Other NotWritten ≡ UncleanPiece unclean = sym of ∙ is in cc
-run_other fails failure unclean (inr (inr of, why)) is = let clash : Other TakesNothing ≡ UncleanPiece unclean = sym of ∙ is in cc
-
-counts_other : (counted : Bool) (failure : Failure) (unclean : Unclean) → IsCountsFailure counted failure → failure ≡ UncleanPiece unclean → ⊥
-counts_other counted failure unclean (some, inl of) is = let clash : Counts ≡ UncleanPiece unclean = sym of ∙ is in cc
-counts_other counted failure unclean (some, inr of) is = let clash : Other OutOfMemory ≡ UncleanPiece unclean = sym of ∙ is in cc
-
--- why patterns are refused is no piece
-pub build_other : (p : Patterns) (failure : Failure) (unclean : Unclean) → IsBuildRefusal p failure → failure ≡ UncleanPiece unclean → ⊥
-build_other p failure unclean (error, of, refused) is = let clash : Other (Build error) ≡ UncleanPiece unclean = sym of ∙ is in cc
+-- nothing was told
+pub call_refused : {W E : Type 0} (Writes : Writers W) (K : SinkGhosts E) (call : Call) (left left' : Option (List ℕ)) (failure : Failure) (output : FromWrite W) (errors : Errors E) → MayFail call (OutputFails output output) failure
+    → CallOutcome Writes K call left left' (Err failure) output output errors errors
+call_refused Writes K call left left' failure output errors fails =
+    call_ended Writes K call left left' failure output errors errors fails (tells_same K (IsLineOf call (OutputFails output output)) errors errors refl) (tells_same K (IsWordLine call) errors errors refl)
 
 -- what may be told, and why
 pub may_fail : (call : Call) (fails : Type 0) (failure : Failure) → IsRunFailure fails failure → MayFail call fails failure
@@ -177,7 +165,6 @@ module _ {R : Type 0} {Reads : Readers R} {W E : Type 0} (Writes : Writers W) (K
       counts = λ some (is : Err failure ≡ Ok true). absurd (cc);
       partly = λ (is : Err failure ≡ Ok false). absurd (cc);
       fails = may_fail call _ failure run.fails;
-      other = λ unclean is. run_other _ failure unclean run.fails is;
       numbers = inl (elim run.cut [
         | inl same ↦ tells_same K (IsWordLine call) old.errors mid.errors (ap (λ (s : Streams R W E Reads). s.errors) same)
         | inr cut ↦ words_told cut.0 _ _ _ cut.1.0 mid.errors cut.1.1
@@ -262,7 +249,6 @@ module _ {R : Type 0} {Reads : Readers R} {W E : Type 0} (Writes : Writers W) (K
               some_both (loaded_as rules key) old mid left between loaded _ lines told.told errors (sym so ∙ is_all) (are _) told.are_lines first told.written;
           fails = tt;
           told = tt;
-          other = tt;
           numbers = inr (numbers_behind lines _ _ cut first bounded errors totals);
         }
 
@@ -283,7 +269,6 @@ module _ {R : Type 0} {Reads : Readers R} {W E : Type 0} (Writes : Writers W) (K
             | inl counts ↦ inr (inr (inl (counts, fails.0)))
             | inr memory ↦ may_fail call _ failure (inl memory)
           ];
-          other = λ unclean is. counts_other (counts_asked call.given) failure unclean fails is;
           numbers = inr (numbers_behind lines _ _ cut first bounded errors totals);
           told = lines_both (loaded_as rules key) old mid left between loaded _ lines told.told errors (lines_cut (loaded_as rules key) old mid _ lines _ _ _ cut) told.are_lines first told.written;
         }
@@ -306,48 +291,6 @@ job_does {F} D folder given load job is P done =
     subst (λ (f : F). P (record { holds = D.holds f; refuses = D.refuses f; meets = D.meets f; names = names_asked given; redactor = redactor_by_given given load })) is.opens
     (subst (λ (r : Redactor). P (record { holds = D.holds job.folder.now; refuses = D.refuses job.folder.now; meets = D.meets job.folder.now; names = names_asked given; redactor = r })) is.redactor
     (subst (λ (l : List (List ℕ)). P (record { holds = D.holds job.folder.now; refuses = D.refuses job.folder.now; meets = D.meets job.folder.now; names = l; redactor = redactor_of job (patterns_by_given given (patterns_in load.secrets)) })) is.names done))
-
--- a call as it is from a state whose input was read further
-module _ {R : Type 0} {Reads : Readers R} {W E : Type 0} (Writes : Writers W) (K : SinkGhosts E) (call : Call) (left : Option (List ℕ)) where
-  begins_from : (old new : Streams R W E Reads) (input : FromRead R Reads) → BeginsCall Writes call left (record old { input = input }) new → BeginsCall Writes call left old new
-  begins_from old new input (inl same) = inl same
-  begins_from old new input (inr begun) = inr (record { load = begun.load; between = begun.between; loaded = begun.loaded; lines = begun.lines; cut = begun.cut })
-
-  refused_from : (old new : Streams R W E Reads) (input : FromRead R Reads) (result : Result Bool Failure) → IfErr result (λ failure. (unclean : Unclean) → failure ≡ UncleanPiece unclean → IsUntouched Writes K (record old { input = input }) new)
-      → IfErr result (λ failure. (unclean : Unclean) → failure ≡ UncleanPiece unclean → IsUntouched Writes K old new)
-  refused_from old new input (Ok all) refused = tt
-  refused_from old new input (Err failure) refused = λ unclean is. let same = refused unclean is in record { output = same.output; errors = same.errors }
-
-  pub call_from : (old new : Streams R W E Reads) (input : FromRead R Reads) (result : Result Bool Failure) → CallOutcome Writes K call left result (record old { input = input }) new → CallOutcome Writes K call left result old new
-  call_from old new input result of = record {
-    redacts = λ is. let done = of.redacts is in record { load = done.load; between = done.between; loaded = done.loaded; redacted = done.redacted };
-    strict = λ asked is. let done = of.strict asked is in record { load = done.load; between = done.between; loaded = done.loaded; free = done.free };
-    refused = refused_from old new input result of.refused;
-    begins = begins_from old new input of.begins;
-    quiet = of.quiet;
-    counts = λ some is. let done = of.counts some is in record {
-      load = done.load;
-      between = done.between;
-      loaded = done.loaded;
-      redacted = done.redacted;
-      ranges = done.ranges;
-      found = done.found;
-      meanwhile = done.meanwhile;
-      volume = done.volume;
-      read = done.read;
-      warned = done.warned;
-      counted = done.counted;
-    };
-    partly = of.partly;
-    fails = of.fails;
-    told = of.told;
-    numbers = of.numbers;
-  }
-
-  -- and to one in which more was told
-  pub begins_told : (old new : Streams R W E Reads) (errors : Errors E) → BeginsCall Writes call left old new → BeginsCall Writes call left old (record new { errors = errors })
-  begins_told old new errors (inl same) = inl same
-  begins_told old new errors (inr begun) = inr (record { load = begun.load; between = begun.between; loaded = begun.loaded; lines = begun.lines; cut = begun.cut })
 
 -- lines behind lines
 module _ {E : Type 0} (K : SinkGhosts E) (IsLine : List ℕ → Type 0) (old mid new : Errors E) (first : Tells K IsLine old mid) where

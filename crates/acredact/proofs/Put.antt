@@ -50,7 +50,7 @@ module _ {E : Type 0} (K : SinkGhosts E) (call : Call) (fails : Type 0) (name : 
 
 module _ {R W E : Type 0} {Reads : Readers R} (Writes : Writers W) (K : SinkGhosts E) (call : Call) (fails : Type 0) (old new : Streams R W E Reads) where
   -- what is told where all was done
-  pub done_told : (counts_asked call.given ≡ false → WarnsCall K call (bytes_left old.input) old.errors new.errors) → (counts_asked call.given ≡ true → CountsCall Writes K call (bytes_left old.input) old new)
+  pub done_told : (counts_asked call.given ≡ false → WarnsCall K call (bytes_left old.input) old.errors new.errors) → (counts_asked call.given ≡ true → CountsCall Writes K call (bytes_left old.input) (bytes_left new.input) old.output new.output old.errors new.errors)
       → Tells K (IsLineOf call fails) old.errors new.errors
   done_told quiet counts = by (counts_asked call.given) refl
     where

@@ -14,7 +14,7 @@ use Rattle.acredact.specs.Statuses.{CallStatus, IsIdle}
 use Rattle.acredact.specs.declared.arguments.Word.TheVariants.{Check, Help, Version}
 use Rattle.acredact.specs.declared.failure.Failure.{Failure}
 use Rattle.acredact.specs.declared.streams.Streams.{Streams}
-use Rattle.acredact.proofs.Calls.{begins_told, tells_last, tells_same}
+use Rattle.acredact.proofs.Calls.{tells_last, tells_same}
 
 -- a line alone
 pub tells_one : {E : Type 0} (K : SinkGhosts E) (IsLine : List ℕ → Type 0) (old new : Errors E) (line : List ℕ) → IsLine line → TellsBytes K old new line → TellsSome K IsLine old new
@@ -171,7 +171,7 @@ flushed_by {P} given not_check flushed = by_checks {P = P} given (λ asks. absur
 
 module _ {R : Type 0} {Reads : Readers R} {W E : Type 0} (Writes : Writers W) (K : SinkGhosts E) (call : Call) (old new : Streams R W E Reads) where
   -- all was done
-  pub status_done : (GivesNoPattern call.given → ⊥) → CallOutcome Writes K call (bytes_left old.input) (Ok true) old new → CallStatus Writes K call 0 old new
+  pub status_done : (GivesNoPattern call.given → ⊥) → CallOutcome Writes K call (bytes_left old.input) (bytes_left new.input) (Ok true) old.output new.output old.errors new.errors → CallStatus Writes K call 0 old new
   status_done some of = record {
     patternless = λ none. absurd (some none);
     idle = λ none. absurd (some none);
@@ -185,7 +185,7 @@ module _ {R : Type 0} {Reads : Readers R} {W E : Type 0} (Writes : Writers W) (K
   }
 
   -- some file was not read to its end
-  pub status_partly : (GivesNoPattern call.given → IsIdle old new) → CallOutcome Writes K call (bytes_left old.input) (Ok false) old new → CallStatus Writes K call 2 old new
+  pub status_partly : (GivesNoPattern call.given → IsIdle old new) → CallOutcome Writes K call (bytes_left old.input) (bytes_left new.input) (Ok false) old.output new.output old.errors new.errors → CallStatus Writes K call 2 old new
   status_partly idle of = record {
     patternless = λ none. refl;
     idle = idle;
@@ -199,13 +199,13 @@ module _ {R : Type 0} {Reads : Readers R} {W E : Type 0} (Writes : Writers W) (K
   }
 
   -- the call ended early, and that is told
-  pub status_failed : (GivesNoPattern call.given → IsIdle old new) → (failure : Failure) (errors : Errors E) (line : List ℕ) → CallOutcome Writes K call (bytes_left old.input) (Err failure) old new → IsFailureLine failure line → TellsBytes K new.errors errors line
-      → CallStatus Writes K call 2 old (record new { errors = errors })
+  pub status_failed : (GivesNoPattern call.given → IsIdle old new) → (failure : Failure) (errors : Errors E) (line : List ℕ)
+      → CallOutcome Writes K call (bytes_left old.input) (bytes_left new.input) (Err failure) old.output new.output old.errors new.errors → IsFailureLine failure line → TellsBytes K new.errors errors line → CallStatus Writes K call 2 old (record new { errors = errors })
   status_failed idle failure errors line of is told = record {
     patternless = λ none. refl;
     idle = λ none. record { unread = (idle none).unread; unwritten = (idle none).unwritten };
     redacts = λ (is : 2 ≡ 0). absurd (omega arith);
-    begins = begins_told Writes K call _ old new errors of.begins;
+    begins = of.begins;
     strict = λ asked (is : 2 ≡ 0). absurd (omega arith);
     quiet = λ none (is : 2 ≡ 0). absurd (omega arith);
     counts = λ counted (is : 2 ≡ 0). absurd (omega arith);

@@ -44,7 +44,7 @@ returns-in-Err g c =
     let redacted = λ (given : List Given) (right : all_asked (texts c.args.arguments.now) ≡ Some given).
     subst (λ (status : ℕ). CallStatus g.W.Write g.E.Sink (call_of g.F.Folder c.args.folder.now given) status c.args.streams.now (record c.args.streams.now { errors = c.report.new.errors })) (sym c.report.ensures.failed)
     (status_failed g.W.Write g.E.Sink (call_of g.F.Folder c.args.folder.now given) c.args.streams.now c.args.streams.now (λ none. record { unread = refl; unwritten = refl }) (Arguments c.in-Err.mistake) c.report.new.errors told.0
-    (call_refused g.W.Write g.E.Sink (call_of g.F.Folder c.args.folder.now given) (bytes_left c.args.streams.now.input) c.args.streams.now.input c.args.streams.now (Arguments c.in-Err.mistake) (inl (inl (memory given right))))
+    (call_refused g.W.Write g.E.Sink (call_of g.F.Folder c.args.folder.now given) _ _ (Arguments c.in-Err.mistake) _ _ (inl (inl (memory given right))))
     told.1 told.2) in
     let checked = λ (given : List Given) (right : all_asked (texts c.args.arguments.now) ≡ Some given).
     subst (λ (status : ℕ). CheckStatus g.E.Sink (call_of g.F.Folder c.args.folder.now given) status (bytes_left c.args.streams.now.input) (bytes_left c.args.streams.now.input) c.args.streams.now.errors c.report.new.errors) (sym c.report.ensures.failed)

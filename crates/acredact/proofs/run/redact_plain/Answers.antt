@@ -1,9 +1,8 @@
 -- The status is that of the redaction.
 use Rattle.std.proofs.Common.{rules, ◌≡◌, ℕ, sym, subst, true, false}
 use Rattle.std.specs.Prelude.{Bool, Ok, OnOk, Result}
-use Rattle.tool_parts.specs.Streams.{bytes_left}
 use Rattle.acredact.specs.Arguments.{all_given}
-use Rattle.acredact.specs.Calls.{CallOutcome, call_of}
+use Rattle.acredact.specs.Calls.{AskedOutcome, call_of}
 use Rattle.acredact.specs.Statuses.{CallStatus}
 use Rattle.acredact.specs.declared.failure.Failure.{Failure}
 use Rattle.acredact.proofs.Statuses.{status_done, status_failed, status_partly}
@@ -15,7 +14,7 @@ returns-in-Ok-true-clause-says g c = λ asks.
     let whole : c.redact_asked.result ≡ Ok true = search rules in
     status_done g.W.Write g.E.Sink call c.args.streams.now c.redact_asked.new.streams
     (λ none. subst (λ (r : Result Bool Failure). OnOk r ⊥) whole (c.redact_asked.ensures.patternless asks none))
-    (subst (λ (r : Result Bool Failure). CallOutcome g.W.Write g.E.Sink call (bytes_left c.args.streams.now.input) r c.args.streams.now c.redact_asked.new.streams) whole (c.redact_asked.ensures.outcome asks))
+    (subst (λ (r : Result Bool Failure). AskedOutcome g.W.Write g.E.Sink g.F.Folder c.args.folder.now (all_given c.args.given.now) r c.args.streams.now c.redact_asked.new.streams) whole (c.redact_asked.ensures.outcome asks))
 
 pub returns-in-Ok-false-clause-says : goal.returns-in-Ok-false-clause-says
 returns-in-Ok-false-clause-says g c = λ asks.
@@ -23,7 +22,7 @@ returns-in-Ok-false-clause-says g c = λ asks.
     let partly : c.redact_asked.result ≡ Ok false = search rules in
     status_partly g.W.Write g.E.Sink call c.args.streams.now c.redact_asked.new.streams
     (c.redact_asked.ensures.idle asks)
-    (subst (λ (r : Result Bool Failure). CallOutcome g.W.Write g.E.Sink call (bytes_left c.args.streams.now.input) r c.args.streams.now c.redact_asked.new.streams) partly (c.redact_asked.ensures.outcome asks))
+    (subst (λ (r : Result Bool Failure). AskedOutcome g.W.Write g.E.Sink g.F.Folder c.args.folder.now (all_given c.args.given.now) r c.args.streams.now c.redact_asked.new.streams) partly (c.redact_asked.ensures.outcome asks))
 
 pub returns-in-Err-clause-says : goal.returns-in-Err-clause-says
 returns-in-Err-clause-says g c = λ asks.
