@@ -31,10 +31,10 @@ use Rattle.acredact.specs.declared.failure.Failure.{Failure}
 use Rattle.acredact.specs.declared.look.Look.{Look}
 use Rattle.acredact.specs.declared.look.Look.TheVariants.{Clean, Found, Unread}
 use Rattle.acredact.specs.declared.look.Verdict.{Verdict}
-use Rattle.acredact.proofs.Calls.{none_are, tells_same}
+use Rattle.acredact.proofs.Calls.{none_are, tells_both, tells_same}
 use Rattle.acredact.proofs.Done.{concat_both, tells_none}
 use Rattle.acredact.proofs.OneFile.{known_read, of_folder, of_input}
-use Rattle.acredact.proofs.Warned.{all_members, tells_both}
+use Rattle.acredact.proofs.Warned.{all_members}
 
 -- a look at what is known of a file, for reasons that may be more
 known_look : (r : Redactor) (Few Many : Reason → Type 0) (told left left' : Option (List ℕ)) → Keeps told left → ((reason : Reason) → Few reason → Many reason) → (look : Look) → IsLook r Few look left left' → IsLook r Many look told left'

@@ -15,12 +15,10 @@ use Rattle.acredact.specs.Files.{unread_line}
 use Rattle.acredact.specs.Into.{IsOutputLine, IsRuledOutputLine}
 use Rattle.acredact.specs.Ruled.{IsRuledTold, NotesByRules}
 use Rattle.acredact.specs.declared.streams.Streams.{Streams}
-use Rattle.acredact.proofs.Calls.{tells_counts, tells_last}
+use Rattle.acredact.proofs.Calls.{some_weaker, tells_both, tells_counts, tells_last, tells_weaker}
 use Rattle.acredact.proofs.Given.{same_given}
-use Rattle.acredact.proofs.PlacedCalls.{tells_weaker}
 use Rattle.acredact.proofs.RuledCalls.{notes_told}
-use Rattle.acredact.proofs.RuledFiles.{some_weaker}
-use Rattle.acredact.proofs.Warned.{tells_both, warnings_may}
+use Rattle.acredact.proofs.Warned.{warnings_may}
 
 -- a status is 0, 1 or 2
 pub two_of : (status : ℕ) → status ≤ 2 → (status ≡ 1 → ⊥) → (status ≡ 0 → ⊥) → status ≡ 2

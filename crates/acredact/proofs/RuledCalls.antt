@@ -1,9 +1,9 @@
 -- What comes of a call with rules, and its status.
-use Rattle.std.proofs.Common.{◌≡◌, ◌<◌, inl, inr, ℕ, ◌-◌, List, [], ◌∷◌, Option, true, false, refl, sym, ap, subst, ◌+◌, ◌++◌, ◌∙◌, append-nil, length, length-append, map, arith}
+use Rattle.std.proofs.Common.{◌≡◌, ◌<◌, inl, inr, ℕ, ◌-◌, List, [], ◌∷◌, Option, true, false, refl, sym, ap, subst, ◌+◌, ◌++◌, ◌∙◌, length, length-append, map, arith}
 use Rattle.std.specs.Prelude.{Bool, MatchBool, Result, Ok, Err, IfOk, IsErr, OnOk, min, replicate, slice_index, ◌^◌, ◌==◌, if◌then◌else◌}
 use Rattle.std.proofs.KnownBytes.{Keeps-refl}
 use Rattle.std.proofs.lemmas.List.{get_or-replicate, length-map, length-replicate}
-use Rattle.std.proofs.lemmas.List.Elements.{All-cons, All-nil}
+use Rattle.std.proofs.lemmas.List.Elements.{All-nil}
 use Rattle.std.proofs.lemmas.Result.{IfOk-weaker}
 use Rattle.aho_core.specs.Occurrence.{Occurrence}
 use Rattle.std.specs.Borrow.{Bor}
@@ -34,11 +34,10 @@ use Rattle.acredact.specs.declared.patterns.Rule.{Rule as PatternRule}
 use Rattle.acredact.specs.declared.ruled_failure.RuledFailure.{RuledFailure}
 use Rattle.acredact.specs.declared.ruled_failure.RuledFailure.TheVariants.{Plain}
 use Rattle.acredact.specs.declared.summary.Volume.{Volume}
-use Rattle.acredact.proofs.Calls.{tells_last, tells_same}
+use Rattle.acredact.proofs.Calls.{some_behind, some_then, some_weaker, tells_both, tells_last, tells_line, tells_same, tells_weaker}
 use Rattle.acredact.proofs.LongLines.{long_of_runs}
-use Rattle.acredact.proofs.PlacedCalls.{tells_weaker}
-use Rattle.acredact.proofs.RuledFiles.{none_begun, some_then, some_weaker, told_any, told_as}
-use Rattle.acredact.proofs.Warned.{all_members, some_behind, tells_both}
+use Rattle.acredact.proofs.RuledFiles.{none_begun, told_any, told_as}
+use Rattle.acredact.proofs.Warned.{all_members}
 
 -- counts that were zero are those of all runs
 totals_of : (last size : ℕ) (runs : List Occurrence) (zeros counts' : List ℕ) → zeros ≡ replicate size 0 → size ≡ last + 1 → CountsThese runs zeros counts' → AreTotals (last + 1) runs counts'
@@ -64,11 +63,7 @@ whole_is given load = ap (λ (n : ℕ). n + length load.rules) (length-map load.
 -- the counts were told
 pub runs_told : {E : Type 0} (K : SinkGhosts E) (given : List Given) (secrets : List Secret) (rules : List Rule) (counts : List ℕ) (volume : Volume) (errors errors' : Errors E) → counts_asked given ≡ true
     → TellsBytes K errors errors' (run_totals_text given secrets rules counts volume) → Tells K (IsRunsLine given) errors errors'
-runs_told K given secrets rules counts volume errors errors' is told = record {
-  told = run_totals_text given secrets rules counts volume ∷ [];
-  are_lines = All-cons (IsRunsLine given) (run_totals_text given secrets rules counts volume) [] (is, secrets, rules, counts, volume, refl) (All-nil (IsRunsLine given));
-  written = subst (TellsBytes K errors errors') (sym (append-nil (run_totals_text given secrets rules counts volume))) told;
-}
+runs_told K given secrets rules counts volume errors errors' is told = tells_line K (IsRunsLine given) errors errors' (run_totals_text given secrets rules counts volume) (is, secrets, rules, counts, volume, refl) told
 
 -- there is a text for each pattern, each rule, and lines that are too long
 pub texts_many : (given : List Given) (load : RuledLoad) → length (texts_asked given load) ≡ length load.secrets + length load.rules + 1
@@ -164,11 +159,7 @@ module _ {E : Type 0} (K : SinkGhosts E) (call : Call) where
     where
       by : (b : Bool) → TellsBytes K errors errors' (if b then [] else too_long_line (most_asked call.given) count) → Tells K (IsRuledTold call) errors errors'
       by true none = record { told = []; are_lines = All-nil (IsRuledTold call); written = none }
-      by false line = record {
-        told = too_long_line (most_asked call.given) count ∷ [];
-        are_lines = All-cons (IsRuledTold call) (too_long_line (most_asked call.given) count) [] (inr (inr (inr (inl (count, refl))))) (All-nil (IsRuledTold call));
-        written = subst (TellsBytes K errors errors') (sym (append-nil (too_long_line (most_asked call.given) count))) line;
-      }
+      by false line = tells_line K (IsRuledTold call) errors errors' (too_long_line (most_asked call.given) count) (inr (inr (inr (inl (count, refl))))) line
 
   -- and then the counts
   counts_lines : (errors errors' : Errors E) → Tells K (IsRunsLine call.given) errors errors' → Tells K (IsRuledTold call) errors errors'

@@ -27,10 +27,9 @@ use Rattle.acredact.specs.declared.failure.Failure.{Failure}
 use Rattle.acredact.specs.declared.look.Verdict.{Verdict}
 use Rattle.acredact.specs.declared.ruled_failure.RuledFailure.{RuledFailure}
 use Rattle.acredact.specs.declared.ruled_failure.RuledFailure.TheVariants.{Plain}
-use Rattle.acredact.proofs.Calls.{tells_last, tells_same}
+use Rattle.acredact.proofs.Calls.{some_behind, some_weaker, tells_both, tells_last, tells_same}
 use Rattle.acredact.proofs.RuledCalls.{all_doubts_told}
-use Rattle.acredact.proofs.RuledFiles.{some_weaker, told_any, told_as}
-use Rattle.acredact.proofs.Warned.{some_behind, tells_both}
+use Rattle.acredact.proofs.RuledFiles.{told_any, told_as}
 
 -- what is looked for by such parts is that of the call
 abbrev pub quest_as : Call → CheckLoad → Bool → List Rule → ℕ → List (List ℕ) → LineQuest

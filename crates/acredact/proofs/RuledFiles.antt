@@ -3,23 +3,20 @@ use Rattle.std.proofs.Common.{◌≡◌, inl, inr, ℕ, List, [], ◌∷◌, ◌
 use Rattle.std.specs.Prelude.{Bool, ◌&&◌, None, Some, Result, Ok, Err, IfOk}
 use Rattle.std.specs.Io.KnownBytes.{Keeps}
 use Rattle.std.proofs.Math.Bool.{and-true, and_assoc}
-use Rattle.std.proofs.lemmas.List.Elements.{All-append, All-cons, All-weaker}
 use Rattle.aho_cover.proofs.Counted.{counts_none, counts_then}
 use Rattle.aho_devices.specs.declared.device.Sink.{Ghosts as SinkGhosts}
 use Rattle.tool_parts.specs.Names.{is_input}
-use Rattle.tool_parts.specs.Telling.{Tells, TellsBytes, TellsSome}
+use Rattle.tool_parts.specs.Telling.{Tells, TellsSome}
 use Rattle.tool_parts.specs.declared.errors.Errors.{Errors}
 use Rattle.tool_parts.specs.declared.reason.Reason.{Reason}
-use Rattle.tool_parts.proofs.Tellings.{tells-later}
 use Rattle.secret_rules.specs.declared.error.LineError.{LineError}
 use Rattle.acredact.specs.Calls.{IsUnreadLine, TellsOfFiles}
 use Rattle.acredact.specs.Ruled.{AreBegun, AreRuled, BeginsLinesRedaction, LinedFile, LinedFiles, LinesOutcome, NamedOutcome, RedactsLines, RuledWork, WritesLines, WritesRuled}
 use Rattle.acredact.specs.RunCounts.{CountsAllRuns, HasRuns}
-use Rattle.acredact.proofs.Calls.{tells_same}
-use Rattle.acredact.proofs.Done.{both_so, concat_both}
+use Rattle.acredact.proofs.Calls.{some_all, some_then, some_weaker, tells_both, tells_same, tells_weaker}
+use Rattle.acredact.proofs.Done.{both_so}
 use Rattle.acredact.proofs.OneFile.{begun_nothing, each_none, known_begun, known_text, name_unread, of_folder, of_input}
 use Rattle.acredact.proofs.RuledText.{known_runs}
-use Rattle.acredact.proofs.Warned.{tells_both}
 
 -- what comes of the file of a name
 module _ (work : RuledWork) (name : List ℕ) (result : Result (Option Reason) LineError) (counts counts' : List ℕ) (left left' held held' : Option (List ℕ)) where
@@ -62,40 +59,12 @@ named_refused work name reason counts left held = record {
 pub none_begun : (work : RuledWork) (names : List (List ℕ)) (left held : Option (List ℕ)) → AreBegun work names left left held held
 none_begun work = each_none (WritesRuled work) (named_nothing work)
 
--- lines that are told
-module _ {E : Type 0} (K : SinkGhosts E) (IsLine : List ℕ → Type 0) (old mid new : Errors E) where
-  pub some_then : TellsSome K IsLine old mid → Tells K IsLine mid new → TellsSome K IsLine old new
-  some_then some later = record {
-    first = some.first;
-    is_line = some.is_line;
-    more = some.more ++ later.told;
-    are_lines = All-append IsLine some.more later.told some.are_lines later.are_lines;
-    written = subst (TellsBytes K old new) (sym (concat_both (some.first ∷ some.more) later.told)) (tells-later K some.written later.written);
-  }
-
-module _ {E : Type 0} (K : SinkGhosts E) (Less More : List ℕ → Type 0) (old new : Errors E) (weaker : (line : List ℕ) → Less line → More line) where
-  pub some_weaker : TellsSome K Less old new → TellsSome K More old new
-  some_weaker some = record {
-    first = some.first;
-    is_line = weaker some.first some.is_line;
-    more = some.more;
-    are_lines = All-weaker Less More weaker some.more some.are_lines;
-    written = some.written;
-  }
-
-  pub some_all : TellsSome K Less old new → Tells K More old new
-  some_all some = record {
-    told = some.first ∷ some.more;
-    are_lines = All-cons More some.first some.more (weaker some.first some.is_line) (All-weaker Less More weaker some.more some.are_lines);
-    written = some.written;
-  }
-
 -- what is told of files may be told of more
 pub told_any : {E X : Type 0} (K : SinkGhosts E) (names : List (List ℕ)) (IsLine : List ℕ → Type 0) (result : Result Bool X) (errors errors' : Errors E) → ((line : List ℕ) → IsUnreadLine names line → IsLine line)
     → TellsOfFiles K names result errors errors' → Tells K IsLine errors errors'
 told_any K names IsLine (Ok true) errors errors' weaker same = tells_same K IsLine errors errors' same
 told_any K names IsLine (Ok false) errors errors' weaker some = some_all K (IsUnreadLine names) IsLine errors errors' weaker some
-told_any K names IsLine (Err error) errors errors' weaker tells = record { told = tells.told; are_lines = All-weaker (IsUnreadLine names) IsLine weaker tells.told tells.are_lines; written = tells.written }
+told_any K names IsLine (Err error) errors errors' weaker tells = tells_weaker K (IsUnreadLine names) IsLine errors errors' weaker tells
 
 -- by whether all were read
 pub told_as : {E X : Type 0} (K : SinkGhosts E) (names : List (List ℕ)) (all whole : Bool) (errors errors' : Errors E) → all ≡ whole → TellsOfFiles {X = X} K names (Ok all) errors errors' → TellsOfFiles {X = X} K names (Ok whole) errors errors'

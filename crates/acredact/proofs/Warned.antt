@@ -1,5 +1,5 @@
 -- What comes of a call whose pieces were looked at.
-use Rattle.std.proofs.Common.{◌≡◌, inl, inr, ℕ, List, [], ◌∷◌, Option, true, false, refl, sym, subst, ◌∙◌, append-nil}
+use Rattle.std.proofs.Common.{◌≡◌, inl, inr, ℕ, List, [], ◌∷◌, Option, true, false, refl, sym, subst, ◌∙◌}
 use Rattle.std.specs.Prelude.{◌⊎◌, Bool, None, Some, Result, Err, Vec, is_some, option_map}
 use Rattle.std.specs.List.{All}
 use Rattle.std.specs.declared.io.traits.Read.{Ghosts as Readers}
@@ -11,7 +11,7 @@ use Rattle.aho_core.specs.Patterns.{Patterns}
 use Rattle.aho_devices.specs.declared.adapters.FromWrite.{FromWrite}
 use Rattle.aho_devices.specs.declared.device.Sink.{Ghosts as SinkGhosts}
 use Rattle.tool_parts.specs.Streams.{bytes_left}
-use Rattle.tool_parts.specs.Telling.{Tells, TellsBytes}
+use Rattle.tool_parts.specs.Telling.{Tells}
 use Rattle.tool_parts.specs.declared.errors.Errors.{Errors}
 use Rattle.acredact.specs.Arguments.{has}
 use Rattle.acredact.specs.Calls.{Call, CallOutcome, IsLineOf, IsWarningLine, IsWordLine, MayFail, OutputFails, RestOutcome, TellsAnyNumbers, TellsNumbers, keyed_as, names_asked, reading_by, redactor_by_given, work_by}
@@ -25,8 +25,7 @@ use Rattle.acredact.specs.declared.arguments.Word.TheVariants.{Strict}
 use Rattle.acredact.specs.declared.clean.Unclean.{Unclean}
 use Rattle.acredact.specs.declared.failure.Failure.{Failure}
 use Rattle.acredact.specs.declared.streams.Streams.{Streams}
-use Rattle.acredact.proofs.Calls.{call_ended, may_fail, tells_same}
-pub use Rattle.acredact.proofs.Calls.{some_behind, tells_both}
+use Rattle.acredact.proofs.Calls.{call_ended, may_fail, some_behind, tells_both, tells_line, tells_same}
 use Rattle.acredact.proofs.Free.{free_of}
 
 -- where they are to be refused, nothing is told and they are clean
@@ -69,11 +68,8 @@ module _ {E : Type 0} (K : SinkGhosts E) (call : Call) (IsLine : List ℕ → Ty
   -- and so may what is told of pieces
   pieces_may : (old new : Errors E) → TellsOfPieces K (has Strict call.given) (redactor_by_given call.given load) old new → Tells K IsLine old new
   pieces_may old new (None, judged, same) = tells_same K IsLine old new same
-  pieces_may old new (Some unclean, judged, (lax, told)) = record {
-    told = unclean_line unclean ∷ [];
-    are_lines = All-cons IsLine (unclean_line unclean) [] (may (unclean_line unclean) (lax, load, left, between, loaded, inr (unclean, judged.0, judged.1, refl))) (All-nil IsLine);
-    written = subst (TellsBytes K old new) (sym (append-nil (unclean_line unclean))) told;
-  }
+  pieces_may old new (Some unclean, judged, (lax, told)) =
+      tells_line K IsLine old new (unclean_line unclean) (may (unclean_line unclean) (lax, load, left, between, loaded, inr (unclean, judged.0, judged.1, refl))) told
 
   -- one after the other
   pub warnings_may : (old mid new : Errors E) → TellsDoubts K (has Strict call.given) call.given load.secrets old mid → TellsOfPieces K (has Strict call.given) (redactor_by_given call.given load) mid new → Tells K IsLine old new

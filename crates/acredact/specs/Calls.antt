@@ -1,5 +1,5 @@
 -- What a call does, by what its arguments ask for, and what it tells.
-use Rattle.std.specs.Prelude.{◌≡◌, ◌⊎◌, ℕ, ◌<◌, ◌≤◌, slice_index, ◌||◌, Bool, MatchBool, true, false, List, [], ◌∷◌, Option, Result, Ok, IfErr, IfOk, OnErr, codes, is_some, length, map, option_map, unwrap_or, if◌then◌else◌}
+use Rattle.std.specs.Prelude.{◌≡◌, ◌⊎◌, ℕ, ◌<◌, ◌≤◌, slice_index, ◌||◌, Bool, MatchBool, true, false, List, [], ◌∷◌, Option, Result, Ok, Err, IfErr, IfOk, OnErr, codes, is_some, length, map, option_map, unwrap_or, if◌then◌else◌}
 use Rattle.std.specs.declared.io.traits.Read.{Ghosts as Readers}
 use Rattle.std.specs.declared.io.traits.Write.{Ghosts as Writers}
 use Rattle.aho_core.specs.Listing.{IsMember}
@@ -24,7 +24,7 @@ use Rattle.acredact.specs.Counts.{secret_lines, lines_of_rules}
 use Rattle.acredact.specs.Doubts.{IsDoubtFailure, TellsWarnings, all_doubt_lines}
 use Rattle.acredact.specs.Failures.{IsFailureLine}
 use Rattle.acredact.specs.Forms.{forms_asked}
-use Rattle.acredact.specs.Files.{AreCut, AreDone, AreFree, AreRedacted, Does, Work, are_none, unread_line}
+use Rattle.acredact.specs.Files.{AreCut, AreFree, AreRedacted, Work, unread_line}
 use Rattle.acredact.specs.Hidden.{AreHidden}
 use Rattle.acredact.specs.Loading.{AreGiven, AreLoaded, CannotLoadAll, CannotLoadKey, CannotLoadOne, Loaded, Reading, Rules, loaded_in}
 use Rattle.acredact.specs.Messages.{output_line, unclean_line}
@@ -378,13 +378,6 @@ module _ {R : Type 0} {Reads : Readers R} {W : Type 0} (Writes : Writers W) wher
       pub fails : IfErr result (MayFail call (OutputFails streams.output streams'.output))
       pub told : OnErr result (Tells K (IsLineOf call (OutputFails streams.output streams'.output)) streams.errors streams'.errors)
       pub numbers : Tells K (IsWordLine call) streams.errors streams'.errors ⊎ TellsNumbers K call load.secrets (bytes_left streams.input) (bytes_left streams'.input) streams.errors streams'.errors
-
-    -- what comes of the files, where the failure says why they are not redacted
-    pub record RunOutcome (work : Work) (result : Result Bool Failure) (streams streams' : Streams R W E Reads) : Type 0 where
-      pub done : IfOk result (λ all. (lines : List (List ℕ)) × (all ≡ are_none lines) × Does Writes K streams streams' (AreDone work work.names lines) lines)
-      pub cut : OnErr result ((streams' ≡ streams) ⊎ ((lines : List (List ℕ)) × Does Writes K streams streams' (AreCut work work.names lines) lines))
-      pub quiet : result ≡ Ok true → streams'.errors ≡ streams.errors
-      pub fails : IfErr result (IsRunFailure (OutputFails streams.output streams'.output))
 
     -- the same of a call whose patterns and key were loaded, with the bytes that the input has left since
     abbrev pub LoadOutcome : {F X : Type 0} → Folders F X → F → List Given → Loaded → Result Bool Failure → (streams streams' : Streams R W E Reads) → Type 0
