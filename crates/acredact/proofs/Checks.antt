@@ -15,7 +15,7 @@ use Rattle.tool_parts.proofs.Tellings.{tells-later}
 use Rattle.acredact.specs.Builds.{patterns_by_given}
 use Rattle.acredact.specs.Arguments.{has}
 use Rattle.acredact.specs.Calls.{Call, IsUnreadLine, gives_pattern, names_asked, reading_by}
-use Rattle.acredact.specs.Checks.{AreSeen, AreUnmatched, CheckFails, CheckOutcome, CheckStatus, IsBuildFailure, IsCheckLine, IsLookOf, IsUnmatchedCall, Quest, SeesCall, SeesFiles, look_lines, quest_by}
+use Rattle.acredact.specs.Checks.{AreSeen, AreUnmatched, CheckFails, CheckOutcome, CheckSays, CheckStatus, IsBuildFailure, IsCheckLine, IsLookOf, IsUnmatchedCall, Quest, SeesCall, SeesFiles, look_lines, quest_by}
 use Rattle.acredact.specs.Doubts.{TellsDoubts, all_doubt_lines}
 use Rattle.acredact.specs.Failures.{IsFailureLine}
 use Rattle.acredact.specs.Faults.{IsReadReason}
@@ -191,6 +191,37 @@ pub check_load_fails : (call : Call) (failure : Failure) → CannotLoadAll (read
 check_load_fails call failure (inl one) = inr (inl one)
 check_load_fails call failure (inr memory) = inr (inr (inr (inl memory)))
 
+-- what a status says, by what is seen
+module _ (Unmatched Matched Quiet Told : Type 0) where
+  pub says_failed : Told → CheckSays Unmatched Matched Quiet Told 2
+  says_failed told = record {
+    unmatched = λ (is : 2 ≡ 0). absurd (omega arith);
+    matched = λ (is : 2 ≡ 1). absurd (omega arith);
+    quiet = λ (less : 2 < 2). absurd (omega arith);
+    tells = λ is. told;
+    bound = omega arith;
+  }
+
+  pub says_seen : (verdict : Verdict) → (verdict.all ≡ true → (verdict.found ≡ false → Unmatched) × (verdict.found ≡ true → Matched) × Quiet) → (verdict.all ≡ false → Told) → CheckSays Unmatched Matched Quiet Told (check_status verdict)
+  says_seen verdict whole partly = by verdict.found verdict.all whole partly
+    where
+      by : (found all : Bool) → (all ≡ true → (found ≡ false → Unmatched) × (found ≡ true → Matched) × Quiet) → (all ≡ false → Told) → CheckSays Unmatched Matched Quiet Told (check_status (record { found = found; all = all }))
+      by true true whole partly = record {
+        unmatched = λ (is : 1 ≡ 0). absurd (omega arith);
+        matched = λ is. (whole refl).1 refl;
+        quiet = λ less. (whole refl).2;
+        tells = λ (is : 1 ≡ 2). absurd (omega arith);
+        bound = omega arith;
+      }
+      by false true whole partly = record {
+        unmatched = λ is. (whole refl).0 refl;
+        matched = λ (is : 0 ≡ 1). absurd (omega arith);
+        quiet = λ less. (whole refl).2;
+        tells = λ (is : 0 ≡ 2). absurd (omega arith);
+        bound = omega arith;
+      }
+      by found false whole partly = says_failed (partly refl)
+
 module _ {E : Type 0} (K : SinkGhosts E) (call : Call) (left left' : Option (List ℕ)) (old : Errors E) where
   -- what is told of patterns of lists is one line of a check after another
   lists_tell : (secrets : List Secret) (between : Option (List ℕ)) (new : Errors E) → AreGiven (reading_by call) call.given secrets left between → (strict : Bool) → has Strict call.given ≡ strict
@@ -232,48 +263,20 @@ module _ {E : Type 0} (K : SinkGhosts E) (call : Call) (left left' : Option (Lis
   pub check_refused : (failure : Failure) → CheckFails call failure → CheckOutcome K call (Err failure) left left' old old
   check_refused failure fails = record { seen = tt; quiet = tt; told = tells_same K (IsCheckLine call) old old refl; fails = fails }
 
-  status_whole : (found : Bool) (new : Errors E) → CheckOutcome K call (Ok (record { found = found; all = true })) left left' old new → CheckStatus K call (check_status (record { found = found; all = true })) left left' old new
-  status_whole true new of =
-      let (lines, is_all, looks) = of.seen in
-      record {
-        unmatched = λ (is : 1 ≡ 0). absurd (omega arith);
-        matched = λ is. subst (λ (l : List (List ℕ)). SeesCall call true l left left') (none_are lines (sym is_all)) looks.sees;
-        quiet = λ less. of.quiet refl;
-        tells = λ (is : 1 ≡ 2). absurd (omega arith);
-        bound = omega arith;
-      }
-  status_whole false new of =
-      let (lines, is_all, looks) = of.seen in
-      record {
-        unmatched = λ is. unmatched_call call left left' (subst (λ (l : List (List ℕ)). SeesCall call false l left left') (none_are lines (sym is_all)) looks.sees);
-        matched = λ (is : 0 ≡ 1). absurd (omega arith);
-        quiet = λ less. of.quiet refl;
-        tells = λ (is : 0 ≡ 2). absurd (omega arith);
-        bound = omega arith;
-      }
-
   -- its status where it came to its end
   pub status_seen : (verdict : Verdict) (new : Errors E) → CheckOutcome K call (Ok verdict) left left' old new → CheckStatus K call (check_status verdict) left left' old new
-  status_seen verdict new of = by verdict.found verdict.all of
-    where
-      by : (found all : Bool) → CheckOutcome K call (Ok (record { found = found; all = all })) left left' old new → CheckStatus K call (check_status (record { found = found; all = all })) left left' old new
-      by found true of = status_whole found new of
-      by found false of =
-          let (lines, is_all, looks) = of.seen in
-          record {
-            unmatched = λ (is : 2 ≡ 0). absurd (omega arith);
-            matched = λ (is : 2 ≡ 1). absurd (omega arith);
-            quiet = λ (less : 2 < 2). absurd (omega arith);
-            tells = λ is. inl (record { found = found; lines = lines; some = sym is_all; seen = looks });
-            bound = omega arith;
-          }
+  status_seen verdict new of =
+      let (lines, is_all, looks) = of.seen in
+      says_seen _ _ _ _ verdict
+      (λ all.
+      let none = none_are lines (sym is_all ∙ all) in (
+        λ clean. unmatched_call call left left' (rw (clean, none) at looks.sees),
+        λ found. rw (found, none) at looks.sees,
+        of.quiet all,
+      ))
+      (λ part. inl (record { found = verdict.found; lines = lines; some = sym is_all ∙ part; seen = looks }))
 
   -- and where it did not, and that was told
   pub status_ended : (failure : Failure) (mid new : Errors E) (line : List ℕ) → CheckOutcome K call (Err failure) left left' old mid → IsFailureLine failure line → TellsBytes K mid new line → CheckStatus K call 2 left left' old new
-  status_ended failure mid new line of is told = record {
-    unmatched = λ (is : 2 ≡ 0). absurd (omega arith);
-    matched = λ (is : 2 ≡ 1). absurd (omega arith);
-    quiet = λ (less : 2 < 2). absurd (omega arith);
-    tells = λ two. inr (record { lines = of.told.told; are_told = of.told.are_lines; failure = failure; fails = of.fails; line = line; is_line = is; told = tells-later K of.told.written told });
-    bound = omega arith;
-  }
+  status_ended failure mid new line of is told =
+      says_failed _ _ _ _ (inr (record { lines = of.told.told; are_told = of.told.are_lines; failure = failure; fails = of.fails; line = line; is_line = is; told = tells-later K of.told.written told }))

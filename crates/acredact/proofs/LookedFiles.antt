@@ -139,16 +139,16 @@ pub looked_refused : (quest : LineQuest) (name : List ℕ) (reason : Reason) (le
 looked_refused quest name reason left held = record { whole = λ (is : false ≡ true). absurd (cc); begun = named_none quest name left held }
 
 -- what a look tells of its file
-pub look_told : {E X : Type 0} (K : SinkGhosts E) (name : List ℕ) (look : Look) (errors errors' : Errors E) → TellsBytes K errors errors' (concat (look_lines name look)) → (is_unread_look look ≡ false → errors' ≡ errors)
+pub look_told : {E : Type 0} (X : Type 0) (K : SinkGhosts E) (name : List ℕ) (look : Look) (errors errors' : Errors E) → TellsBytes K errors errors' (concat (look_lines name look)) → (is_unread_look look ≡ false → errors' ≡ errors)
     → TellsOfFiles {X = X} K (name ∷ []) (Ok (verdict_of look).all) errors errors'
-look_told K name (Unread reason) errors errors' told quiet = record {
+look_told X K name (Unread reason) errors errors' told quiet = record {
   first = unread_line name reason;
   is_line = (name, inl refl, inl (reason, refl));
   more = [];
   are_lines = All-nil (IsUnreadLine (name ∷ []));
   written = told;
 }
-look_told K name look errors errors' told quiet = quiet refl
+look_told X K name look errors errors' told quiet = quiet refl
 
 -- one file, and then others
 one_more : (quest : LineQuest) (name : List ℕ) (rest : List (List ℕ)) (first more : Bool) (left mid left' held half held' : Option (List ℕ)) → SeesNamed quest name first left mid held half

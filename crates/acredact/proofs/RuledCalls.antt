@@ -241,12 +241,12 @@ module _ {E : Type 0} (K : SinkGhosts E) (call : Call) where
         tells = record {
           told = all_told;
           partly = λ is. some_then K (IsRuledTold call) errors first errors'
-              (some_weaker K (IsUnreadLine (names_asked call.given)) (IsRuledTold call) errors first (λ line unread. inl unread) (told_as K (names_asked call.given) all false errors first (sym same ∙ is) files.told)) later;
+              (some_weaker K (IsUnreadLine (names_asked call.given)) (IsRuledTold call) errors first (λ line unread. inl unread) (told_as LineError K (names_asked call.given) all false errors first (sym same ∙ is) files.told)) later;
         };
         notes = λ is.
             let whole = sym same ∙ is in
             numbers_of load size zeros counts' volume left left' errors second errors' are sized (files.whole whole).1 (read whole)
-            (subst (λ (e : Errors E). TellsBytes K e second (long_told (most_asked call.given) (last_of counts'))) (told_as K (names_asked call.given) all true errors first whole files.told) long) told;
+            (subst (λ (e : Errors E). TellsBytes K e second (long_told (most_asked call.given) (last_of counts'))) (told_as LineError K (names_asked call.given) all true errors first whole files.told) long) told;
       }
       by (Err failure) same told = record { whole = tt; begun = files.begun; tells = record { told = all_told; partly = tt }; notes = tt }
 

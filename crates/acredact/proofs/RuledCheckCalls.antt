@@ -1,13 +1,13 @@
 -- What comes of a check by rules, from what is seen of its files up to its status.
 use Rattle.std.proofs.Common.{◌≡◌, inl, inr, ℕ, List, Option, true, false, refl, sym, ap, subst, ◌∙◌, arith}
-use Rattle.std.specs.Prelude.{Bool, ◌<◌, ◌≤◌, Result, Ok, Err, IsErr}
+use Rattle.std.specs.Prelude.{Bool, ◌≤◌, Result, Ok, Err, IsErr}
 use Rattle.std.specs.Io.KnownBytes.{Keeps}
 use Rattle.std.specs.declared.io.traits.Write.{Ghosts as Writers}
 use Rattle.std.proofs.KnownBytes.{Keeps-refl}
 use Rattle.aho_devices.specs.declared.adapters.FromWrite.{FromWrite}
 use Rattle.aho_devices.specs.declared.device.Sink.{Ghosts as SinkGhosts}
 use Rattle.tool_parts.specs.Streams.{output_bytes}
-use Rattle.tool_parts.specs.Telling.{Tells, TellsBytes}
+use Rattle.tool_parts.specs.Telling.{Tells}
 use Rattle.tool_parts.specs.declared.errors.Errors.{Errors}
 use Rattle.secret_rules.specs.Covering.{covering_by}
 use Rattle.secret_rules.specs.declared.error.LineError.{LineError}
@@ -15,19 +15,16 @@ use Rattle.secret_rules.specs.declared.rule.Rule.{Rule}
 use Rattle.acredact.specs.Arguments.{has}
 use Rattle.acredact.specs.Calls.{Call, IsUnreadLine, names_asked, reading_by}
 use Rattle.acredact.specs.Doubts.{TellsDoubts}
-use Rattle.acredact.specs.Failures.{IsFailureLine}
-use Rattle.acredact.specs.RuleLines.{IsRuledLine}
 use Rattle.acredact.specs.LineRules.{most_asked}
 use Rattle.acredact.specs.Ruled.{AreRulesGiven, IsRuledTold, patterns_by_case}
 use Rattle.acredact.specs.RuledChecks.{BeginAllTelling, BeginsLoadedCheck, BeginsRuledCheck, CheckLoad, CheckedLines, LineQuest, RuledCheck, RuledCheckStatus, SeenFiles, line_quest_by}
 use Rattle.acredact.specs.Statuses.{check_status}
 use Rattle.acredact.specs.Tables.{patterns_in}
 use Rattle.acredact.specs.declared.arguments.Word.TheVariants.{AsWord, Summary}
-use Rattle.acredact.specs.declared.failure.Failure.{Failure}
 use Rattle.acredact.specs.declared.look.Verdict.{Verdict}
 use Rattle.acredact.specs.declared.ruled_failure.RuledFailure.{RuledFailure}
-use Rattle.acredact.specs.declared.ruled_failure.RuledFailure.TheVariants.{Plain}
-use Rattle.acredact.proofs.Calls.{some_behind, some_weaker, tells_both, tells_last, tells_same}
+use Rattle.acredact.proofs.Calls.{some_behind, some_weaker, tells_both, tells_same}
+use Rattle.acredact.proofs.Checks.{says_seen}
 use Rattle.acredact.proofs.RuledCalls.{all_doubts_told}
 use Rattle.acredact.proofs.RuledFiles.{told_any, told_as}
 
@@ -97,9 +94,9 @@ module _ {E : Type 0} (K : SinkGhosts E) (call : Call) where
       tells = record {
         told = told_any K (names_asked call.given) (IsRuledTold call) (Ok verdict.all) errors errors' (λ line is. inl is) files.told;
         partly = λ none. some_weaker K (IsUnreadLine (names_asked call.given)) (IsRuledTold call) errors errors' (λ line is. inl is)
-            (told_as K (names_asked call.given) verdict.all false errors errors' none files.told);
+            (told_as LineError K (names_asked call.given) verdict.all false errors errors' none files.told);
       };
-      quiet = λ all. told_as K (names_asked call.given) verdict.all true errors errors' all files.told;
+      quiet = λ all. told_as LineError K (names_asked call.given) verdict.all true errors errors' all files.told;
     }
 
     -- or not all of them
@@ -151,47 +148,7 @@ module _ {E : Type 0} (K : SinkGhosts E) (call : Call) where
       }
 
   -- the status tells what was seen
-  pub check_done : (found all : Bool) (left left' held held' : Option (List ℕ)) (errors errors' : Errors E) → RuledCheck K call (Ok (record { found = found; all = all })) left left' held held' errors errors'
-      → RuledCheckStatus K call (check_status (record { found = found; all = all })) left left' held held' errors errors'
-  check_done true true left left' held held' errors errors' of = record {
-    unmatched = λ (is : 1 ≡ 0). absurd (omega (arith, is));
-    matched = λ is. of.whole refl;
-    begins = of.begun;
-    tells = λ (is : 1 ≡ 2). absurd (omega (arith, is));
-    quiet = λ less. of.quiet refl;
-    bound = omega arith;
-  }
-  check_done false true left left' held held' errors errors' of = record {
-    unmatched = λ is. of.whole refl;
-    matched = λ (is : 0 ≡ 1). absurd (omega (arith, is));
-    begins = of.begun;
-    tells = λ (is : 0 ≡ 2). absurd (omega (arith, is));
-    quiet = λ less. of.quiet refl;
-    bound = omega arith;
-  }
-  check_done found false left left' held held' errors errors' of = record {
-    unmatched = λ (is : 2 ≡ 0). absurd (omega (arith, is));
-    matched = λ (is : 2 ≡ 1). absurd (omega (arith, is));
-    begins = of.begun;
-    tells = λ is. of.tells.partly refl;
-    quiet = λ (less : 2 < 2). absurd (omega (arith, less));
-    bound = omega arith;
-  }
-
-  -- the call ended early, and that is told
-  pub check_failed : (failure : RuledFailure) (line : List ℕ) (left left' held held' : Option (List ℕ)) (errors meanwhile errors' : Errors E) → RuledCheck K call (Err failure) left left' held held' errors meanwhile
-      → IsRuledLine failure line → TellsBytes K meanwhile errors' line → RuledCheckStatus K call 2 left left' held held' errors errors'
-  check_failed failure line left left' held held' errors meanwhile errors' of is told = record {
-    unmatched = λ (none : 2 ≡ 0). absurd (omega (arith, none));
-    matched = λ (none : 2 ≡ 1). absurd (omega (arith, none));
-    begins = of.begun;
-    tells = λ two. tells_last K (IsRuledTold call) errors meanwhile errors' line of.tells.told (inr (inl (failure, is))) told;
-    quiet = λ (less : 2 < 2). absurd (omega (arith, less));
-    bound = omega arith;
-  }
-
-  -- the arguments were refused, or there was no memory to read them
-  pub check_by_rules_refused : (left held : Option (List ℕ)) (failure : Failure) (errors errors' : Errors E) (line : List ℕ) → IsFailureLine failure line → TellsBytes K errors errors' line
-      → RuledCheckStatus K call 2 left left held held errors errors'
-  check_by_rules_refused left held failure errors errors' line is told =
-      check_failed (Plain failure) line left left held held errors errors errors' (check_early (Plain failure) left left held errors errors (tells_same K (IsRuledTold call) errors errors refl)) is told
+  pub check_done : (verdict : Verdict) (left left' held held' : Option (List ℕ)) (errors errors' : Errors E) → RuledCheck K call (Ok verdict) left left' held held' errors errors'
+      → RuledCheckStatus K call (check_status verdict) left left' held held' errors errors'
+  check_done verdict left left' held held' errors errors' of =
+      says_seen _ _ _ _ verdict (λ all. (λ clean. rw clean at (of.whole all), λ found. rw found at (of.whole all), of.quiet all)) of.tells.partly

@@ -67,8 +67,8 @@ told_any K names IsLine (Ok false) errors errors' weaker some = some_all K (IsUn
 told_any K names IsLine (Err error) errors errors' weaker tells = tells_weaker K (IsUnreadLine names) IsLine errors errors' weaker tells
 
 -- by whether all were read
-pub told_as : {E X : Type 0} (K : SinkGhosts E) (names : List (List ℕ)) (all whole : Bool) (errors errors' : Errors E) → all ≡ whole → TellsOfFiles {X = X} K names (Ok all) errors errors' → TellsOfFiles {X = X} K names (Ok whole) errors errors'
-told_as {X = X} K names all whole errors errors' is told = subst (λ (b : Bool). TellsOfFiles {X = X} K names (Ok b) errors errors') is told
+pub told_as : {E : Type 0} (X : Type 0) (K : SinkGhosts E) (names : List (List ℕ)) (all whole : Bool) (errors errors' : Errors E) → all ≡ whole → TellsOfFiles {X = X} K names (Ok all) errors errors' → TellsOfFiles {X = X} K names (Ok whole) errors errors'
+told_as X K names all whole errors errors' is told = subst (λ (b : Bool). TellsOfFiles {X = X} K names (Ok b) errors errors') is told
 
 -- what is answered of a file, and then of others
 abbrev pub also : {X : Type 0} → Bool → Result Bool X → Result Bool X
@@ -121,8 +121,8 @@ module _ {E : Type 0} (K : SinkGhosts E) (work : RuledWork) where
           → IfOk (also whole result) (λ all. all ≡ true → AreRuled work (name ∷ names) left left' held held' × CountsAllRuns work.holds work.ruling.covering (name ∷ names) left left' counts counts')
       by (Ok all) others = λ is.
           let both = both_so whole all (whole && all) refl is in
-          let (redacted, first, has, grown) = one.whole both.0 in
-          let (are, rest, have, later) = others both.1 in
+          let (redacted, (first, has, grown)) = one.whole both.0 in
+          let (are, (rest, have, later)) = others both.1 in
           ((mid, between, redacted, are), (first ++ rest, (first, rest, refl, mid, has, have), counts_then first rest counts half counts' grown later))
       by (Err error) others = tt
 

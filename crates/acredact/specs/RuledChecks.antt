@@ -1,5 +1,5 @@
 -- What a check by rules sees in the lines of files, and what it writes of that.
-use Rattle.std.specs.Prelude.{◌≡◌, ◌⊎◌, ℕ, ◌+◌, ◌-◌, ◌<◌, ◌≤◌, ◌^◌, min, nat_lt, ◌&&◌, ◌||◌, not, Bool, true, false, List, [], ◌∷◌, ◌++◌, Option, None, Some, Result, Ok, Err, IfOk, codes, decimal, if◌then◌else◌, length, replicate, slice_get, slice_index_or, slice_set, string_bytes}
+use Rattle.std.specs.Prelude.{◌≡◌, ◌⊎◌, ℕ, ◌+◌, ◌-◌, ◌<◌, ◌^◌, min, nat_lt, ◌&&◌, ◌||◌, not, Bool, true, false, List, [], ◌∷◌, ◌++◌, Option, None, Some, Result, Ok, Err, IfOk, codes, decimal, if◌then◌else◌, length, replicate, slice_get, slice_index_or, slice_set, string_bytes}
 use Rattle.std.specs.Borrow.{Bor, MutBor}
 use Rattle.std.specs.Io.{StartsWith}
 use Rattle.std.specs.Io.KnownBytes.{Appends, Consumes, IsAtEnd, Keeps}
@@ -29,6 +29,7 @@ use Rattle.secret_rules.specs.declared.line_cover.LineCover.{LineCover}
 use Rattle.secret_rules.specs.declared.rule.Rule.{Rule}
 use Rattle.acredact.specs.Arguments.{AsksForRulesCheck, Given, all_given, has}
 use Rattle.acredact.specs.Calls.{Call, TellsOfFiles, call_of, names_asked, reading_by}
+use Rattle.acredact.specs.Checks.{CheckSays}
 use Rattle.acredact.specs.Counts.{counted_more}
 use Rattle.acredact.specs.Doubts.{TellsDoubts}
 use Rattle.acredact.specs.LineRules.{most_asked}
@@ -347,13 +348,9 @@ module _ {E : Type 0} (K : SinkGhosts E) where
     pub quiet : IfOk result (λ verdict. verdict.all ≡ true → TellsListsBeside call left errors errors')
 
   -- what its status says
-  pub record RuledCheckStatus (call : Call) (status : ℕ) (left left' held held' : Option (List ℕ)) (errors errors' : Errors E) : Type 0 where
-    pub unmatched : status ≡ 0 → SeesByRules call false left left' held held'
-    pub matched : status ≡ 1 → SeesByRules call true left left' held held'
-    pub begins : BeginsRuledCheck call left left' held held'
-    pub tells : status ≡ 2 → TellsSome K (IsRuledTold call) errors errors'
-    pub quiet : status < 2 → TellsListsBeside call left errors errors'
-    pub bound : status ≤ 2
+  abbrev pub RuledCheckStatus : Call → (status : ℕ) → (left left' held held' : Option (List ℕ)) → (errors errors' : Errors E) → Type 0
+  RuledCheckStatus call status left left' held held' errors errors' = CheckSays (SeesByRules call false left left' held held') (SeesByRules call true left left' held held')
+      (TellsListsBeside call left errors errors') (TellsSome K (IsRuledTold call) errors errors') status
 
 -- what covers lines does so by this
 pub record IsCoveredBy {A : Type 0} (G : Automata A) (cover : LineCover A) (covering : Covering) : Type 0 where
@@ -450,6 +447,7 @@ module _ {R : Type 0} {Reads : Readers R} {W E : Type 0} (Writes : Writers W) (K
 -- of a call that asks for this
 pub record ChecksByRules {R W E : Type 0} {Reads : Readers R} (Writes : Writers W) (K : SinkGhosts E) (call : Call) (status : ℕ) (streams streams' : Streams R W E Reads) : Type 0 where
   pub says : Between Writes (RuledCheckStatus K call status) streams streams'
+  pub begins : BeginsRuledCheck call (bytes_left streams.input) (bytes_left streams'.input) (output_bytes Writes streams.output) (output_bytes Writes streams'.output)
   pub unwritten : has Summary call.given ≡ false → streams'.output ≡ streams.output
   pub flushed : has Summary call.given ≡ true → status < 2 → streams'.output.device.flushed ≡ true
 

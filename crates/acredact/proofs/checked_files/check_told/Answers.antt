@@ -1,6 +1,7 @@
 -- A file that was not read to its end is told, and so is one that the output goes to.
 use Rattle.std.proofs.Common.{[], rules, ◌≡◌, ◌∷◌, false, inl, inr, refl, true}
 use Rattle.std.specs.Prelude.{Err}
+use Rattle.secret_rules.specs.declared.error.LineError.{LineError}
 use Rattle.acredact.specs.Calls.{IsUnreadLine}
 use Rattle.acredact.specs.Messages.{output_line}
 use Rattle.acredact.specs.RuledChecks.{quest_in}
@@ -25,4 +26,4 @@ pub returns-clause-sees : goal.returns-clause-sees
 returns-clause-sees g c = λ covering covered.
     let file = c.in_ok-look.ensures.looked covering covered in
     rw c.verdict_of.ensures.seen
-    (record { whole = file.whole; begun = file.begun; told = look_told g.E.Sink c.args.name.now c.in_ok-look.look _ _ c.tell_look.ensures.told c.tell_look.ensures.quiet })
+    (record { whole = file.whole; begun = file.begun; told = look_told LineError g.E.Sink c.args.name.now c.in_ok-look.look _ _ c.tell_look.ensures.told c.tell_look.ensures.quiet })
