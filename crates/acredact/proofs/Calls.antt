@@ -16,14 +16,13 @@ use Rattle.tool_parts.specs.declared.errors.Errors.{Errors}
 use Rattle.tool_parts.specs.declared.failure.Failure.TheVariants.{OutOfMemory}
 use Rattle.tool_parts.proofs.Tellings.{tells-later}
 use Rattle.acredact.specs.Arguments.{Given, counts_asked}
-use Rattle.acredact.specs.Calls.{AreBounded, Call, CallOutcome, CannotLoadCall, IsCountsFailure, IsCountsLine, IsLineOf, IsRunFailure, IsUnreadLine, IsWordLine, MayFail, OutputFails, RestOutcome, TellsCounts, TellsNumbers, call_of, names_asked, reading_by, redactor_by_given, work_by}
+use Rattle.acredact.specs.Calls.{AreBounded, Call, CallOutcome, CannotLoadCall, IsCountsFailure, IsCountsLine, IsLineOf, IsRunFailure, IsUnreadLine, IsWordLine, MayFail, OutputFails, RestOutcome, TellsCounts, TellsNumbers, call_of, names_asked, reading_by, work_by}
 use Rattle.acredact.specs.Builds.{patterns_by_given}
 use Rattle.acredact.specs.Counts.{secret_lines, zeros}
 use Rattle.acredact.specs.Files.{AreCut, Does, FilesOutcome, IsDone, Work, are_none, redactor_of, unread_line, work_of}
 use Rattle.acredact.specs.Messages.{output_line}
 use Rattle.acredact.specs.Loading.{AreLoaded, Loaded, loaded_as}
 use Rattle.acredact.specs.Ready.{IsJobFor}
-use Rattle.acredact.specs.Secrets.{Redactor}
 use Rattle.acredact.specs.Summaries.{no_volume, totals_text}
 use Rattle.acredact.specs.Sums.{sums_of}
 use Rattle.acredact.specs.Tables.{Secret, patterns_in, secrets_of}
@@ -297,7 +296,5 @@ module _ {R : Type 0} {Reads : Readers R} {W E : Type 0} (Writes : Writers W) (K
 -- what holds of the work of a job holds of what a call asks for
 pub job_does : {F X : Type 0} (D : Folders F X) (folder : F) (given : List Given) (load : Loaded) (job : Job F) → IsJobFor folder given load job
     → (P : Work → Type 0) → P (work_of D job (redactor_of job (patterns_by_given given (patterns_in load.secrets)))) → P (work_by (call_of D folder given) load)
-job_does {F} D folder given load job is P done =
-    subst (λ (f : F). P (record { holds = D.holds f; refuses = D.refuses f; meets = D.meets f; names = names_asked given; redactor = redactor_by_given given load })) is.opens
-    (subst (λ (r : Redactor). P (record { holds = D.holds job.folder.now; refuses = D.refuses job.folder.now; meets = D.meets job.folder.now; names = names_asked given; redactor = r })) is.redactor
-    (subst (λ (l : List (List ℕ)). P (record { holds = D.holds job.folder.now; refuses = D.refuses job.folder.now; meets = D.meets job.folder.now; names = l; redactor = redactor_of job (patterns_by_given given (patterns_in load.secrets)) })) is.names done))
+job_does D folder given load job is P done =
+    rw (is.names, is.redactor, is.opens) at done

@@ -39,11 +39,8 @@ use Rattle.acredact.proofs.RuledFiles.{of_first, told_any, told_more}
 pub still_covered : {A : Type 0} (G : Automata A) (old new : LineCover A) (covering : Covering) → CanCoverLines G new → CoversTheSame old new → IsCoveredBy G old covering → IsCoveredBy G new covering
 still_covered G old new covering can same is = record {
   can = can;
-  searched = subst (λ o. AreSearchedFor G o covering.patterns) (sym same.automaton) is.searched;
-  is = is.is
-      ∙ ap (λ w. covering_by w (rules_of old) (most_of old) covering.patterns) (sym same.words)
-      ∙ ap (λ r. covering_by (words_of new) r (most_of old) covering.patterns) (sym same.rules)
-      ∙ ap (λ m. covering_by (words_of new) (rules_of new) m covering.patterns) (sym same.most);
+  searched = rw same.automaton is.searched;
+  is = rw (same.words, same.rules, same.most) is.is;
 }
 
 -- what covers lines by such parts does so by these
@@ -52,9 +49,7 @@ pub covered_by : {A : Type 0} (G : Automata A) (cover : LineCover A) (words : Bo
 covered_by G cover words rules most p can searched is_words is_rules is_most = record {
   can = can;
   searched = searched;
-  is = ap (λ w. covering_by w rules most p) (sym is_words)
-      ∙ ap (λ r. covering_by (words_of cover) r most p) (sym is_rules)
-      ∙ ap (λ m. covering_by (words_of cover) (rules_of cover) m p) (sym is_most);
+  is = rw (is_words, is_rules, is_most) refl;
 }
 
 -- where nothing was read nothing was told

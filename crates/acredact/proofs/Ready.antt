@@ -166,8 +166,7 @@ module _ (given : List Given) (secrets : List Secret) (ready : Ready) (is : IsRe
 pub redactor_same : (p : Patterns) (covers covers' words words' : Bool) (pieces pieces' : List (List ℕ)) (key key' : Option Keyed) → covers ≡ covers' → words ≡ words' → pieces ≡ pieces' → key ≡ key'
     → redactor_as p covers words pieces key ≡ redactor_as p covers' words' pieces' key'
 redactor_same p covers covers' words words' pieces pieces' key key' by chosen alike keyed =
-    ap (λ (b : Bool). redactor_as p b words pieces key) by ∙ ap (λ (b : Bool). redactor_as p covers' b pieces key) chosen
-    ∙ ap (λ (l : List (List ℕ)). redactor_as p covers' words' l key) alike ∙ ap (redactor_as p covers' words' pieces') keyed
+    rw (by, chosen, alike, keyed) refl
 
 -- lists are read alike
 pub reading_from : {F X : Type 0} (D : Folders F X) (lists : Lists F) (folder : F) (rules : Rules) → lists.folder.now ≡ folder → rules_for lists ≡ rules → (P : Reading → Type 0)

@@ -23,7 +23,7 @@ use Rattle.acredact.specs.RuleLines.{IsRuledLine, too_long_line}
 use Rattle.acredact.specs.Loading.{key_lent}
 use Rattle.acredact.specs.LongLines.{long_told, whole_number}
 use Rattle.acredact.specs.RunCounts.{CountsAllRuns, IsRunsLine, TellsAnyTotals, TellsRunCounts, TellsRunTotals, run_totals_text}
-use Rattle.acredact.specs.Ruled.{AreRuledLoaded, CountsByRules, IsRuledNotice, IsRuledTold, LinedFiles, NotesByRules, NumbersOf, RuledCall, RuledLoad, RuledOutcome, RuledStatus, RuledWork, own_text, patterns_by_case, rule_asked, ruled_by, ruled_load, ruling_as, ruling_by, texts_asked}
+use Rattle.acredact.specs.Ruled.{AreRuledLoaded, CountsByRules, IsRuledNotice, IsRuledTold, LinedFiles, NotesByRules, NumbersOf, RuledCall, RuledLoad, RuledOutcome, RuledStatus, own_text, patterns_by_case, rule_asked, ruled_by, ruled_load, ruling_as, ruling_by, texts_asked}
 use Rattle.acredact.specs.Summaries.{no_volume}
 use Rattle.acredact.specs.Tables.{Secret, patterns_in, piece_by, secret_of, secrets_of}
 use Rattle.acredact.specs.Totals.{AreTotals}
@@ -91,22 +91,7 @@ pub ruling_same : (given : List Given) (secrets : List PatternRule) (rules : Lis
     → words ≡ has AsWord given → most ≡ most_asked given → texts ≡ texts_asked given (ruled_load secrets rules key) → rule ≡ rule_asked given texts (key_lent key) (length secrets)
     → ruling_as words rules most rule (patterns_by_case given (patterns_in (secrets_of secrets))) ≡ ruling_by given (ruled_load secrets rules key)
 ruling_same given secrets rules key words most texts rule is_words is_most are is_rule =
-    let p = patterns_by_case given (patterns_in (secrets_of secrets)) in
-    let asked : rule ≡ rule_asked given (texts_asked given (ruled_load secrets rules key)) (key_lent key) (length (secrets_of secrets)) =
-    is_rule
-    ∙ ap (λ (l : List (List ℕ)). rule_asked given l (key_lent key) (length secrets)) are
-    ∙ ap (λ (n : ℕ). rule_asked given (texts_asked given (ruled_load secrets rules key)) (key_lent key) n) (sym (length-map secrets secret_of)) in
-    ap (λ (w : Bool). ruling_as w rules most rule p) is_words
-    ∙ ap (λ (m : ℕ). ruling_as (has AsWord given) rules m rule p) is_most
-    ∙ ap (λ (r : PieceRule). ruling_as (has AsWord given) rules (most_asked given) r p) asked
-
-module _ {E : Type 0} (K : SinkGhosts E) (result : Result Bool LineError) (counts counts' : List ℕ) (left left' held held' : Option (List ℕ)) (errors errors' : Errors E) where
-  -- and so is what comes of it
-  pub files_same : (work work' : RuledWork) (names names' : List (List ℕ)) → work ≡ work' → names ≡ names' → LinedFiles K work names result counts counts' left left' held held' errors errors'
-      → LinedFiles K work' names' result counts counts' left left' held held' errors errors'
-  files_same work work' names names' same alike files =
-      subst (λ (l : List (List ℕ)). LinedFiles K work' l result counts counts' left left' held held' errors errors') alike
-      (subst (λ (w : RuledWork). LinedFiles K w names result counts counts' left left' held held' errors errors') same files)
+    rw (is_words, is_most, is_rule, are, length-map secrets secret_of) refl
 
 module _ {E : Type 0} (K : SinkGhosts E) (call : Call) where
   -- it ended before a file was read

@@ -1,5 +1,5 @@
 -- What comes of a check by rules, from what is seen of its files up to its status.
-use Rattle.std.proofs.Common.{◌≡◌, inl, inr, ℕ, List, Option, true, false, refl, sym, ap, subst, ◌∙◌, arith}
+use Rattle.std.proofs.Common.{◌≡◌, inl, inr, ℕ, List, Option, true, false, refl, sym, subst, arith}
 use Rattle.std.specs.Prelude.{Bool, ◌≤◌, Result, Ok, Err, IsErr}
 use Rattle.std.specs.Io.KnownBytes.{Keeps}
 use Rattle.std.specs.declared.io.traits.Write.{Ghosts as Writers}
@@ -39,17 +39,7 @@ quest_as call load words told most texts = record {
 pub quest_same : (call : Call) (load : CheckLoad) (words : Bool) (told : List Rule) (most : ℕ) (texts : List (List ℕ)) → words ≡ has AsWord call.given → told ≡ load.rules → most ≡ most_asked call.given
     → texts ≡ patterns_in load.secrets → quest_as call load words told most texts ≡ line_quest_by call load
 quest_same call load words told most texts is_words is_told is_most is_texts =
-    ap (λ (w : Bool). quest_as call load w told most texts) is_words
-    ∙ ap (λ (t : List Rule). quest_as call load (has AsWord call.given) t most texts) is_told
-    ∙ ap (λ (m : ℕ). quest_as call load (has AsWord call.given) load.rules m texts) is_most
-    ∙ ap (λ (l : List (List ℕ)). quest_as call load (has AsWord call.given) load.rules (most_asked call.given) l) is_texts
-
-module _ {E : Type 0} (K : SinkGhosts E) (result : Result Verdict LineError) (left left' held held' : Option (List ℕ)) (errors errors' : Errors E) where
-  -- and so is what is seen
-  pub seen_same : (quest quest' : LineQuest) (names names' : List (List ℕ)) → quest ≡ quest' → names ≡ names' → SeenFiles K quest names result left left' held held' errors errors' → SeenFiles K quest' names' result left left' held held' errors errors'
-  seen_same quest quest' names names' same alike files =
-      subst (λ (l : List (List ℕ)). SeenFiles K quest' l result left left' held held' errors errors') alike
-      (subst (λ (q : LineQuest). SeenFiles K q names result left left' held held' errors errors') same files)
+    rw (is_words, is_told, is_most, is_texts) refl
 
 -- the same output holds the same
 pub same_kept : {W : Type 0} (Writes : Writers W) (output output' : FromWrite W) → output' ≡ output → Keeps (output_bytes Writes output) (output_bytes Writes output')

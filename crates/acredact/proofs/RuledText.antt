@@ -167,12 +167,8 @@ pub still_lined : {A P : Type 0} (G : Automata A) (Q : PieceGhosts P) (old new :
     → Q.rule new.pieces ≡ Q.rule old.pieces → IsLined G Q old ruling → IsLined G Q new ruling
 still_lined G Q old new ruling can same rule is = record {
   can = can;
-  searched = subst (λ o. AreSearchedFor G o ruling.covering.patterns) (sym same.automaton) is.searched;
-  is = is.is
-      ∙ ap (λ w. ruling_as w (rules_of old.cover) (most_of old.cover) (Q.rule old.pieces) ruling.covering.patterns) (sym same.words)
-      ∙ ap (λ r. ruling_as (words_of new.cover) r (most_of old.cover) (Q.rule old.pieces) ruling.covering.patterns) (sym same.rules)
-      ∙ ap (λ m. ruling_as (words_of new.cover) (rules_of new.cover) m (Q.rule old.pieces) ruling.covering.patterns) (sym same.most)
-      ∙ ap (λ r. ruling_as (words_of new.cover) (rules_of new.cover) (most_of new.cover) r ruling.covering.patterns) (sym rule);
+  searched = rw same.automaton is.searched;
+  is = rw (same.words, same.rules, same.most, rule) is.is;
 }
 
 -- what covers lines by such parts does so by these
@@ -182,10 +178,7 @@ pub lined_by : {A P : Type 0} (G : Automata A) (Q : PieceGhosts P) (lined : Line
 lined_by G Q lined words rules most rule p can searched is_words is_rules is_most is_rule = record {
   can = can;
   searched = searched;
-  is = ap (λ w. ruling_as w rules most rule p) (sym is_words)
-      ∙ ap (λ r. ruling_as (words_of lined.cover) r most rule p) (sym is_rules)
-      ∙ ap (λ m. ruling_as (words_of lined.cover) (rules_of lined.cover) m rule p) (sym is_most)
-      ∙ ap (λ r. ruling_as (words_of lined.cover) (rules_of lined.cover) (most_of lined.cover) r p) (sym is_rule);
+  is = rw (is_words, is_rules, is_most, is_rule) refl;
 }
 
 -- an automaton without a pattern is of none

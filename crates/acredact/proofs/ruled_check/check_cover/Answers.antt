@@ -6,7 +6,7 @@ use Rattle.acredact.specs.Ruled.{patterns_by_case}
 use Rattle.acredact.specs.RuledChecks.{check_load}
 use Rattle.acredact.specs.Tables.{patterns_in}
 use Rattle.acredact.proofs.LookedFiles.{covered_by}
-use Rattle.acredact.proofs.RuledCheckCalls.{check_none, files_looked, files_unlooked, quest_same, same_kept, seen_same}
+use Rattle.acredact.proofs.RuledCheckCalls.{check_none, files_looked, files_unlooked, quest_same, same_kept}
 use Rattle.acredact.proofs.ruled_check.check_cover.Goals as goal
 
 pub returns-in_err-cover-clause-outcome : goal.returns-in_err-cover-clause-outcome
@@ -24,7 +24,7 @@ returns-in-Ok-clause-outcome g c =
     let quest = quest_same call load c.has-words.result c.as_slice-rules.result.now c.most_of-most.result (patterns_in load.secrets) c.has-words.ensures.has c.as_slice-rules.ensures.same c.most_of-most.ensures.most refl in
     files_looked g.E.Sink call load _ _ _ _ sees.0 sees.1 _ _ (λ summary. sees.2 (c.has-tells.ensures.has ∙ summary))
     (λ silent. same_kept g.W.Write _ _ (c.check_to.ensures.unwritten (c.has-tells.ensures.has ∙ silent)))
-    c.in-Ok.verdict (seen_same g.E.Sink _ _ _ _ _ _ _ _ _ _ _ quest c.requires.names sees.3)
+    c.in-Ok.verdict (rw (quest, c.requires.names) at sees.3)
 
 pub returns-clause-outcome : goal.returns-clause-outcome
 returns-clause-outcome g c =
@@ -37,4 +37,4 @@ returns-clause-outcome g c =
     let quest = quest_same call load c.has-words.result c.as_slice-rules.result.now c.most_of-most.result (patterns_in load.secrets) c.has-words.ensures.has c.as_slice-rules.ensures.same c.most_of-most.ensures.most refl in
     files_unlooked g.E.Sink call load _ _ _ _ sees.0 sees.1 _ _ (λ summary. sees.2 (c.has-tells.ensures.has ∙ summary))
     (λ silent. same_kept g.W.Write _ _ (c.check_to.ensures.unwritten (c.has-tells.ensures.has ∙ silent)))
-    c.in-Err.error c.failure_in.result (seen_same g.E.Sink _ _ _ _ _ _ _ _ _ _ _ quest c.requires.names sees.3)
+    c.in-Err.error c.failure_in.result (rw (quest, c.requires.names) at sees.3)
