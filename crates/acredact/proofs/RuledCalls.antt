@@ -129,13 +129,13 @@ module _ {E : Type 0} (K : SinkGhosts E) (call : Call) where
   ruled_behind load result left between left' held held' errors meanwhile errors' loaded doubted of =
       let before = all_doubts_told load.secrets errors meanwhile doubted in
       record {
-        whole = IfOk-weaker result _ _ (λ all whole is. record { load = load; between = between; loaded = loaded; redacted = whole is }) of.whole;
-        begun = inr (record { load = load; between = between; loaded = loaded; begun = of.begun });
+        whole = IfOk-weaker result _ _ (λ all whole is. record { load = load; between = between; loaded = loaded; is = whole is }) of.whole;
+        begun = inr (record { load = load; between = between; loaded = loaded; is = of.begun });
         tells = record {
           told = tells_both K (IsRuledTold call) errors meanwhile errors' before of.tells.told;
           partly = IfOk-weaker result _ _ (λ all partly is. some_behind K (IsRuledTold call) errors meanwhile errors' before (partly is)) of.tells.partly;
         };
-        notes = IfOk-weaker result _ _ (λ all notes is. record { load = load; between = between; loaded = loaded; notes = record { meanwhile = meanwhile; doubted = doubted; numbers = notes is } }) of.notes;
+        notes = IfOk-weaker result _ _ (λ all notes is. record { load = load; between = between; loaded = loaded; is = record { meanwhile = meanwhile; doubted = doubted; numbers = notes is } }) of.notes;
       }
 
   -- how many lines were too long may be told
@@ -160,7 +160,7 @@ module _ {E : Type 0} (K : SinkGhosts E) (call : Call) where
   -- what is told where all was redacted
   pub notes_told : (left left' : Option (List ℕ)) (errors errors' : Errors E) → NotesByRules K call left left' errors errors' → Tells K (IsRuledTold call) errors errors'
   notes_told left left' errors errors' of =
-      let notes = of.notes in
+      let notes = of.is in
       let numbers = notes.numbers in
       let doubts = all_doubts_told of.load.secrets errors notes.meanwhile notes.doubted in
       let long = long_lines (min numbers.long.count (2 ^ 64 - 1)) notes.meanwhile numbers.meanwhile numbers.long.told in
@@ -170,7 +170,7 @@ module _ {E : Type 0} (K : SinkGhosts E) (call : Call) where
   -- and the counts, where they are asked for
   pub counts_by_rules : (left left' : Option (List ℕ)) (errors errors' : Errors E) → counts_asked call.given ≡ true → NotesByRules K call left left' errors errors' → CountsByRules K call left left' errors'
   counts_by_rules left left' errors errors' is of =
-      let numbers = of.notes.numbers in
+      let numbers = of.is.numbers in
       record {
         load = of.load;
         between = of.between;

@@ -17,7 +17,7 @@ use Rattle.acredact.specs.Calls.{Call, IsUnreadLine, names_asked, reading_by}
 use Rattle.acredact.specs.Doubts.{TellsDoubts}
 use Rattle.acredact.specs.LineRules.{most_asked}
 use Rattle.acredact.specs.Ruled.{AreRulesGiven, IsRuledTold, patterns_by_case}
-use Rattle.acredact.specs.RuledChecks.{BeginAllTelling, BeginsLoadedCheck, BeginsRuledCheck, CheckLoad, CheckedLines, LineQuest, RuledCheck, RuledCheckStatus, SeenFiles, line_quest_by}
+use Rattle.acredact.specs.RuledChecks.{BeginAllTelling, BeginsLoadedCheck, BeginsRuledCheck, CheckLoad, CheckedLines, LineQuest, RuledCheck, RuledCheckStatus, SeesByRules, SeenFiles, line_quest_by}
 use Rattle.acredact.specs.Statuses.{check_status}
 use Rattle.acredact.specs.Tables.{patterns_in}
 use Rattle.acredact.specs.declared.arguments.Word.TheVariants.{AsWord, Summary}
@@ -110,25 +110,17 @@ module _ {E : Type 0} (K : SinkGhosts E) (call : Call) where
 
       begun : BeginsLoadedCheck call between left' held held' load → BeginsRuledCheck call left left' held held'
       begun (inl none) = inl none
-      begun (inr begins) = inr (record { load = load; between = between; loaded = loaded; begun = begins })
+      begun (inr begins) = inr (record { load = load; between = between; loaded = loaded; is = begins })
 
       by : (result : Result Verdict RuledFailure) → CheckedLines K call load result between left' held held' meanwhile errors' → RuledCheck K call result left left' held held' errors errors'
       by (Ok verdict) of = record {
-        whole = λ all. let sees = of.whole all in record {
-          load = load;
-          between = between;
-          loaded = loaded;
-          runs = sees.runs;
-          have = sees.have;
-          found_is = sees.found_is;
-          told = sees.told;
-        };
+        whole = λ all. record { load = load; between = between; loaded = loaded; is = of.whole all };
         begun = begun of.begun;
         tells = record {
           told = tells_both K (IsRuledTold call) errors meanwhile errors' before of.tells.told;
           partly = λ none. some_behind K (IsRuledTold call) errors meanwhile errors' before (of.tells.partly none);
         };
-        quiet = λ all. record { load = load; between = between; loaded = loaded; doubts = subst (TellsDoubts K false call.given load.secrets errors) (sym (of.quiet all)) doubted };
+        quiet = λ all. record { load = load; between = between; loaded = loaded; is = subst (TellsDoubts K false call.given load.secrets errors) (sym (of.quiet all)) doubted };
       }
       by (Err failure) of = record {
         whole = tt;
@@ -141,4 +133,5 @@ module _ {E : Type 0} (K : SinkGhosts E) (call : Call) where
   pub check_done : (verdict : Verdict) (left left' held held' : Option (List ℕ)) (errors errors' : Errors E) → RuledCheck K call (Ok verdict) left left' held held' errors errors'
       → RuledCheckStatus K call (check_status verdict) left left' held held' errors errors'
   check_done verdict left left' held held' errors errors' of =
-      says_seen _ _ _ _ verdict (λ all. (λ clean. rw clean at (of.whole all), λ found. rw found at (of.whole all), of.quiet all)) of.tells.partly
+      let sees = λ (all : verdict.all ≡ true) (found : Bool) (is : verdict.found ≡ found). subst (λ (b : Bool). SeesByRules call b left left' held held') is (of.whole all) in
+      says_seen _ _ _ _ verdict (λ all. (sees all false, sees all true, of.quiet all)) of.tells.partly

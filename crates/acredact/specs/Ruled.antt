@@ -278,24 +278,21 @@ IsRuledTold call line =
     ⊎ (((failure : RuledFailure) × IsRuledLine failure line)
     ⊎ IsRuledNotice call line)
 
+-- patterns and rules were loaded, of the input with so many bytes left, and then this is so
+pub record LoadsRules (call : Call) (left : Option (List ℕ)) (Is : RuledLoad → (between : Option (List ℕ)) → Type 0) : Type 0 where
+  pub load : RuledLoad
+  pub between : Option (List ℕ)
+  pub loaded : AreRuledLoaded (reading_by call) call.given load left between
+  pub is : Is load between
+
 module _ (call : Call) (left left' held held' : Option (List ℕ)) where
-  -- all patterns and rules were loaded, and all files were redacted
-  pub record RedactsByRules : Type 0 where
-    pub load : RuledLoad
-    pub between : Option (List ℕ)
-    pub loaded : AreRuledLoaded (reading_by call) call.given load left between
-    pub redacted : AreRuled (ruled_by call load) (names_asked call.given) between left' held held'
+  -- all files were redacted
+  abbrev pub RedactsByRules : Type 0
+  RedactsByRules = LoadsRules call left (λ load between. AreRuled (ruled_by call load) (names_asked call.given) between left' held held')
 
-  -- they were loaded, and of each file the redaction or a beginning of it was written
-  pub record BeginsLoaded : Type 0 where
-    pub load : RuledLoad
-    pub between : Option (List ℕ)
-    pub loaded : AreRuledLoaded (reading_by call) call.given load left between
-    pub begun : AreBegun (ruled_by call load) (names_asked call.given) between left' held held'
-
-  -- or nothing was written
+  -- of each file the redaction or a beginning of it was written, or nothing was
   abbrev pub BeginsByRules : Type 0
-  BeginsByRules = Keeps held held' ⊎ BeginsLoaded
+  BeginsByRules = Keeps held held' ⊎ LoadsRules call left (λ load between. AreBegun (ruled_by call load) (names_asked call.given) between left' held held')
 
 module _ {E : Type 0} (K : SinkGhosts E) where
   -- what a call tells that does not redact all
@@ -321,11 +318,8 @@ module _ {E : Type 0} (K : SinkGhosts E) where
     pub numbers : NumbersOf call load left left' meanwhile errors'
 
   -- of the patterns and rules that were loaded
-  pub record NotesByRules (call : Call) (left left' : Option (List ℕ)) (errors errors' : Errors E) : Type 0 where
-    pub load : RuledLoad
-    pub between : Option (List ℕ)
-    pub loaded : AreRuledLoaded (reading_by call) call.given load left between
-    pub notes : NotesOf call load between left' errors errors'
+  abbrev pub NotesByRules : Call → (left left' : Option (List ℕ)) → (errors errors' : Errors E) → Type 0
+  NotesByRules call left left' errors errors' = LoadsRules call left (λ load between. NotesOf call load between left' errors errors')
 
   -- at the end it is told how many runs of all files have the number of each of them, and how much was read: each of both that is asked for
   pub record CountsByRules (call : Call) (left left' : Option (List ℕ)) (errors' : Errors E) : Type 0 where

@@ -292,35 +292,28 @@ labels_by given load = record { secrets = load.secrets; rules = load.rules; most
 abbrev pub line_quest_by : Call → CheckLoad → LineQuest
 line_quest_by call load = record { holds = call.holds; covering = covering_asked call.given load; labels = labels_by call.given load }
 
-module _ (call : Call) (found : Bool) (left left' held held' : Option (List ℕ)) where
-  -- each file was read to its end, and this says whether there is a run in a line of one; where that is asked for all of them were told
-  pub record SeesLoaded (load : CheckLoad) : Type 0 where
-    pub runs : List (List (List Occurrence))
-    pub have : HaveLineRuns call.holds (covering_asked call.given load) (names_asked call.given) runs left left'
-    pub found_is : found ≡ is_some_file runs
-    pub told : has Summary call.given ≡ true → Appends held held' (files_findings (labels_by call.given load) (names_asked call.given) runs)
+-- they were loaded, of the input with so many bytes left, and then this is so
+pub record LoadsToCheck (call : Call) (left : Option (List ℕ)) (Is : CheckLoad → (between : Option (List ℕ)) → Type 0) : Type 0 where
+  pub load : CheckLoad
+  pub between : Option (List ℕ)
+  pub loaded : AreRulesGiven (reading_by call) call.given load.secrets load.rules left between
+  pub is : Is load between
 
-  -- of patterns and rules that were loaded
-  pub record SeesByRules : Type 0 where
-    pub load : CheckLoad
-    pub between : Option (List ℕ)
-    pub loaded : AreRulesGiven (reading_by call) call.given load.secrets load.rules left between
-    pub runs : List (List (List Occurrence))
-    pub have : HaveLineRuns call.holds (covering_asked call.given load) (names_asked call.given) runs between left'
-    pub found_is : found ≡ is_some_file runs
-    pub told : has Summary call.given ≡ true → Appends held held' (files_findings (labels_by call.given load) (names_asked call.given) runs)
+-- each file was read to its end, and this says whether there is a run in a line of one; where that is asked for all of them were told
+pub record SeesLoaded (call : Call) (found : Bool) (left left' held held' : Option (List ℕ)) (load : CheckLoad) : Type 0 where
+  pub runs : List (List (List Occurrence))
+  pub have : HaveLineRuns call.holds (covering_asked call.given load) (names_asked call.given) runs left left'
+  pub found_is : found ≡ is_some_file runs
+  pub told : has Summary call.given ≡ true → Appends held held' (files_findings (labels_by call.given load) (names_asked call.given) runs)
+
+-- of patterns and rules that were loaded
+abbrev pub SeesByRules : Call → (found : Bool) → (left left' held held' : Option (List ℕ)) → Type 0
+SeesByRules call found left left' held held' = LoadsToCheck call left (λ load between. SeesLoaded call found between left' held held' load)
 
 module _ (call : Call) (left left' held held' : Option (List ℕ)) where
-  -- they were loaded, and a beginning of what tells of each file was written
-  pub record BeginsRuledTelling : Type 0 where
-    pub load : CheckLoad
-    pub between : Option (List ℕ)
-    pub loaded : AreRulesGiven (reading_by call) call.given load.secrets load.rules left between
-    pub begun : BeginAllTelling (line_quest_by call load) (names_asked call.given) between left' held held'
-
-  -- or nothing was
+  -- a beginning of what tells of each file was written, or nothing was
   abbrev pub BeginsRuledCheck : Type 0
-  BeginsRuledCheck = Keeps held held' ⊎ BeginsRuledTelling
+  BeginsRuledCheck = Keeps held held' ⊎ LoadsToCheck call left (λ load between. BeginAllTelling (line_quest_by call load) (names_asked call.given) between left' held held')
 
   abbrev pub BeginsLoadedCheck : CheckLoad → Type 0
   BeginsLoadedCheck load = Keeps held held' ⊎ BeginAllTelling (line_quest_by call load) (names_asked call.given) left left' held held'
@@ -334,11 +327,8 @@ module _ {E : Type 0} (K : SinkGhosts E) where
     pub quiet : IfOk result (λ verdict. verdict.all ≡ true → errors' ≡ errors)
 
   -- nothing was told but of the patterns of the lists that were loaded
-  pub record TellsListsBeside (call : Call) (left : Option (List ℕ)) (errors errors' : Errors E) : Type 0 where
-    pub load : CheckLoad
-    pub between : Option (List ℕ)
-    pub loaded : AreRulesGiven (reading_by call) call.given load.secrets load.rules left between
-    pub doubts : TellsDoubts K false call.given load.secrets errors errors'
+  abbrev pub TellsListsBeside : Call → (left : Option (List ℕ)) → (errors errors' : Errors E) → Type 0
+  TellsListsBeside call left errors errors' = LoadsToCheck call left (λ load between. TellsDoubts K false call.given load.secrets errors errors')
 
   -- and of the whole call
   pub record RuledCheck (call : Call) (result : Result Verdict RuledFailure) (left left' held held' : Option (List ℕ)) (errors errors' : Errors E) : Type 0 where
