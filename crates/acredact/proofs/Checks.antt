@@ -5,10 +5,10 @@ use Rattle.std.specs.Prelude.{Bool, ◌⊎◌, ◌<◌, ◌||◌, ◌&&◌, not,
 use Rattle.std.specs.Io.KnownBytes.{Keeps}
 use Rattle.std.specs.List.{All, concat}
 use Rattle.std.proofs.KnownBytes.{Consumes-nil}
-use Rattle.std.proofs.lemmas.List.Elements.{All-append, All-cons, All-nil, All-weaker}
+use Rattle.std.proofs.lemmas.List.Elements.{All-append, All-cons, All-nil}
 use Rattle.aho_devices.specs.declared.device.Sink.{Ghosts as SinkGhosts}
 use Rattle.tool_parts.specs.Names.{IsOneOf, is_input}
-use Rattle.tool_parts.specs.Telling.{Tells, TellsBytes}
+use Rattle.tool_parts.specs.Telling.{TellsBytes}
 use Rattle.tool_parts.specs.declared.errors.Errors.{Errors}
 use Rattle.tool_parts.specs.declared.reason.Reason.{Reason}
 use Rattle.tool_parts.proofs.Tellings.{tells-later}
@@ -16,7 +16,7 @@ use Rattle.acredact.specs.Builds.{patterns_by_given}
 use Rattle.acredact.specs.Arguments.{has}
 use Rattle.acredact.specs.Calls.{Call, IsUnreadLine, gives_pattern, names_asked, reading_by}
 use Rattle.acredact.specs.Checks.{AreSeen, AreUnmatched, CheckFails, CheckOutcome, CheckSays, CheckStatus, IsBuildFailure, IsCheckLine, IsLookOf, IsUnmatchedCall, Quest, SeesCall, SeesFiles, look_lines, quest_by}
-use Rattle.acredact.specs.Doubts.{TellsDoubts, all_doubt_lines}
+use Rattle.acredact.specs.Doubts.{TellsDoubts}
 use Rattle.acredact.specs.Failures.{IsFailureLine}
 use Rattle.acredact.specs.Faults.{IsReadReason}
 use Rattle.acredact.specs.Files.{are_none, unread_line}
@@ -31,10 +31,10 @@ use Rattle.acredact.specs.declared.failure.Failure.{Failure}
 use Rattle.acredact.specs.declared.look.Look.{Look}
 use Rattle.acredact.specs.declared.look.Look.TheVariants.{Clean, Found, Unread}
 use Rattle.acredact.specs.declared.look.Verdict.{Verdict}
-use Rattle.acredact.proofs.Calls.{none_are, tells_both, tells_same}
+use Rattle.acredact.proofs.Calls.{none_are, tells_both, tells_same, tells_weaker}
 use Rattle.acredact.proofs.Done.{concat_both, tells_none}
 use Rattle.acredact.proofs.OneFile.{known_read, of_folder, of_input}
-use Rattle.acredact.proofs.Warned.{all_members}
+use Rattle.acredact.proofs.Warned.{doubts_tell}
 
 -- a look at what is known of a file, for reasons that may be more
 known_look : (r : Redactor) (Few Many : Reason → Type 0) (told left left' : Option (List ℕ)) → Keeps told left → ((reason : Reason) → Few reason → Many reason) → (look : Look) → IsLook r Few look left left' → IsLook r Many look told left'
@@ -140,18 +140,6 @@ seen_none K quest names errors left = record {
   seen = λ found more left' seen. seen;
 }
 
--- what is seen of files stays so, with another error
-pub seen_fails : {E X Y : Type 0} (K : SinkGhosts E) (quest quest' : Quest) (names names' : List (List ℕ)) (error : X) (other : Y) (left left' : Option (List ℕ)) (errors errors' : Errors E) → names ≡ names'
-    → SeesFiles K quest names (Err error) left left' errors errors' → SeesFiles K quest' names' (Err other) left left' errors errors'
-seen_fails K quest quest' names names' error other left left' errors errors' same sees =
-    subst (λ (l : List (List ℕ)). SeesFiles K quest' l (Err other) left left' errors errors') same (record { seen = tt; quiet = tt; told = sees.told })
-
-pub seen_whole : {E X Y : Type 0} (K : SinkGhosts E) (quest quest' : Quest) (names names' : List (List ℕ)) (verdict : Verdict) (left left' : Option (List ℕ)) (errors errors' : Errors E) → quest ≡ quest' → names ≡ names'
-    → SeesFiles K {X = X} quest names (Ok verdict) left left' errors errors' → SeesFiles K {X = Y} quest' names' (Ok verdict) left left' errors errors'
-seen_whole {Y = Y} K quest quest' names names' verdict left left' errors errors' alike same sees =
-    subst (λ (q : Quest). SeesFiles K {X = Y} q names' (Ok verdict) left left' errors errors') alike
-    (subst (λ (l : List (List ℕ)). SeesFiles K {X = Y} quest l (Ok verdict) left left' errors errors') same (record { seen = sees.seen; quiet = sees.quiet; told = tt }))
-
 -- where nothing was found and nothing told, each file was read to its end and has no match
 none_found : (a b : Bool) → false ≡ (a || b) → (a ≡ false) × (b ≡ false)
 none_found true b is = absurd (cc)
@@ -223,16 +211,6 @@ module _ (Unmatched Matched Quiet Told : Type 0) where
       by found false whole partly = says_failed (partly refl)
 
 module _ {E : Type 0} (K : SinkGhosts E) (call : Call) (left left' : Option (List ℕ)) (old : Errors E) where
-  -- what is told of patterns of lists is one line of a check after another
-  lists_tell : (secrets : List Secret) (between : Option (List ℕ)) (new : Errors E) → AreGiven (reading_by call) call.given secrets left between → (strict : Bool) → has Strict call.given ≡ strict
-      → TellsDoubts K strict call.given secrets old new → Tells K (IsCheckLine call) old new
-  lists_tell secrets between new loaded true is doubts = tells_same K (IsCheckLine call) old new doubts.1
-  lists_tell secrets between new loaded false is doubts = record {
-    told = all_doubt_lines call.given secrets;
-    are_lines = all_members (IsCheckLine call) (all_doubt_lines call.given secrets) (λ line member. inr (is, secrets, left, between, loaded, member));
-    written = doubts;
-  }
-
   -- what comes of a check whose patterns were loaded
   pub check_seen : (secrets : List Secret) (between : Option (List ℕ)) (mid new : Errors E) (result : Result Verdict Failure) → gives_pattern call.given ≡ true → AreGiven (reading_by call) call.given secrets left between
       → TellsDoubts K (has Strict call.given) call.given secrets old mid → SeesFiles K (quest_by call secrets) (names_asked call.given) result between left' mid new
@@ -248,11 +226,8 @@ module _ {E : Type 0} (K : SinkGhosts E) (call : Call) (left left' : Option (Lis
   check_seen secrets between mid new (Err failure) some loaded doubts sees fails = record {
     seen = tt;
     quiet = tt;
-    told = tells_both K (IsCheckLine call) old mid new (lists_tell secrets between mid loaded (has Strict call.given) refl doubts) (record {
-      told = sees.told.told;
-      are_lines = All-weaker (IsUnreadLine (names_asked call.given)) (IsCheckLine call) (λ line is. inl is) sees.told.told sees.told.are_lines;
-      written = sees.told.written;
-    });
+    told = tells_both K (IsCheckLine call) old mid new (doubts_tell K (IsCheckLine call) (has Strict call.given) call.given secrets old mid (λ lax line member. inr (lax, secrets, left, between, loaded, member)) doubts)
+        (tells_weaker K (IsUnreadLine (names_asked call.given)) (IsCheckLine call) mid new (λ line is. inl is) sees.told);
     fails = inr (inr (elim fails [
       | inl refused ↦ inl (secrets, left, between, loaded, refused)
       | inr memory ↦ inr (inl memory)

@@ -16,14 +16,14 @@ use Rattle.secret_rules.specs.declared.error.LineError.{LineError}
 use Rattle.secret_rules.specs.declared.rule.Rule.{Rule}
 use Rattle.acredact.specs.Arguments.{Given, counts_asked, has}
 use Rattle.acredact.specs.Calls.{Call, IsUnreadLine, names_asked, pieces_asked, reading_by, text_asked}
-use Rattle.acredact.specs.Doubts.{TellsDoubts, all_doubt_lines, last_of}
+use Rattle.acredact.specs.Doubts.{TellsDoubts, last_of}
 use Rattle.acredact.specs.Failures.{IsFailureLine}
 use Rattle.acredact.specs.LineRules.{most_asked}
 use Rattle.acredact.specs.RuleLines.{IsRuledLine, too_long_line}
 use Rattle.acredact.specs.Loading.{key_lent}
 use Rattle.acredact.specs.LongLines.{long_told, whole_number}
 use Rattle.acredact.specs.RunCounts.{CountsAllRuns, IsRunsLine, TellsAnyTotals, TellsRunCounts, TellsRunTotals, run_totals_text}
-use Rattle.acredact.specs.Ruled.{AreRuledLoaded, CountsByRules, IsRuledNotice, IsRuledTold, LinedFiles, NotesByRules, NumbersOf, RuledCall, RuledLoad, RuledOutcome, RuledStatus, own_text, patterns_by_case, rule_asked, ruled_by, ruled_load, ruling_as, ruling_by, texts_asked}
+use Rattle.acredact.specs.Ruled.{AreRuledLoaded, CountsByRules, IsRuledTold, LinedFiles, NotesByRules, NumbersOf, RuledCall, RuledLoad, RuledOutcome, RuledStatus, own_text, patterns_by_case, rule_asked, ruled_by, ruled_load, ruling_as, ruling_by, texts_asked}
 use Rattle.acredact.specs.Summaries.{no_volume}
 use Rattle.acredact.specs.Tables.{Secret, patterns_in, piece_by, secret_of, secrets_of}
 use Rattle.acredact.specs.Totals.{AreTotals}
@@ -37,7 +37,7 @@ use Rattle.acredact.specs.declared.summary.Volume.{Volume}
 use Rattle.acredact.proofs.Calls.{some_behind, some_then, some_weaker, tells_both, tells_last, tells_line, tells_same, tells_weaker}
 use Rattle.acredact.proofs.LongLines.{long_of_runs}
 use Rattle.acredact.proofs.RuledFiles.{none_begun, told_any, told_as}
-use Rattle.acredact.proofs.Warned.{all_members}
+use Rattle.acredact.proofs.Warned.{doubts_tell}
 
 -- counts that were zero are those of all runs
 totals_of : (last size : ℕ) (runs : List Occurrence) (zeros counts' : List ℕ) → zeros ≡ replicate size 0 → size ≡ last + 1 → CountsThese runs zeros counts' → AreTotals (last + 1) runs counts'
@@ -109,18 +109,8 @@ module _ {E : Type 0} (K : SinkGhosts E) (call : Call) where
   }
 
   -- doubtful patterns of lists may be told
-  doubts_told : (secrets : List Secret) (errors errors' : Errors E) → TellsDoubts K false call.given secrets errors errors' → Tells K (IsRuledNotice call) errors errors'
-  doubts_told secrets errors errors' told = record {
-    told = all_doubt_lines call.given secrets;
-    are_lines = all_members (IsRuledNotice call) (all_doubt_lines call.given secrets) (λ line is. inl (secrets, is));
-    written = told;
-  }
-
-  notice_told : (line : List ℕ) → IsRuledNotice call line → IsRuledTold call line
-  notice_told line is = inr (inr is)
-
   pub all_doubts_told : (secrets : List Secret) (errors errors' : Errors E) → TellsDoubts K false call.given secrets errors errors' → Tells K (IsRuledTold call) errors errors'
-  all_doubts_told secrets errors errors' told = tells_weaker K (IsRuledNotice call) (IsRuledTold call) errors errors' notice_told (doubts_told secrets errors errors' told)
+  all_doubts_told secrets errors errors' told = doubts_tell K (IsRuledTold call) false call.given secrets errors errors' (λ lax line member. inr (inr (inl (secrets, member)))) told
 
   -- behind what is told of them what was loaded decides what comes of the call
   pub ruled_behind : (load : RuledLoad) (result : Result Bool RuledFailure) (left between left' held held' : Option (List ℕ)) (errors meanwhile errors' : Errors E)

@@ -13,7 +13,7 @@ use Rattle.aho_devices.specs.declared.device.Sink.{Ghosts as SinkGhosts}
 use Rattle.tool_parts.specs.Streams.{bytes_left}
 use Rattle.tool_parts.specs.Telling.{Tells}
 use Rattle.tool_parts.specs.declared.errors.Errors.{Errors}
-use Rattle.acredact.specs.Arguments.{has}
+use Rattle.acredact.specs.Arguments.{Given, has}
 use Rattle.acredact.specs.Calls.{Call, CallOutcome, IsLineOf, IsWarningLine, IsWordLine, MayFail, OutputFails, RestOutcome, TellsAnyNumbers, TellsNumbers, keyed_as, names_asked, reading_by, redactor_by_given, work_by}
 use Rattle.acredact.specs.Doubts.{TellsDoubts, all_doubt_lines}
 use Rattle.acredact.specs.Loading.{AreLoaded, Loaded, key_in}
@@ -21,6 +21,7 @@ use Rattle.acredact.specs.Messages.{unclean_line}
 use Rattle.acredact.specs.Pieces.{IsJudgedBy, TellsOfPieces}
 use Rattle.acredact.specs.Ready.{CannotPrepare}
 use Rattle.acredact.specs.Secrets.{AreCleanBy, Redactor, key_of_cover}
+use Rattle.acredact.specs.Tables.{Secret}
 use Rattle.acredact.specs.declared.arguments.Word.TheVariants.{Strict}
 use Rattle.acredact.specs.declared.clean.Unclean.{Unclean}
 use Rattle.acredact.specs.declared.failure.Failure.{Failure}
@@ -54,16 +55,17 @@ pub all_members : (Is : List ℕ → Type 0) (lines : List (List ℕ)) → ((lin
 all_members Is [] each = All-nil Is
 all_members Is (line ∷ lines) each = All-cons Is line lines (each line (inl refl)) (all_members Is lines (λ other is. each other (inr is)))
 
--- what is told of patterns of lists may be told, where such a line may be
+-- what is told of patterns of lists is one line after another
+pub doubts_tell : {E : Type 0} (K : SinkGhosts E) (IsLine : List ℕ → Type 0) (strict : Bool) (given : List Given) (secrets : List Secret) (old new : Errors E) → (strict ≡ false → (line : List ℕ) → IsMember (all_doubt_lines given secrets) line → IsLine line)
+    → TellsDoubts K strict given secrets old new → Tells K IsLine old new
+doubts_tell K IsLine true given secrets old new may doubts = tells_same K IsLine old new doubts.1
+doubts_tell K IsLine false given secrets old new may doubts = record { told = all_doubt_lines given secrets; are_lines = all_members IsLine (all_doubt_lines given secrets) (may refl); written = doubts }
+
+-- it may be told, where such a line may be
 module _ {E : Type 0} (K : SinkGhosts E) (call : Call) (IsLine : List ℕ → Type 0) (may : (line : List ℕ) → IsWarningLine call line → IsLine line)
     (load : Loaded) (left between : Option (List ℕ)) (loaded : AreLoaded (reading_by call) call.given load left between) where
   pub doubts_may : (strict : Bool) → has Strict call.given ≡ strict → (old new : Errors E) → TellsDoubts K strict call.given load.secrets old new → Tells K IsLine old new
-  doubts_may true is old new doubts = tells_same K IsLine old new doubts.1
-  doubts_may false is old new doubts = record {
-    told = all_doubt_lines call.given load.secrets;
-    are_lines = all_members IsLine (all_doubt_lines call.given load.secrets) (λ line member. may line (is, load, left, between, loaded, inl member));
-    written = doubts;
-  }
+  doubts_may strict is old new doubts = doubts_tell K IsLine strict call.given load.secrets old new (λ lax line member. may line (is ∙ lax, load, left, between, loaded, inl member)) doubts
 
   -- and so may what is told of pieces
   pieces_may : (old new : Errors E) → TellsOfPieces K (has Strict call.given) (redactor_by_given call.given load) old new → Tells K IsLine old new
