@@ -6,7 +6,7 @@ use Rattle.aho_core.specs.Replacement.{pieces_of}
 use Rattle.tool_parts.specs.Streams.{bytes_left}
 use Rattle.tool_parts.specs.Telling.{TellsBytes}
 use Rattle.secret_rules.specs.declared.rule.Rule.{Rule as LineRule}
-use Rattle.acredact.specs.Arguments.{all_given, has}
+use Rattle.acredact.specs.Arguments.{all_given}
 use Rattle.acredact.specs.Calls.{call_of}
 use Rattle.acredact.specs.LineRules.{most_asked}
 use Rattle.acredact.specs.LongLines.{long_told}

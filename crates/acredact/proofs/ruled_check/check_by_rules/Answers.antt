@@ -1,10 +1,9 @@
 -- What the status says, by what is answered.
-use Rattle.std.proofs.Common.{ℕ, arith, inl, inr, subst, sym}
+use Rattle.std.proofs.Common.{arith, inl, inr}
 use Rattle.std.specs.Prelude.{◌<◌}
 use Rattle.acredact.specs.Arguments.{all_given}
 use Rattle.acredact.specs.Calls.{call_of}
-use Rattle.acredact.specs.Ruled.{Between, IsRuledTold}
-use Rattle.acredact.specs.RuledChecks.{RuledCheckStatus}
+use Rattle.acredact.specs.Ruled.{IsRuledTold}
 use Rattle.acredact.proofs.Calls.{tells_last}
 use Rattle.acredact.proofs.Checks.{says_failed}
 use Rattle.acredact.proofs.RuledCheckCalls.{check_done, check_within}
@@ -14,7 +13,7 @@ pub returns-in-Ok-clause-says : goal.returns-in-Ok-clause-says
 returns-in-Ok-clause-says g c = λ asks.
     let call = call_of g.F.Folder c.args.folder.now (all_given c.args.given.now) in
     record {
-      says = subst (λ (status : ℕ). Between g.W.Write (RuledCheckStatus g.E.Sink call status) c.args.streams.now c.check_given.new.streams) (sym c.status_of.ensures.status)
+      says = rw c.status_of.ensures.status
           (check_done g.E.Sink call c.in-Ok.verdict _ _ _ _ _ _ c.in-Ok.ensures.outcome);
       begins = c.in-Ok.ensures.outcome.begun;
       unwritten = c.check_given.ensures.unwritten;
