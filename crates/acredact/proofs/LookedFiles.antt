@@ -3,7 +3,7 @@ use Rattle.std.proofs.Common.{◌≡◌, inl, ℕ, List, [], ◌∷◌, Option, 
 use Rattle.std.specs.Prelude.{Bool, ◌||◌, ◌&&◌, Result, Ok, Err}
 use Rattle.std.specs.Io.KnownBytes.{Keeps}
 use Rattle.std.specs.List.{concat}
-use Rattle.std.proofs.KnownBytes.{Appends-kept, Appends-nil, Appends-trans, Consumes-nil}
+use Rattle.std.proofs.KnownBytes.{Appends-kept, Appends-nil, Appends-trans}
 use Rattle.std.proofs.Math.Bool.{and-true, and_assoc, or-false, or_assoc}
 use Rattle.std.proofs.lemmas.List.Elements.{All-nil}
 use Rattle.std.proofs.lemmas.Result.{IfOk-weaker}
@@ -26,13 +26,13 @@ use Rattle.acredact.specs.Calls.{IsUnreadLine, TellsOfFiles}
 use Rattle.acredact.specs.Checks.{look_lines}
 use Rattle.acredact.specs.Files.{unread_line}
 use Rattle.acredact.specs.Looks.{both_seen, is_unread_look, verdict_of}
-use Rattle.acredact.specs.RuledChecks.{BeginsNamedTelling, BeginsTelling, HasLineRuns, IsCoveredBy, Labels, LineQuest, LookedNamed, LookedText, SeenFile, SeenFiles, SeesAllLines, SeesNamed, SeesText, files_findings, is_some_line, lines_findings}
+use Rattle.acredact.specs.RuledChecks.{BeginsFindings, BeginsNamedTelling, BeginsTelling, HasLineRuns, IsCoveredBy, Labels, LineQuest, LookedNamed, LookedText, SeenFile, SeenFiles, SeesAllLines, SeesNamed, SeesText, files_findings, is_some_line, lines_findings}
 use Rattle.acredact.specs.declared.look.Look.{Look}
 use Rattle.acredact.specs.declared.look.Look.TheVariants.{Unread}
 use Rattle.acredact.specs.declared.look.Verdict.{Verdict}
 use Rattle.acredact.proofs.Calls.{tells_same}
 use Rattle.acredact.proofs.Done.{both_so}
-use Rattle.acredact.proofs.OneFile.{each_none, known_read, name_unread, of_folder, of_input}
+use Rattle.acredact.proofs.OneFile.{begun_nothing, each_none, known_begun, known_read, name_unread, of_folder, of_input}
 use Rattle.acredact.proofs.RuledFiles.{of_first, told_any, told_more}
 
 -- it covers lines as before
@@ -54,19 +54,8 @@ covered_by G cover words rules most p can searched is_words is_rules is_most = r
 
 -- where nothing was read nothing was told
 begun_none : (covering : Covering) (labels : Labels) (name : List ℕ) (left held : Option (List ℕ)) → BeginsTelling covering labels name left left held held
-begun_none covering labels name left held = record {
-  given = [];
-  ended = false;
-  read = Consumes-nil left;
-  at_end = λ (is : false ≡ true). absurd (cc);
-  lines = [];
-  runs = [];
-  are = tt;
-  first = λ bytes may. (stream_lines bytes, refl);
-  part = [];
-  begins = refl;
-  written = Appends-nil held;
-}
+begun_none covering labels name left held =
+    begun_nothing (BeginsFindings covering labels name) (record { lines = []; runs = []; are = tt; first = λ bytes may. (stream_lines bytes, refl); begins = refl }) left held
 
 -- of a text that is known
 known_runs : (covering : Covering) (runs : List (List Occurrence)) (told left left' : Option (List ℕ)) → Keeps told left → HasLineRuns covering runs left left' → HasLineRuns covering runs told left'
@@ -75,22 +64,6 @@ known_runs covering runs told left left' kept has = record {
   reads = record { read = known_read told left left' has.text kept has.reads.read; ended = has.reads.ended };
   are = has.are;
 }
-
-module _ (covering : Covering) (labels : Labels) (name : List ℕ) (told left left' held held' : Option (List ℕ)) (kept : Keeps told left) where
-  known_begun : BeginsTelling covering labels name left left' held held' → BeginsTelling covering labels name told left' held held'
-  known_begun begun = record {
-    given = begun.given;
-    ended = begun.ended;
-    read = known_read told left left' begun.given kept begun.read;
-    at_end = begun.at_end;
-    lines = begun.lines;
-    runs = begun.runs;
-    are = begun.are;
-    first = begun.first;
-    part = begun.part;
-    begins = begun.begins;
-    written = begun.written;
-  }
 
 module _ (quest : LineQuest) (name : List ℕ) (left left' held held' : Option (List ℕ)) where
   -- of the input, or of a file that was opened
@@ -123,7 +96,7 @@ module _ (quest : LineQuest) (name : List ℕ) (left left' held held' : Option (
   looked_opened result is same given rest kept text = record {
     whole = IfOk-weaker result _ _ (λ look sees all. opened_named is same given rest kept (verdict_of look).found (sees all)) text.whole;
     begun = of_folder quest.holds name (λ l l'. BeginsTelling quest.covering quest.labels name l l' held held') left left' is same rest
-        (known_begun quest.covering quest.labels name (quest.holds name) given rest held held' kept text.begun);
+        (known_begun (quest.holds name) given rest held held' kept text.begun);
   }
 
 -- nothing was told of a file, or of any

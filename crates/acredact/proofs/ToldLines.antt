@@ -115,12 +115,14 @@ module _ {V W : Type 0} (L : VisitorGhosts V) (K : SinkGhosts W) (most : ℕ) (o
           given = whole.given;
           ended = true;
           gives = whole.gives;
-          lines = stream_lines whole.given;
-          runs = whole.runs;
-          are = whole.runs_are p sought;
-          first = λ bytes may. ([], ap stream_lines (may.1 ∙ ap (λ l. whole.given ++ l) may.2 ∙ append-nil whole.given) ∙ sym (append-nil (stream_lines whole.given)));
           part = told;
-          begins = take-length told;
+          begins = record {
+            lines = stream_lines whole.given;
+            runs = whole.runs;
+            are = whole.runs_are p sought;
+            first = λ bytes may. ([], ap stream_lines (may.1 ∙ ap (λ l. whole.given ++ l) may.2 ∙ append-nil whole.given) ∙ sym (append-nil (stream_lines whole.given)));
+            begins = take-length told;
+          };
           written = subst (Appends (K.taken (output_of visitor).now) (K.taken (output_of visitor').now)) (from_first whole.runs) each.told;
         }
 
@@ -151,12 +153,8 @@ module _ {V W : Type 0} (L : VisitorGhosts V) (K : SinkGhosts W) (most : ℕ) (o
             given = begun.given;
             ended = begun.ended;
             gives = begun.gives;
-            lines = begun.lines;
-            runs = begun.runs;
-            are = begun.runs_are p sought;
-            first = begun.first;
             part = stop.part;
-            begins = subst (λ l. StartsWith l stop.part) (from_first begun.runs) stop.begins;
+            begins = record { lines = begun.lines; runs = begun.runs; are = begun.runs_are p sought; first = begun.first; begins = subst (λ l. StartsWith l stop.part) (from_first begun.runs) stop.begins };
             written = stop.written;
           };
         }
@@ -208,10 +206,6 @@ module _ {R W : Type 0} (S : SourceGhosts R) (K : SinkGhosts W) (findings : Find
       ended = tells.begun.ended;
       read = subst (λ bytes. Consumes bytes (S.remaining source') tells.begun.given) left tells.begun.gives.bytes;
       at_end = ends_by (S.empty_reads source) (S.empty_reads source') tells.begun.ended none ends tells.begun.gives.end;
-      lines = tells.begun.lines;
-      runs = tells.begun.runs;
-      are = tells.begun.are;
-      first = tells.begun.first;
       part = tells.begun.part;
       begins = tells.begun.begins;
       written = tells.begun.written;

@@ -2,7 +2,7 @@
 use Rattle.std.specs.Prelude.{◌≡◌, ◌⊎◌, ℕ, ◌+◌, ◌-◌, ◌<◌, ◌^◌, min, nat_lt, ◌&&◌, ◌||◌, not, Bool, true, false, List, [], ◌∷◌, ◌++◌, Option, None, Some, Result, Ok, Err, IfOk, codes, decimal, if◌then◌else◌, length, replicate, slice_get, slice_index_or, slice_set, string_bytes}
 use Rattle.std.specs.Borrow.{Bor, MutBor}
 use Rattle.std.specs.Io.{StartsWith}
-use Rattle.std.specs.Io.KnownBytes.{Appends, Consumes, IsAtEnd, Keeps}
+use Rattle.std.specs.Io.KnownBytes.{Appends, Keeps}
 use Rattle.std.specs.declared.io.traits.Read.{Ghosts as Readers}
 use Rattle.std.specs.declared.io.traits.Write.{Ghosts as Writers}
 use Rattle.aho_core.specs.Occurrence.{Occurrence}
@@ -32,6 +32,7 @@ use Rattle.acredact.specs.Calls.{Call, TellsOfFiles, call_of, names_asked, readi
 use Rattle.acredact.specs.Checks.{CheckSays}
 use Rattle.acredact.specs.Counts.{counted_more}
 use Rattle.acredact.specs.Doubts.{TellsDoubts}
+use Rattle.acredact.specs.Files.{BeginsWriting}
 use Rattle.acredact.specs.LineRules.{most_asked}
 use Rattle.acredact.specs.Looks.{all_seen, verdict_of}
 use Rattle.rule_files.specs.Messages.{as_shown}
@@ -199,19 +200,17 @@ pub record SeesText (covering : Covering) (labels : Labels) (name : List ℕ) (f
   pub found_is : found ≡ is_some_line runs
   pub told : Appends held held' (lines_findings labels name 1 runs)
 
--- some first lines of a text were read, and a beginning of what tells of them was written
-pub record BeginsTelling (covering : Covering) (labels : Labels) (name : List ℕ) (left left' held held' : Option (List ℕ)) : Type 0 where
-  pub given : List ℕ
-  pub ended : Bool
-  pub read : Consumes left left' given
-  pub at_end : ended ≡ true → IsAtEnd left'
+-- these bytes begin what tells of some first lines of whatever the text may be, of which this was given
+pub record BeginsFindings (covering : Covering) (labels : Labels) (name given : List ℕ) (ended : Bool) (part : List ℕ) : Type 0 where
   pub lines : List Line
   pub runs : List (List Occurrence)
   pub are : AreLineRuns covering [] lines runs
   pub first : (bytes : List ℕ) → MayBe given ended bytes → AreFirstLines lines (stream_lines bytes)
-  pub part : List ℕ
   pub begins : StartsWith (lines_findings labels name 1 runs) part
-  pub written : Appends held held' part
+
+-- some of a text was read, and such bytes were written
+abbrev pub BeginsTelling : Covering → Labels → (name : List ℕ) → (left left' held held' : Option (List ℕ)) → Type 0
+BeginsTelling covering labels name left left' held held' = BeginsWriting (BeginsFindings covering labels name) left left' held held'
 
 -- the same of the file of a name
 pub record SeesNamed (quest : LineQuest) (name : List ℕ) (found : Bool) (left left' held held' : Option (List ℕ)) : Type 0 where
@@ -374,12 +373,8 @@ pub record BeginsGiven {R W : Type 0} (S : SourceGhosts R) (K : SinkGhosts W) (f
   pub given : List ℕ
   pub ended : Bool
   pub gives : SourceGave S source source' given ended
-  pub lines : List Line
-  pub runs : List (List Occurrence)
-  pub are : AreLineRuns covering [] lines runs
-  pub first : (bytes : List ℕ) → MayBe given ended bytes → AreFirstLines lines (stream_lines bytes)
   pub part : List ℕ
-  pub begins : StartsWith (lines_findings (labels_of findings.legend) findings.name.now 1 runs) part
+  pub begins : BeginsFindings covering (labels_of findings.legend) findings.name.now given ended part
   pub written : Appends (K.taken output) (K.taken output') part
 
 -- what is looked for in a folder
