@@ -124,10 +124,6 @@ module _ {E : Type 0} (K : SinkGhosts E) (quest : Quest) (names : List (List ℕ
     told = tt;
   }
 
-  -- memory runs out
-  pub seen_cut : {X : Type 0} (error : X) (rest : List (List ℕ)) (verdict : Verdict) (left left' : Option (List ℕ)) (errors : Errors E) → SeenSoFar rest verdict left errors → SeesFiles K quest names (Err error) before left' old errors
-  seen_cut error rest verdict left left' errors so = record { seen = tt; quiet = tt; told = record { told = so.lines; are_lines = so.are; written = so.told } }
-
 -- before the first
 pub seen_none : {E : Type 0} (K : SinkGhosts E) (quest : Quest) (names : List (List ℕ)) (errors : Errors E) (left : Option (List ℕ)) → SeenSoFar K quest names errors left names (record { found = false; all = true }) left errors
 seen_none K quest names errors left = record {

@@ -14,7 +14,6 @@ use Rattle.aho_devices.specs.declared.device.Sink.{Ghosts as SinkGhosts}
 use Rattle.tool_parts.specs.Names.{is_input}
 use Rattle.tool_parts.specs.Telling.{TellsBytes}
 use Rattle.tool_parts.specs.declared.errors.Errors.{Errors}
-use Rattle.tool_parts.specs.declared.reason.Reason.{Reason}
 use Rattle.secret_rules.specs.Covering.{Covering, covering_by}
 use Rattle.secret_rules.specs.LineCovers.{AreSearchedFor}
 use Rattle.secret_rules.specs.Lines.{stream_lines}
@@ -102,9 +101,6 @@ module _ (quest : LineQuest) (name : List ℕ) (left left' held held' : Option (
 -- nothing was told of a file, or of any
 pub named_none : (quest : LineQuest) (name : List ℕ) (left held : Option (List ℕ)) → BeginsNamedTelling quest name left left held held
 named_none quest name left held = name_unread quest.holds name (λ l l'. BeginsTelling quest.covering quest.labels name l l' held held) left (λ l. begun_none quest.covering quest.labels name l held)
-
-pub looked_refused : (quest : LineQuest) (name : List ℕ) (reason : Reason) (left held : Option (List ℕ)) → LookedNamed quest name (Ok (Unread reason)) left left held held
-looked_refused quest name reason left held = record { whole = λ (is : false ≡ true). absurd (cc); begun = named_none quest name left held }
 
 -- what a look tells of its file
 pub look_told : {E : Type 0} (X : Type 0) (K : SinkGhosts E) (name : List ℕ) (look : Look) (errors errors' : Errors E) → TellsBytes K errors errors' (concat (look_lines name look)) → (is_unread_look look ≡ false → errors' ≡ errors)

@@ -17,7 +17,6 @@ use Rattle.secret_rules.specs.declared.rule.Rule.{Rule}
 use Rattle.acredact.specs.Arguments.{Given, counts_asked, has}
 use Rattle.acredact.specs.Calls.{Call, IsUnreadLine, names_asked, pieces_asked, reading_by, text_asked}
 use Rattle.acredact.specs.Doubts.{TellsDoubts, last_of}
-use Rattle.acredact.specs.Failures.{IsFailureLine}
 use Rattle.acredact.specs.LineRules.{most_asked}
 use Rattle.acredact.specs.RuleLines.{IsRuledLine, too_long_line}
 use Rattle.acredact.specs.Loading.{key_lent}
@@ -28,11 +27,9 @@ use Rattle.acredact.specs.Summaries.{no_volume}
 use Rattle.acredact.specs.Tables.{Secret, patterns_in, piece_by, secret_of, secrets_of}
 use Rattle.acredact.specs.Totals.{AreTotals}
 use Rattle.acredact.specs.Volumes.{ReadsVolume}
-use Rattle.acredact.specs.declared.failure.Failure.{Failure}
 use Rattle.acredact.specs.declared.arguments.Word.TheVariants.{AsWord}
 use Rattle.acredact.specs.declared.patterns.Rule.{Rule as PatternRule}
 use Rattle.acredact.specs.declared.ruled_failure.RuledFailure.{RuledFailure}
-use Rattle.acredact.specs.declared.ruled_failure.RuledFailure.TheVariants.{Plain}
 use Rattle.acredact.specs.declared.summary.Volume.{Volume}
 use Rattle.acredact.proofs.Calls.{some_behind, some_then, some_weaker, tells_both, tells_last, tells_line, tells_same, tells_weaker}
 use Rattle.acredact.proofs.LongLines.{long_of_runs}
@@ -56,9 +53,6 @@ last_total : (last : ℕ) (runs : List Occurrence) (counts' : List ℕ) → AreT
 last_total last runs counts' totals =
     let place : length counts' - 1 ≡ last = omega (arith, totals.one_each) in
     ap (slice_index counts') place ∙ totals.each last (omega arith)
-
-whole_is : (given : List Given) (load : RuledLoad) → whole_number (ruling_by given load).covering ≡ length load.secrets + length load.rules
-whole_is given load = ap (λ (n : ℕ). n + length load.rules) (length-map load.secrets (λ secret. secret.pattern))
 
 -- the counts were told
 pub runs_told : {E : Type 0} (K : SinkGhosts E) (given : List Given) (secrets : List Secret) (rules : List Rule) (counts : List ℕ) (volume : Volume) (errors errors' : Errors E) → counts_asked given ≡ true
@@ -186,7 +180,7 @@ module _ {E : Type 0} (K : SinkGhosts E) (call : Call) where
         long = record {
           count = runs_named (whole_number covering) runs;
           have = long_of_runs covering call.holds (names_asked call.given) runs left left' have;
-          told = subst (λ (n : ℕ). TellsBytes K errors second (long_told (most_asked call.given) n)) (last_total (length load.secrets + length load.rules) runs counts' totals ∙ ap (λ (n : ℕ). min (runs_named n runs) (2 ^ 64 - 1)) (sym (whole_is call.given load))) long;
+          told = subst (λ (n : ℕ). TellsBytes K errors second (long_told (most_asked call.given) n)) (last_total (length load.secrets + length load.rules) runs counts' totals ∙ ap (λ (n : ℕ). min (runs_named n runs) (2 ^ 64 - 1)) (sym (ap (λ (n : ℕ). n + length load.rules) (length-map load.secrets (λ secret. secret.pattern))))) long;
         };
         runs = runs;
         have = have;
@@ -262,9 +256,3 @@ module _ {E : Type 0} (K : SinkGhosts E) (call : Call) where
     tells = λ two. tells_last K (IsRuledTold call) errors meanwhile errors' line of.tells.told (inr (inl (failure, is))) told;
     notes = λ (none : 2 ≡ 0). absurd (omega (arith, none));
   }
-
-  -- the arguments were refused, or there was no memory to read them
-  pub ruled_refused : (left held : Option (List ℕ)) (failure : Failure) (errors errors' : Errors E) (line : List ℕ) → IsFailureLine failure line → TellsBytes K errors errors' line
-      → RuledStatus K call 2 left left held held errors errors'
-  ruled_refused left held failure errors errors' line is told =
-      ruled_failed (Plain failure) line left left held held errors errors errors' (ruled_early (Plain failure) left left held errors errors (tells_same K (IsRuledTold call) errors errors refl)) is told

@@ -7,7 +7,7 @@ use Rattle.aho_devices.specs.declared.device.Sink.{Ghosts as SinkGhosts}
 use Rattle.tool_parts.specs.Streams.{bytes_left}
 use Rattle.tool_parts.specs.Telling.{TellsBytes, TellsSome}
 use Rattle.tool_parts.specs.declared.errors.Errors.{Errors}
-use Rattle.acredact.specs.Arguments.{AsksAnyCheck, AsksForRules, AsksForRulesCheck, AsksToCheck, AsksToRedact, Given, GivesNoPattern, any_check_asked, checks_asked, gives_rules, has, rules_asked, rules_check_asked}
+use Rattle.acredact.specs.Arguments.{AsksAnyCheck, AsksForRules, AsksForRulesCheck, AsksToRedact, Given, GivesNoPattern, any_check_asked, checks_asked, gives_rules, has, rules_asked, rules_check_asked}
 use Rattle.acredact.specs.Calls.{Call, CallOutcome, IsLineOf, OutputFails}
 use Rattle.acredact.specs.Failures.{IsFailureLine}
 use Rattle.acredact.specs.Statuses.{CallStatus, IsIdle}
@@ -20,32 +20,9 @@ use Rattle.acredact.proofs.Calls.{tells_last, tells_same}
 pub tells_one : {E : Type 0} (K : SinkGhosts E) (IsLine : List ℕ → Type 0) (old new : Errors E) (line : List ℕ) → IsLine line → TellsBytes K old new line → TellsSome K IsLine old new
 tells_one K IsLine old new line is told = tells_last K IsLine old old new line (tells_same K IsLine old old refl) is told
 
--- a call that asks for a check is no redaction, and one that does not is no check
-pub no_redaction : (given : List Given) → checks_asked given ≡ true → AsksToRedact given → ⊥
-no_redaction given checks asks = let clash : false ≡ true = rw asks.no_check at checks in cc
-
-pub no_checking : (given : List Given) → checks_asked given ≡ false → AsksToCheck given → ⊥
-no_checking given none asks = let clash : true ≡ false = rw (asks.check, asks.no_help, asks.no_version, asks.no_rules) at none in cc
-
--- a call with rules is no other, and one without them is no call with rules
-pub ruled_redacts : (given : List Given) → rules_asked given ≡ true → AsksToRedact given → ⊥
-ruled_redacts given is asks = let clash : false ≡ true = rw asks.no_rules at is in cc
-
-pub ruled_checks : (given : List Given) → rules_asked given ≡ true → AsksToCheck given → ⊥
-ruled_checks given is asks = let clash : false ≡ true = rw asks.no_rules at is in cc
-
+-- what a call does not ask for
 pub unruled : (given : List Given) → rules_asked given ≡ false → AsksForRules given → ⊥
 unruled given none asks = let clash : true ≡ false = rw (asks.rules, asks.no_help, asks.no_version, asks.no_check) at none in cc
-
--- a check by rules is no other call, and a call that does not ask for it is none
-pub rules_check_redacts : (given : List Given) → rules_check_asked given ≡ true → AsksToRedact given → ⊥
-rules_check_redacts given is asks = let clash : false ≡ true = rw asks.no_check at is in cc
-
-pub rules_check_checks : (given : List Given) → rules_check_asked given ≡ true → AsksToCheck given → ⊥
-rules_check_checks given is asks = let clash : false ≡ true = rw (asks.check, asks.no_rules) at is in cc
-
-pub rules_check_rules : (given : List Given) → rules_check_asked given ≡ true → AsksForRules given → ⊥
-rules_check_rules given is asks = let clash : false ≡ true = rw asks.no_check at is in cc
 
 pub unruled_check : (given : List Given) → rules_check_asked given ≡ false → AsksForRulesCheck given → ⊥
 unruled_check given none asks = let clash : true ≡ false = rw (asks.check, asks.rules, asks.no_help, asks.no_version) at none in cc

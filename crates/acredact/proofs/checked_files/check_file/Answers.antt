@@ -1,7 +1,7 @@
 -- The file is that of the input, or of the folder.
-use Rattle.std.proofs.Common.{◌∙◌, sym, refl}
+use Rattle.std.proofs.Common.{◌≡◌, ◌∙◌, false, refl, sym, true}
 use Rattle.acredact.specs.RuledChecks.{quest_in}
-use Rattle.acredact.proofs.LookedFiles.{looked_input, looked_opened, looked_refused}
+use Rattle.acredact.proofs.LookedFiles.{looked_input, looked_opened, named_none}
 use Rattle.acredact.proofs.checked_files.check_file.Goals as goal
 
 pub returns-then-is_input-clause-looked : goal.returns-then-is_input-clause-looked
@@ -16,4 +16,4 @@ returns-in-Ok-clause-looked g c = λ covering covered.
 
 pub returns-in-Err-clause-looked : goal.returns-in-Err-clause-looked
 returns-in-Err-clause-looked g c = λ covering covered.
-    looked_refused (quest_in g.F.Folder c.args.checked.now covering) c.args.name.now _ _ _
+    record { whole = λ (is : false ≡ true). absurd (cc); begun = named_none (quest_in g.F.Folder c.args.checked.now covering) c.args.name.now _ _ }

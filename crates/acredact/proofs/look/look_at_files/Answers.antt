@@ -5,7 +5,7 @@ use Rattle.tool_parts.specs.Names.{name_bytes}
 use Rattle.tool_parts.specs.Streams.{bytes_left}
 use Rattle.acredact.specs.Checks.{quest_of}
 use Rattle.acredact.specs.Looks.{both_seen}
-use Rattle.acredact.proofs.Checks.{SeenSoFar, seen_all, seen_cut, seen_more, seen_none}
+use Rattle.acredact.proofs.Checks.{SeenSoFar, seen_all, seen_more, seen_none}
 use Rattle.acredact.proofs.Done.{names_cut, names_end}
 use Rattle.acredact.proofs.look.look_at_files.Goals as goal
 
@@ -24,7 +24,7 @@ loop-rest-preserved g c = λ p of.
 pub returns-in_err-look : goal.returns-in_err-look
 returns-in_err-look g c =
     let is : c.from_residual.result ≡ Err c.in_err-look.field-0.0 = search rules in
-    record { sees = λ p of. rw is (seen_cut g.E.Sink _ _ _ _ _ _ c.loop-rest.verdict _ _ _ (c.loop-rest.invariant p of)) }
+    record { sees = λ p of. let so = c.loop-rest.invariant p of in rw is (record { seen = tt; quiet = tt; told = record { told = so.lines; are_lines = so.are; written = so.told } }) }
 
 pub returns : goal.returns
 returns g c =

@@ -12,11 +12,11 @@ use Rattle.acredact.specs.Ruled.{Between, IsRuledTold, RuledStatus}
 use Rattle.acredact.specs.Statuses.{CallStatus, SaysOfCall}
 use Rattle.acredact.specs.declared.failure.Failure.TheVariants.{Arguments}
 use Rattle.acredact.specs.declared.ruled_failure.RuledFailure.TheVariants.{Plain}
-use Rattle.acredact.proofs.Calls.{call_refused}
+use Rattle.acredact.proofs.Calls.{call_refused, tells_same}
 use Rattle.acredact.proofs.Checks.{check_refused, says_failed, status_ended}
 use Rattle.acredact.proofs.Given.{memory_alone, same_given}
 use Rattle.acredact.proofs.Statuses.{bound_by, flushed_by, one_by, status_failed, tells_one}
-use Rattle.acredact.proofs.RuledCalls.{ruled_refused}
+use Rattle.acredact.proofs.RuledCalls.{ruled_early, ruled_failed}
 use Rattle.acredact.proofs.run.answer_to.Goals as goal
 
 pub returns-in-Ok : goal.returns-in-Ok
@@ -53,7 +53,8 @@ returns-in-Err g c =
     (check_refused g.E.Sink (call_of g.F.Folder c.args.folder.now given) (bytes_left c.args.streams.now.input) (bytes_left c.args.streams.now.input) c.args.streams.now.errors (Arguments c.in-Err.mistake) (inl (inl (memory given right))))
     told.1 told.2) in
     let ruled = λ (given : List Given). subst (λ (status : ℕ). Between g.W.Write (RuledStatus g.E.Sink (call_of g.F.Folder c.args.folder.now given) status) c.args.streams.now (record c.args.streams.now { errors = c.report.new.errors })) (sym c.report.ensures.failed)
-    (ruled_refused g.E.Sink (call_of g.F.Folder c.args.folder.now given) _ _ (Arguments c.in-Err.mistake) c.args.streams.now.errors c.report.new.errors told.0 told.1 told.2) in
+    (ruled_failed g.E.Sink (call_of g.F.Folder c.args.folder.now given) (Plain (Arguments c.in-Err.mistake)) told.0 _ _ _ _ _ _ _
+    (ruled_early g.E.Sink (call_of g.F.Folder c.args.folder.now given) (Plain (Arguments c.in-Err.mistake)) _ _ _ _ _ (tells_same g.E.Sink (IsRuledTold (call_of g.F.Folder c.args.folder.now given)) _ _ refl)) told.1 told.2) in
     let ruled_check = λ (given : List Given). subst (λ (status : ℕ). Between g.W.Write (RuledCheckStatus g.E.Sink (call_of g.F.Folder c.args.folder.now given) status) c.args.streams.now (record c.args.streams.now { errors = c.report.new.errors })) (sym c.report.ensures.failed)
     (says_failed _ _ _ _ (tells_one g.E.Sink (IsRuledTold (call_of g.F.Folder c.args.folder.now given)) _ _ told.0 (inr (inl (Plain (Arguments c.in-Err.mistake), told.1))) told.2)) in
     record {
