@@ -201,7 +201,7 @@ module _ {E : Type 0} (K : SinkGhosts E) (call : Call) where
       later = tells_both K (IsRuledTold call) first second errors' (long_lines (last_of counts') first second long) (counts_lines second errors' lines)
 
       all_told : Tells K (IsRuledTold call) errors errors'
-      all_told = tells_both K (IsRuledTold call) errors first errors' (told_any K (names_asked call.given) (IsRuledTold call) (Ok all) errors first (λ line is. inl is) files.told) later
+      all_told = tells_both K (IsRuledTold call) errors first errors' (told_any {X = LineError} K (names_asked call.given) (IsRuledTold call) (Ok all) errors first (λ line is. inl is) files.told) later
 
       by : (result : Result Bool RuledFailure) → IfOk result (λ done. done ≡ all) → OnOk result (TellsCountsAny K call.given load counts' volume second errors') → RuledOutcome K call load result left left' held held' errors errors'
       by (Ok done) same told = record {
@@ -225,7 +225,7 @@ module _ {E : Type 0} (K : SinkGhosts E) (call : Call) where
   files_failed load error failure counts counts' left left' held held' errors errors' files = record {
     whole = tt;
     begun = files.begun;
-    tells = record { told = told_any K (names_asked call.given) (IsRuledTold call) (Err error) errors errors' (λ line is. inl is) files.told; partly = tt };
+    tells = record { told = told_any {X = LineError} K (names_asked call.given) (IsRuledTold call) (Err error) errors errors' (λ line is. inl is) files.told; partly = tt };
     notes = tt;
   }
 

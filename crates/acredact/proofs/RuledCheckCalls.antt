@@ -82,7 +82,7 @@ module _ {E : Type 0} (K : SinkGhosts E) (call : Call) where
       };
       begun = begun_told files.begun;
       tells = record {
-        told = told_any K (names_asked call.given) (IsRuledTold call) (Ok verdict.all) errors errors' (λ line is. inl is) files.told;
+        told = told_any {X = LineError} K (names_asked call.given) (IsRuledTold call) (Ok verdict.all) errors errors' (λ line is. inl is) files.told;
         partly = λ none. some_weaker K (IsUnreadLine (names_asked call.given)) (IsRuledTold call) errors errors' (λ line is. inl is)
             (told_as LineError K (names_asked call.given) verdict.all false errors errors' none files.told);
       };
@@ -95,7 +95,7 @@ module _ {E : Type 0} (K : SinkGhosts E) (call : Call) where
     files_unlooked error failure files = record {
       whole = tt;
       begun = begun_told files.begun;
-      tells = record { told = told_any K (names_asked call.given) (IsRuledTold call) (Err error) errors errors' (λ line is. inl is) files.told; partly = tt };
+      tells = record { told = told_any {X = LineError} K (names_asked call.given) (IsRuledTold call) (Err error) errors errors' (λ line is. inl is) files.told; partly = tt };
       quiet = tt;
     }
 
