@@ -1,7 +1,6 @@
 -- What shows a secret in a form lies in a replaced range.
 use Rattle.std.proofs.Common.{◌≡◌, inl, inr, ℕ, zero, suc, ◌+◌, ◌-◌, ◌<◌, ◌≤◌, Bool, true, false, cond, List, [], ◌∷◌, ◌++◌, Option, length, length-append, map, take, drop, refl, sym, ap, subst, ◌∙◌, arith}
 use Rattle.std.specs.Prelude.{All, Contains, MatchBool, Some, None, chars, flat_map, if◌then◌else◌, nat_lt, slice_index_or, slice_range}
-use Rattle.std.specs.declared.io.traits.Read.{Ghosts as Readers}
 use Rattle.std.specs.declared.io.traits.Write.{Ghosts as Writers}
 use Rattle.std.proofs.lemmas.Bool.{lt-ltb, ltb-true}
 use Rattle.std.proofs.lemmas.List.Elements.{All-contains, Contains-append_left, Contains-append_right}
@@ -26,6 +25,7 @@ use Rattle.secret_forms.specs.Spelling.{HidesSpelled, shell_spellings, url_spell
 use Rattle.secret_forms.specs.declared.bytewise.Spelling.{Spelling}
 use Rattle.secret_forms.specs.declared.form.Form.{Form}
 use Rattle.secret_forms.specs.declared.form.Form.TheVariants.{Base64, Hex, Url, Json, Xml, Shell, Lines}
+use Rattle.aho_devices.specs.declared.adapters.FromWrite.{FromWrite}
 use Rattle.acredact.specs.Files.{AreRedacted, RedactsText, Work, WritesText}
 use Rattle.acredact.specs.Forms.{AskedForms, HideSecrets, HidesNestedForm, HidesSecret, filled, form_secret, forms_from, forms_of, once_patterns, asked_form_patterns, twice_patterns, with_forms}
 use Rattle.acredact.specs.Hidden.{AreHidden, HidesForms, NoneShowsOnce, NoneShowsTwice, ShowsBits, SpellsEach, ShowsForm, SpellsForm}
@@ -39,7 +39,6 @@ use Rattle.acredact.specs.Calls.{Call, HidesCall, RedactsCall, names_asked, work
 use Rattle.acredact.specs.Loading.{Loaded, loaded_by}
 use Rattle.acredact.specs.Named.{all_named, named_secret}
 use Rattle.acredact.specs.declared.arguments.Word.TheVariants.{Forms as FormsOption, IgnoreCase}
-use Rattle.acredact.specs.declared.streams.Streams.{Streams}
 use Rattle.acredact.proofs.Free.{named_as}
 
 -- what a form hides is hidden where it shows
@@ -218,14 +217,14 @@ loaded_patterns given secrets (Some key) = by (has FormsOption given)
     by false = refl
 
 -- so no form shows a secret that a call redacts by a cover
-pub call_hides : {R W E : Type 0} {Reads : Readers R} (Writes : Writers W) (call : Call) (left : Option (List ℕ)) (streams streams' : Streams R W E Reads) → covers_asked call.given ≡ true → words_asked call.given ≡ false
-    → RedactsCall Writes call left streams streams' → HidesCall Writes call left streams streams'
-call_hides Writes call left streams streams' covers every of =
+pub call_hides : {W : Type 0} (Writes : Writers W) (call : Call) (left left' : Option (List ℕ)) (output output' : FromWrite W) → covers_asked call.given ≡ true → words_asked call.given ≡ false
+    → RedactsCall Writes call left left' output output' → HidesCall Writes call left left' output output'
+call_hides Writes call left left' output output' covers every of =
     let all = of.loaded.given_all in
     record {
       load = of.load;
       between = of.between;
       loaded = of.loaded;
       hidden = hidden_of _ all.plain (work_by call of.load) covers every
-          (ap (λ (l : Loaded). patterns_in l.secrets) of.loaded.is ∙ loaded_patterns call.given of.loaded.secrets of.loaded.key ∙ ap patterns_in all.are) all.hidden (names_asked call.given) _ _ _ _ of.redacted;
+          (ap (λ (l : Loaded). patterns_in l.secrets) of.loaded.is ∙ loaded_patterns call.given of.loaded.secrets of.loaded.key ∙ ap patterns_in all.are) all.hidden (names_asked call.given) _ _ _ _ of.is;
     }

@@ -1,10 +1,10 @@
 -- What becomes of files that are replaced in place, one after another, and of a call that replaces them.
 use Rattle.std.proofs.Common.{◌≡◌, inl, inr, ℕ, List, [], ◌∷◌, ◌++◌, Option, true, false, refl, sym, ap, subst, ◌∙◌, append-nil, arith}
-use Rattle.std.specs.List.{All, concat}
+use Rattle.std.specs.List.{All}
 use Rattle.std.specs.Prelude.{Bool, ◌&&◌, Result, Ok, Err, IfOk, OnOk, is_some, ◌⊎◌, MatchBool, IfErr}
 use Rattle.std.specs.declared.io.traits.Read.{Ghosts as Readers}
 use Rattle.std.specs.declared.io.traits.Write.{Ghosts as Writers}
-use Rattle.std.proofs.lemmas.List.Elements.{All-cons, All-nil, All-weaker, All-head, All-tail}
+use Rattle.std.proofs.lemmas.List.Elements.{All-cons, All-nil}
 use Rattle.aho_cover.specs.Counting.{CountsThese}
 use Rattle.tool_parts.specs.Failures.{failure_of_stream}
 use Rattle.tool_parts.specs.Names.{IsOneOf}
@@ -36,13 +36,12 @@ use Rattle.acredact.specs.declared.outputs.Outputs.{Ghosts as Places}
 use Rattle.acredact.specs.declared.patterns.Rule.{Rule}
 use Rattle.acredact.specs.declared.streams.Streams.{Streams}
 use Rattle.acredact.specs.declared.summary.Volume.{Volume}
-use Rattle.acredact.proofs.Calls.{may_fail, none_are, tells_last, tells_same}
+use Rattle.acredact.proofs.Calls.{may_fail, none_are, some_all, some_behind, some_then, some_told, some_weaker, tells_both, tells_last, tells_same, tells_weaker}
 use Rattle.acredact.proofs.Done.{both_so, cut_of, redacted_of}
 use Rattle.acredact.proofs.Free.{free_of}
 use Rattle.acredact.proofs.Metering.{VolumeSoFar, all_read, far_unread, far_volume}
 use Rattle.acredact.proofs.Totals.{CountedSoFar, all_counted, far_counted, far_uncounted, totals_told}
-use Rattle.acredact.proofs.Warned.{clean_pieces, doubts_may, may_prepare, some_behind, tells_both, warnings_may}
-use Rattle.acredact.proofs.RuledFiles.{some_all, some_then, some_weaker}
+use Rattle.acredact.proofs.Warned.{clean_pieces, doubts_may, may_prepare, warnings_may}
 
 -- what comes of files that were all read, where nothing is told
 pub all_redacted : {R W E : Type 0} {Reads : Readers R} (Writes : Writers W) (K : SinkGhosts E) (work : Work) (result : Result Bool StreamError) (streams streams' : Streams R W E Reads)
@@ -51,10 +50,6 @@ pub all_redacted : {R W E : Type 0} {Reads : Readers R} (Writes : Writers W) (K 
 all_redacted Writes K work result streams streams' files is =
     let (lines, is_all, (done, told)) = rw is at files.done in
     redacted_of work work.names lines _ _ _ _ (none_are lines (sym is_all)) done
-
--- what is told may be told of more
-pub tells_weaker : {E : Type 0} (K : SinkGhosts E) (Less More : List ℕ → Type 0) (old new : Errors E) → ((line : List ℕ) → Less line → More line) → Tells K Less old new → Tells K More old new
-tells_weaker K Less More old new weaker tells = record { told = tells.told; are_lines = All-weaker Less More weaker tells.told tells.are_lines; written = tells.written }
 
 -- the lines that are told of one file say why it is spared
 module _ (work : Work) (name : List ℕ) where
@@ -74,10 +69,6 @@ module _ (work : Work) (name : List ℕ) where
 pub record ToldOfOne {E : Type 0} (K : SinkGhosts E) (name : List ℕ) (done : Result Bool StreamError) (old mid : Errors E) : Type 0 where
   pub told : Tells K (IsSparedLine name) old mid
   pub partly : done ≡ Ok false → TellsSome K (IsSparedLine name) old mid
-
-some_told : {E : Type 0} (K : SinkGhosts E) (IsLine : List ℕ → Type 0) (old new : Errors E) (lines : List (List ℕ)) → All IsLine lines → TellsBytes K old new (concat lines) → false ≡ are_none lines → TellsSome K IsLine old new
-some_told K IsLine old new [] are told none = absurd (cc)
-some_told K IsLine old new (line ∷ lines) are told none = record { first = line; is_line = All-head IsLine line lines are; more = lines; are_lines = All-tail IsLine line lines are; written = told }
 
 pub told_of_one : {R W E : Type 0} {Reads : Readers R} (Writes : Writers W) (K : SinkGhosts E) (work : Work) (name : List ℕ) → work.names ≡ name ∷ [] → (done : Result Bool StreamError) (old mid : Streams R W E Reads)
     → FilesOutcome Writes K work done old mid → ToldOfOne K name done old.errors mid.errors

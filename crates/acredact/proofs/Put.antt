@@ -14,11 +14,9 @@ use Rattle.acredact.specs.Calls.{Call, CountsCall, IsCountsLine, IsLineOf, Warns
 use Rattle.acredact.specs.Files.{unread_line}
 use Rattle.acredact.specs.Into.{IsOutputLine}
 use Rattle.acredact.specs.declared.streams.Streams.{Streams}
-use Rattle.acredact.proofs.Calls.{tells_counts, tells_last}
+use Rattle.acredact.proofs.Calls.{some_weaker, tells_both, tells_counts, tells_last, tells_weaker}
 use Rattle.acredact.proofs.Given.{same_given}
-use Rattle.acredact.proofs.PlacedCalls.{tells_weaker}
-use Rattle.acredact.proofs.RuledFiles.{some_weaker}
-use Rattle.acredact.proofs.Warned.{tells_both, warnings_may}
+use Rattle.acredact.proofs.Warned.{warnings_may}
 
 -- a status is 0, 1 or 2
 pub two_of : (status : ℕ) → status ≤ 2 → (status ≡ 1 → ⊥) → (status ≡ 0 → ⊥) → status ≡ 2
@@ -48,7 +46,7 @@ module _ {E : Type 0} (K : SinkGhosts E) (IsTold : List ℕ → Type 0) (name : 
 
 module _ {R W E : Type 0} {Reads : Readers R} (Writes : Writers W) (K : SinkGhosts E) (call : Call) (fails : Type 0) (old new : Streams R W E Reads) where
   -- what is told where all was done
-  pub done_told : (counts_asked call.given ≡ false → WarnsCall K call (bytes_left old.input) old.errors new.errors) → (counts_asked call.given ≡ true → CountsCall Writes K call (bytes_left old.input) old new)
+  pub done_told : (counts_asked call.given ≡ false → WarnsCall K call (bytes_left old.input) old.errors new.errors) → (counts_asked call.given ≡ true → CountsCall Writes K call (bytes_left old.input) (bytes_left new.input) old.output new.output old.errors new.errors)
       → Tells K (IsLineOf call fails) old.errors new.errors
   done_told quiet counts = by (counts_asked call.given) refl
     where
