@@ -19,7 +19,7 @@ use Rattle.acredact.specs.Calls.{Call, IsCountsFailure, IsCountsLine, MayFail, T
 use Rattle.acredact.specs.Counts.{zeros}
 use Rattle.acredact.specs.Doubts.{TellsDoubts, TellsWarnings}
 use Rattle.acredact.specs.Failures.{IsFailureLine}
-use Rattle.acredact.specs.Files.{AreCut, AreRedacted, FilesOutcome, IsDone, Work, are_none, unread_line}
+use Rattle.acredact.specs.Files.{AreCut, AreRedacted, FilesOutcome, IsDone, Work, unread_line}
 use Rattle.acredact.specs.InPlace.{AreInTurn, BeginInTurn, CalledPlaces, IsFreed, IsPlaceLine, IsPlaced, IsReplaced, IsSettled, IsSparedLine, IsSparedOf, KeepsCall, PlaceOutcome, PlacesOutcome, PlacesStatus, ReachesCall, TellsEnd}
 use Rattle.acredact.specs.Into.{TellsUnread}
 use Rattle.acredact.specs.Loading.{AreLoaded, Loaded, loaded_as}
