@@ -1,6 +1,6 @@
 //! A call whose output is a new file, which takes the place of another where all was done.
 
-ghost use Rattle.std.specs.Prelude.{◌≡◌, IfErr, IfOk, option_map, true};
+ghost use Rattle.std.specs.Prelude.{◌≡◌, IfErr, IfOk, option_map};
 ghost use Rattle.tool_parts.specs.Arguments.{texts};
 ghost use Rattle.tool_parts.specs.Streams.{output_bytes};
 ghost use Rattle.acredact.specs.Arguments.{IfAsked, IfRuled, NamesOutput};
