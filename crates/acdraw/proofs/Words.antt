@@ -6,7 +6,7 @@ use Rattle.std.proofs.Math.ListN.{get_or-append}
 use Rattle.std.proofs.Math.Seq.{get_or-append_seam}
 use Rattle.std.proofs.lemmas.Bool.{cases_Bool, and_parts, cases_eq, cond-true, cond-false}
 use Rattle.std.proofs.lemmas.Bool.Decides.{nat_tests}
-use Rattle.std.proofs.lemmas.List.{append_assoc, append-nil, length-append}
+use Rattle.std.proofs.lemmas.List.{append_assoc, length-append}
 use Rattle.std.proofs.lemmas.List.Elements.{All-map}
 use Rattle.aho_core.specs.Bytes.{folded, folded_word}
 use Rattle.aho_core.specs.Patterns.{Patterns, pattern_at}
@@ -252,10 +252,6 @@ module _ (special : Special) (p : Patterns) (names : List (Option (List ℕ))) (
       absurd (none_to (state_at states reached.0).transitions sid reached.1 (named-ne_fail root p names states a.nodes sid (x ∷ r) named) (unreached reached.0 reached.2 reached.3) reached.4)
 
 -- ---- the walk back
-
--- it begins with the state itself
-pub ahead_none : (nfa : NFA) (sid : ℕ) → IsAheadOf nfa sid sid []
-ahead_none nfa sid p names word naming e = (word, e, sym (append-nil word))
 
 -- and goes back by one byte
 pub ahead_more : (nfa : NFA) (sid at : ℕ) (reached : Reached) (behind : List ℕ) → IsReachedBy (states_of nfa) at reached → IsAheadOf nfa sid at behind

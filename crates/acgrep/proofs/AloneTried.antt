@@ -1,6 +1,7 @@
 -- What stands alone in a line: the longest of what begins together is tried first, and then the shorter ones.
-use Rattle.std.proofs.Common.{◌≡◌, inl, inr, ◌⊎◌, ℕ, ◌+◌, ◌≤◌, ◌<◌, true, false, List, [], ◌∷◌, ◌++◌, Some, None, length, sym, ◌∙◌, subst, arith, ap, append_assoc, append-nil}
+use Rattle.std.proofs.Common.{◌++◌, ◌+◌, ◌<◌, ◌∙◌, ◌∷◌, ◌≡◌, ◌≤◌, ◌⊎◌, List, None, Some, [], ap, append-nil, append_assoc, arith, false, inl, inr, length, subst, sym, true, ℕ}
 use Rattle.std.proofs.lemmas.Bool.{cases_lt, true≢false}
+use Rattle.std.proofs.lemmas.Grind.{common_steps}
 use Rattle.aho_core.specs.Answer.{IsAnswer}
 use Rattle.aho_core.specs.Best.{IsBestOrNone}
 use Rattle.aho_core.specs.Occurrence.{Occurrence}
@@ -8,10 +9,9 @@ use Rattle.aho_core.specs.Occurs.{OccursIn}
 use Rattle.aho_core.specs.Order.{IsBefore}
 use Rattle.aho_core.specs.Patterns.{Patterns}
 use Rattle.aho_core.specs.Search.{plain_search}
-use Rattle.aho_core.specs.declared.search.MatchKind.{MatchKind}
 use Rattle.aho_core.specs.declared.search.MatchKind.TheVariants.{LeftmostLongest}
-use Rattle.aho_laws.specs.CutLaws.{span_search}
 use Rattle.aho_laws.proofs.ClearCuts.{Occurs-in}
+use Rattle.aho_laws.specs.CutLaws.{span_search}
 use Rattle.acgrep.specs.Alone.{AreAloneFrom, IsAloneAt, IsAloneFrom, IsLongestThere, IsNextAlone, IsShorter, begins_alone, behind_alone, ends_alone}
 
 -- what a search of a range of a line finds lies in it
@@ -22,25 +22,16 @@ pub record LiesIn (start end : ℕ) (m : Occurrence) : Type 0 where
 
 -- what begins at a place is before what begins behind it; of two that begin together the longer is before the shorter
 same_or_shorter : (m other : Occurrence) → other.start ≡ m.start → (other ≡ m) ⊎ IsBefore LeftmostLongest m other → (other.end ≡ m.end) ⊎ (other.end < m.end)
-same_or_shorter m other begins (inl same) = inl (ap (λ (o : Occurrence). o.end) same)
-same_or_shorter m other begins (inr (inl less)) = absurd (omega (arith, less, begins))
-same_or_shorter m other begins (inr (inr (same, inl longer))) = inr longer
-same_or_shorter m other begins (inr (inr (same, inr (ends, number)))) = inl (sym ends)
+same_or_shorter m other begins is = grind (arith, common_steps)
 
 begins_later : (m other : Occurrence) → (other ≡ m) ⊎ IsBefore LeftmostLongest m other → m.start ≤ other.start
-begins_later m other (inl same) = omega (arith, ap (λ (o : Occurrence). o.start) same)
-begins_later m other (inr (inl less)) = omega (arith, less)
-begins_later m other (inr (inr (same, rest))) = omega (arith, same)
+begins_later m other is = grind (arith, common_steps)
 
 module _ (p : Patterns) (line : List ℕ) (kind : p.kind ≡ LeftmostLongest) where
   -- what a search of a range finds is the longest of what begins first there
   best_of : (start end : ℕ) (m : Occurrence) → IsAnswer p (span_search line start end) (Some m)
       → (other : Occurrence) → OccursIn p (span_search line start end) other → (other ≡ m) ⊎ IsBefore LeftmostLongest m other
-  best_of start end m best other occurs =
-      elim (best.1 other occurs) [
-        | inl same ↦ inl same
-        | inr before ↦ inr (subst (λ (k : MatchKind). IsBefore k m other) kind before)
-      ]
+  best_of start end m best other occurs = grind (arith, common_steps)
 
   -- what occurs in the line lies in a range around it
   in_range : (start end : ℕ) (m : Occurrence) → start ≤ m.start → m.end ≤ end → OccursIn p (plain_search line) m → OccursIn p (span_search line start end) m
@@ -166,8 +157,7 @@ pub record AloneSoFar (p : Patterns) (line : List ℕ) (from : ℕ) (ms : List O
 pub alone_step : (p : Patterns) (line : List ℕ) (from behind : ℕ) (ms : List Occurrence) (m : Occurrence) → behind ≡ behind_alone m → IsNextAlone p line from (Some m) → AloneSoFar p line from ms
     → AloneSoFar p line behind (ms ++ (m ∷ []))
 alone_step p line from behind ms m is next so_far = record {
-  goes_on = λ rest are.
-      subst (AreAloneFrom p line 0) (sym (append_assoc ms (m ∷ []) rest)) (so_far.goes_on (m ∷ rest) (next, subst (λ (n : ℕ). AreAloneFrom p line n rest) is are));
+  goes_on = λ rest are. rw (append_assoc ms (m ∷ []) rest) (so_far.goes_on (m ∷ rest) (next, rw is at are));
 }
 
 pub alone_end : (p : Patterns) (line : List ℕ) (from : ℕ) (ms : List Occurrence) → IsNextAlone p line from None → AloneSoFar p line from ms → AreAloneFrom p line 0 ms
@@ -175,7 +165,4 @@ alone_end p line from ms none so_far = subst (AreAloneFrom p line 0) (append-nil
 
 -- the next begins in the line, or one place behind it
 pub alone_behind : (p : Patterns) (line : List ℕ) (at behind : ℕ) (m : Occurrence) → behind ≡ behind_alone m → IsNextAlone p line at (Some m) → behind ≤ length line + 1
-alone_behind p line at behind m is next =
-    let alone : IsAloneFrom p line at m = next.0 in
-    let occurs : OccursIn p (plain_search line) m = alone.occurs in
-    omega (arith, is, occurs.sized, occurs.before_end)
+alone_behind p line at behind m is next = grind (arith, common_steps)

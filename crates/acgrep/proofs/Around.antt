@@ -1,10 +1,10 @@
 -- The line around a place, and patterns that hold no newline.
-use Rattle.std.proofs.Common.{◌≡◌, inl, inr, ◌⊎◌, ℕ, ◌+◌, ◌-◌, ◌≤◌, ◌<◌, ◌==◌, true, List, length, take, drop, sym, ◌∙◌, ap, subst, arith}
-use Rattle.std.specs.Prelude.{slice_index, Some}
-use Rattle.std.proofs.Math.ListN.{get_or}
+use Rattle.std.proofs.Common.{◌+◌, ◌-◌, ◌<◌, ◌==◌, ◌∙◌, ◌≡◌, ◌≤◌, ◌⊎◌, List, Some, ap, arith, drop, inl, inr, length, subst, sym, take, true, ℕ}
+use Rattle.std.proofs.Math.ListN.{get_or, get_or-map}
 use Rattle.std.proofs.lemmas.Bool.{cases_lt, eqb-true}
-use Rattle.std.proofs.lemmas.List.{get_or-take, get_or-drop, length-take-le, length-drop}
-use Rattle.memchr.specs.Find.{Nowhere}
+use Rattle.std.proofs.lemmas.Grind.{common_steps}
+use Rattle.std.proofs.lemmas.List.{get_or-drop, get_or-take, length-drop, length-take-le}
+use Rattle.std.specs.Prelude.{slice_index}
 use Rattle.aho_core.specs.Answer.{IsAnswer}
 use Rattle.aho_core.specs.Bytes.{folded}
 use Rattle.aho_core.specs.Occurrence.{Occurrence}
@@ -13,27 +13,18 @@ use Rattle.aho_core.specs.Order.{IsBefore}
 use Rattle.aho_core.specs.Patterns.{Patterns, pattern_at}
 use Rattle.aho_core.specs.Search.{plain_search}
 use Rattle.aho_core.specs.declared.search.MatchKind.{MatchKind}
-use Rattle.aho_core.specs.declared.search.MatchKind.TheVariants.{Standard, LeftmostFirst, LeftmostLongest}
 use Rattle.aho_core.specs.declared.search.Span.{Span}
+use Rattle.memchr.specs.Find.{Nowhere}
 use Rattle.acgrep.specs.Lines.{IsEnding}
 use Rattle.acgrep.specs.Selected.{HoldNoEnding, IsFirstWith, IsLine}
-use Rattle.std.proofs.Math.ListN.{get_or-map}
 
 -- of the others none ends before the best begins
 best_first : (kind : MatchKind) (m other : Occurrence) → m.start ≤ m.end → other.start ≤ other.end → (other ≡ m) ⊎ IsBefore kind m other → m.start ≤ other.end
-best_first kind m other ordered turned (inl same) = omega (arith, ordered, ap (λ (o : Occurrence). o.end) same)
-best_first Standard m other ordered turned (inr (inl less)) = omega (arith, ordered, less)
-best_first Standard m other ordered turned (inr (inr (same, rest))) = omega (arith, ordered, same)
-best_first LeftmostFirst m other ordered turned (inr (inl less)) = omega (arith, turned, less)
-best_first LeftmostFirst m other ordered turned (inr (inr (same, rest))) = omega (arith, turned, same)
-best_first LeftmostLongest m other ordered turned (inr (inl less)) = omega (arith, turned, less)
-best_first LeftmostLongest m other ordered turned (inr (inr (same, rest))) = omega (arith, turned, same)
+best_first kind m other ordered turned is = grind (arith, common_steps)
 
 -- what an answer starts at lies in the text
 pub starts_within : (p : Patterns) (text : List ℕ) (m : Occurrence) → IsAnswer p (plain_search text) (Some m) → m.start ≤ length text
-starts_within p text m best =
-    let occurs : OccursIn p (plain_search text) m = best.0 in
-    omega (arith, occurs.sized, occurs.before_end)
+starts_within p text m best = grind (arith, common_steps)
 
 module _ (ending : ℕ) where
   -- a newline of the front is one of the text
@@ -57,8 +48,7 @@ module _ (ending : ℕ) where
       elim (cases_lt k at) [
         | inl before ↦ front k low (subst (λ n. k < n) (sym (length-take-le at text within)) before) (front_newline text at k before is)
         | inr behind ↦
-            let same : at + (k - at) ≡ k = omega (arith, behind) in
-            rest (k - at) (omega arith) (omega (arith, high, behind)) (behind_newline text at (k - at) (subst (IsEnding ending text) (sym same) is))
+            rest (k - at) (omega arith) (omega (arith, high, behind)) (behind_newline text at (k - at) (subst (IsEnding ending text) (sym (omega (arith, behind))) is))
       ]
 
   module _ (p : Patterns) (plain : HoldNoEnding ending p) where

@@ -1,15 +1,15 @@
 -- A beginning of what is told of lines, put together from parts.
-use Rattle.std.proofs.Common.{◌≡◌, inl, inr, ℕ, ◌<◌, Bool, true, false, List, [], ◌∷◌, ◌++◌, Option, None, Some, length, refl, sym, ◌∙◌, ap, subst, append-nil}
-use Rattle.std.specs.Prelude.{MatchBool, Result, Ok, Err, OnErr}
+use Rattle.std.proofs.Common.{◌++◌, ◌<◌, ◌∙◌, ◌∷◌, ◌≡◌, Bool, List, None, Option, Some, [], ap, append-nil, false, inl, inr, length, refl, subst, sym, true, ℕ}
 use Rattle.std.specs.Io.KnownBytes.{Appends}
+use Rattle.std.specs.Prelude.{Err, MatchBool, Ok, OnErr, Result}
 use Rattle.aho_core.specs.Patterns.{Patterns}
 use Rattle.aho_devices.specs.Counts.{AppendsBeginning}
 use Rattle.acgrep.specs.Contexts.{BeginsLines, TellsFrom}
 use Rattle.acgrep.specs.Lines.{lines}
-use Rattle.acgrep.specs.Written.{EachLine, HasNone, IsSelected, DoesMatch, DoesNotMatch, SamePlace, SearchesTo, TellsLines, WritesLine, after_lines, is_full, one_more}
+use Rattle.acgrep.specs.Written.{DoesMatch, DoesNotMatch, EachLine, HasNone, IsSelected, SamePlace, SearchesTo, TellsLines, WritesLine, after_lines, is_full, one_more}
 use Rattle.acgrep.specs.declared.print.Place.{Place}
-use Rattle.acgrep.specs.declared.select.Job.{Job}
-use Rattle.acgrep.specs.declared.select.State.{State}
+use Rattle.acgrep.specs.declared.job.Job.{Job}
+use Rattle.acgrep.specs.declared.job.State.{State}
 use Rattle.acgrep.proofs.Begun.{begins_behind, begins_more, begins_some}
 use Rattle.acgrep.proofs.Tellings.{Passing, none_matches, same_place, tells_append, tells_same}
 
@@ -39,10 +39,9 @@ module _ (p : Patterns) (job : Job) where
   -- lines stand before them that are told
   pub begins_join : (a b : State) (count : ℕ) (x y z : Option (List ℕ)) (ls ms : List (List ℕ)) → TellsLines p job a b x y ls → SamePlace job b.place (after_lines a.place ls)
       → BeginsLines p job b count y z ms → BeginsLines p job a count x z (ls ++ ms)
-  begins_join a b count x y z ls ms one same other =
-      begins_behind (TellsFrom p job None b count) (TellsFrom p job None a count) ls ms x y z one.bytes
+  begins_join a b count x y z ls ms one same other = begins_behind _ _ ls ms x y z one.bytes
       (λ first all tells. tells_append p job ls first a.place a.selected b.selected count one.bytes all one.told
-      (tells_same p job first b.place (after_lines a.place ls) b.selected all count same tells)) one.written other
+      (tells_same p job first b.place _ b.selected all count same tells)) one.written other
 
   -- selected lines so far, and a beginning of the next
   pub begins_passing : (a b : State) (count : ℕ) (x y z : Option (List ℕ)) (text rest line left : List ℕ) → job.invert ≡ true → lines job.style.ending rest ≡ line ∷ lines job.style.ending left
@@ -59,9 +58,7 @@ module _ (p : Patterns) (job : Job) where
   pub begins_line : (a b : State) (count : ℕ) (x y z : Option (List ℕ)) (text front line left : List ℕ) → lines job.style.ending text ≡ lines job.style.ending front ++ (line ∷ lines job.style.ending left)
       → TellsLines p job a b x y (lines job.style.ending front) → SamePlace job b.place (after_lines a.place (lines job.style.ending front)) → BeginsLines p job b count y z (line ∷ [])
       → BeginsLines p job a count x z (lines job.style.ending text)
-  begins_line a b count x y z text front line left cut one same other =
-      subst (BeginsLines p job a count x z) (sym cut)
-      (begins_join a b count x y z (lines job.style.ending front) (line ∷ lines job.style.ending left) one same (begins_more (TellsFrom p job None b count) (line ∷ []) (lines job.style.ending left) y z other))
+  begins_line a b count x y z text front line left cut one same other = rw cut (begins_join _ _ _ _ _ _ _ _ one same (begins_more _ _ _ _ _ other))
 
   -- the lines before those with a match
   pub begins_front : (a : State) (count : ℕ) (x y : Option (List ℕ)) (text front : List ℕ) (more : List (List ℕ)) → lines job.style.ending text ≡ lines job.style.ending front ++ more
@@ -71,6 +68,4 @@ module _ (p : Patterns) (job : Job) where
   -- lines that were searched, and a beginning of those that follow
   pub begins_rest : (a b : State) (count : ℕ) (x y z : Option (List ℕ)) (text rest : List ℕ) → SearchesTo p job a b x y text rest → 0 < length rest
       → BeginsLines p job b count y z (lines job.style.ending rest) → BeginsLines p job a count x z (lines job.style.ending text)
-  begins_rest a b count x y z text rest so_far some begins =
-      subst (BeginsLines p job a count x z) (sym so_far.cut)
-      (begins_join a b count x y z so_far.searched (lines job.style.ending rest) so_far.tells (so_far.placed (inl some)) begins)
+  begins_rest a b count x y z text rest so_far some begins = rw so_far.cut (begins_join _ _ _ _ _ _ so_far.searched _ so_far.tells (so_far.placed (inl some)) begins)

@@ -1,7 +1,8 @@
 -- Lines up to the first that holds a zero byte, and those from it on.
-use Rattle.std.proofs.Common.{◌≡◌, inl, inr, ℕ, suc, zero, ◌+◌, ◌-◌, ◌≤◌, ◌<◌, ◌==◌, Bool, true, false, List, [], ◌∷◌, ◌++◌, length, take, drop, take-append-drop, take-take, length-drop, refl, sym, ◌∙◌, ap, subst, arith}
-use Rattle.std.specs.Prelude.{Some, if◌then◌else◌, not}
+use Rattle.std.proofs.Common.{◌++◌, ◌+◌, ◌-◌, ◌<◌, ◌==◌, ◌∙◌, ◌∷◌, ◌≡◌, ◌≤◌, Bool, List, Some, [], ap, append-nil, arith, drop, false, inl, inr, length, length-drop, refl, subst, suc, sym, take, take-append-drop, take-take, true, zero, ℕ}
+use Rattle.std.proofs.Math.Seq.{take-length}
 use Rattle.std.proofs.lemmas.Bool.{and_from, and_parts, and_right, cases_Bool, eq-eqb, eqb-true, false_from_ne_true, not_from_false, true≢false}
+use Rattle.std.specs.Prelude.{if◌then◌else◌, not}
 use Rattle.memchr.specs.Find.{Nowhere}
 use Rattle.acgrep.specs.Binary.{binary_lines, is_text, text_lines}
 use Rattle.acgrep.specs.Guarded.{IsFirstBinary, IsZeroLine}
@@ -92,11 +93,7 @@ module _ (ending : ℕ) where
   zero_none bytes before front none =
       let back : is_text (take (length (drop before bytes)) (drop before bytes)) ≡ true = text_nowhere (drop before bytes) (length (drop before bytes)) (omega arith) none in
       subst (λ (l : List ℕ). is_text l ≡ true) (take-append-drop before bytes)
-      (text_joined (take before bytes) (drop before bytes) front (text_front (drop before bytes) [] (subst (λ (l : List ℕ). is_text l ≡ true) (whole (drop before bytes)) back)))
-    where
-      whole : (xs : List ℕ) → take (length xs) xs ≡ xs ++ []
-      whole [] = refl
-      whole (x ∷ xs) = ap (λ (l : List ℕ). x ∷ l) (whole xs)
+      (text_joined (take before bytes) (drop before bytes) front (text_front (drop before bytes) [] (subst (λ (l : List ℕ). is_text l ≡ true) (take-length (drop before bytes) ∙ sym (append-nil (drop before bytes))) back)))
 
   -- the first of them stands there, and its line begins behind the last that ends before it
   pub zero_some : (bytes : List ℕ) (before at start : ℕ) → before ≤ length bytes → at < length (drop before bytes) → is_text (take before bytes) ≡ true → IsEnding 0 (drop before bytes) at
@@ -141,8 +138,7 @@ some_text P [] some = absurd some
 some_text P (line ∷ rest) some =
     elim (cases_Bool (is_text line)) [
       | inl is ↦
-          let here : SomeLine P (line ∷ text_lines rest) = subst (λ (b : Bool). SomeLine P (if b then line ∷ text_lines rest else [])) is some in
-          elim here [ inl one ↦ inl one | inr later ↦ inr (some_text P rest later) ]
+          elim (subst (λ (b : Bool). SomeLine P (if b then line ∷ text_lines rest else [])) is some) [ inl one ↦ inl one | inr later ↦ inr (some_text P rest later) ]
       | inr other ↦ absurd (subst (λ (b : Bool). SomeLine P (if b then line ∷ text_lines rest else [])) other some)
     ]
 

@@ -1,10 +1,11 @@
 -- What is told where lines from the first on that holds a zero byte are kept from the output.
-use Rattle.std.proofs.Common.{◌≡◌, ◌⊎◌, inl, inr, ℕ, ◌<◌, ◌==◌, Bool, true, false, List, [], ◌∷◌, ◌++◌, Option, None, Some, IfSome, take, drop, take-append-drop, refl, sym, ◌∙◌, ap, subst, append_assoc, append-nil}
-use Rattle.std.specs.Prelude.{MatchBool, if◌then◌else◌, nat_lt, not, ◌&&◌, ◌||◌}
-use Rattle.std.specs.Io.KnownBytes.{Appends, Consumes}
+use Rattle.std.proofs.Common.{◌++◌, ◌<◌, ◌==◌, ◌∙◌, ◌∷◌, ◌≡◌, ◌⊎◌, Bool, List, None, Option, Some, [], ap, append-nil, append_assoc, arith, drop, false, inl, inr, refl, subst, sym, take, take-append-drop, true, ℕ}
 use Rattle.std.proofs.KnownBytes.{Appends-trans, Consumes-trans, Keeps-refl}
-use Rattle.std.proofs.lemmas.Bool.{and_parts, lt-ltb, not-true, true≢false, or_right}
 use Rattle.std.proofs.Math.Bool.{or-false}
+use Rattle.std.proofs.lemmas.Bool.{and_parts, lt-ltb, not-true, or_right, true≢false}
+use Rattle.std.proofs.lemmas.Grind.{common_steps}
+use Rattle.std.specs.Io.KnownBytes.{Appends, Consumes}
+use Rattle.std.specs.Prelude.{◌&&◌, ◌||◌, IfSome, MatchBool, if◌then◌else◌, nat_lt, not}
 use Rattle.aho_core.specs.Patterns.{Patterns}
 use Rattle.aho_devices.specs.Counts.{AppendsBeginning}
 use Rattle.acgrep.specs.Begun.{BeginsOf}
@@ -17,11 +18,11 @@ use Rattle.acgrep.specs.Streamed.{BeginsBehind, Course, SearchesBehind, course}
 use Rattle.acgrep.specs.Written.{IsAny, IsSelected, IsSettled, SomeLine, TellsOfLines, is_full, needs_one}
 use Rattle.acgrep.specs.declared.options.Context.{Context}
 use Rattle.acgrep.specs.declared.options.Shown.{Shown}
-use Rattle.acgrep.specs.declared.options.Shown.TheVariants.{Lines, Matches, Objects, Count, Names, Lacking, Nothing}
-use Rattle.acgrep.specs.declared.select.Job.{Job}
-use Rattle.acgrep.specs.declared.select.State.{State}
-use Rattle.acgrep.proofs.BinaryLines.{binary_behind, first_binary, first_some, first_text, some_binary, some_text, text_behind}
+use Rattle.acgrep.specs.declared.options.Shown.TheVariants.{Nothing}
+use Rattle.acgrep.specs.declared.job.Job.{Job}
+use Rattle.acgrep.specs.declared.job.State.{State}
 use Rattle.acgrep.proofs.Begun.{nil_front}
+use Rattle.acgrep.proofs.BinaryLines.{binary_behind, first_binary, first_some, first_text, some_binary, some_text, text_behind}
 use Rattle.acgrep.proofs.FileTellings.{TextTold, shows_nothing, some_front, sought_all, tells_any, tells_none, text_behind as text_read, text_told}
 use Rattle.acgrep.proofs.FilesBegun.{shows_lines}
 use Rattle.acgrep.proofs.LineLists.{lines_append}
@@ -37,33 +38,23 @@ some_behind P (line ∷ ls) ms some = inr (some_behind P ls ms some)
 
 -- what follows from lines or matches being written
 lines_needed : (shown : Shown) → writes_lines shown ≡ true → needs_one shown ≡ false
-lines_needed Lines is = refl
-lines_needed Matches is = refl
-lines_needed Objects is = absurd (cc)
-lines_needed Count is = absurd (cc)
-lines_needed Names is = absurd (cc)
-lines_needed Lacking is = absurd (cc)
-lines_needed Nothing is = absurd (cc)
+lines_needed shown is = grind (arith, common_steps)
 
 -- a line of a text is selected where one of its first lines is, or one of the others
 guarded_some : (p : Patterns) (job : Job) (ls : List (List ℕ)) (some more full : Bool) → IsAny p job.fit job.invert (text_lines ls) some
     → MatchBool full (more ≡ false) (IsAny p job.fit job.invert (binary_lines ls) more) → true ≡ (some || more) → SomeLine (IsSelected p job.fit job.invert) ls
 guarded_some p job ls true more full first others is = some_text (IsSelected p job.fit job.invert) ls first
-guarded_some p job ls false true true first others is = absurd (cc)
 guarded_some p job ls false true false first others is = some_binary (IsSelected p job.fit job.invert) ls others
-guarded_some p job ls false false full first others is = absurd (cc)
+guarded_some p job ls false _ _ first others is = absurd (cc)
 
 -- where lines are kept from the output all are searched
 guarded_all : (job : Job) → is_guarded job ≡ true → takes_text job ≡ false
-guarded_all job guarded =
-    let guards : job.guards ≡ true = (and_parts job.guards (not (job.style.ending == 0)) (and_parts (writes_lines job.shown) (job.guards && not (job.style.ending == 0)) guarded).1).0 in
-    ap (λ (b : Bool). not b && (job.text_alone && not (job.style.ending == 0))) guards
+guarded_all job guarded = grind (arith, common_steps)
 
 pub either_some : (p : Patterns) (job : Job) (text bytes : List ℕ) (guarded : Bool) → is_guarded job ≡ guarded
     → MatchBool guarded (TellsGuarded p job text true bytes) (TellsSearched p job (lines_sought job text) true bytes) → SomeLine (IsSelected p job.fit job.invert) (lines_sought job text)
 either_some p job text bytes true is tells =
-    subst (SomeLine (IsSelected p job.fit job.invert)) (sym (sought_all job text (guarded_all job is)))
-    (guarded_some p job (lines job.style.ending text) tells.some tells.more (is_full job.most tells.count) tells.selected tells.others tells.is_any)
+    rw (sought_all job text (guarded_all job is)) (guarded_some p job (lines job.style.ending text) tells.some tells.more (is_full job.most tells.count) tells.selected tells.others tells.is_any)
 either_some p job text bytes false is tells = tells.0
 
 module _ (p : Patterns) (job : Job) where
@@ -71,13 +62,10 @@ module _ (p : Patterns) (job : Job) where
   any_told : (around : Option Context) (state : State) (held meanwhile : Option (List ℕ)) (text : List ℕ) → (told : TextTold p job around state held meanwhile text) → (ls later : List (List ℕ))
       → ls ≡ told.searched ++ later → (later ≡ []) ⊎ (0 < state.selected) → IsAny p job.fit job.invert ls (nat_lt 0 state.selected)
   any_told around state held meanwhile text told ls later cut (inl none) =
-      subst (λ (l : List (List ℕ)). IsAny p job.fit job.invert l (nat_lt 0 state.selected)) (sym (cut ∙ ap (λ (l : List (List ℕ)). told.searched ++ l) none ∙ append-nil told.searched))
-      (tells_any p job told.searched job.first told.plain state.selected told.tells)
+      rw (cut ∙ ap (λ (l : List (List ℕ)). told.searched ++ l) none ∙ append-nil told.searched) (tells_any p job told.searched job.first told.plain state.selected told.tells)
   any_told around state held meanwhile text told ls later cut (inr some) =
       let is : nat_lt 0 state.selected ≡ true = lt-ltb 0 state.selected some in
-      let first : SomeLine (IsSelected p job.fit job.invert) told.searched =
-      subst (IsAny p job.fit job.invert told.searched) is (tells_any p job told.searched job.first told.plain state.selected told.tells) in
-      subst (IsAny p job.fit job.invert ls) (sym is) (subst (SomeLine (IsSelected p job.fit job.invert)) (sym cut) (some_front (IsSelected p job.fit job.invert) told.searched later first))
+      rw is (rw cut (some_front (IsSelected p job.fit job.invert) told.searched later (rw is at (tells_any p job told.searched job.first told.plain state.selected told.tells))))
 
   -- what is found of a job that writes nothing, in what is there and what comes
   finds_of : (before state : State) (left left' held held' : Option (List ℕ)) (kept : List ℕ) → job.shown ≡ Nothing → IsBegin job before
@@ -120,8 +108,7 @@ module _ (p : Patterns) (job : Job) where
   -- and where it is broken off nothing is written either
   begins_nothing : (before state : State) (left held held' : Option (List ℕ)) (kept : List ℕ) → job.shown ≡ Nothing → BeginsBehind p job false before state held held' left kept → Appends held held' []
   begins_nothing before state left held held' kept shown behind =
-      let alone : around_of job ≡ None = rw shown refl in
-      nothing_in (around_of job) alone before state.selected held held' (lines job.style.ending behind.text) (ap needs_one shown) behind.begins
+      nothing_in (around_of job) (rw shown refl) before state.selected held held' (lines job.style.ending behind.text) (ap needs_one shown) behind.begins
 
   -- what was told of some lines
   record LinesTold (held meanwhile : Option (List ℕ)) (ls : List (List ℕ)) (count : ℕ) : Type 0 where
@@ -142,9 +129,8 @@ module _ (p : Patterns) (job : Job) where
       record {
         bytes = told.bytes;
         plain = told.plain;
-        tells = subst (λ (ls : List (List ℕ)). TellsFile p job ls told.bytes state.selected) (sym same) (told.file later (inr (full, past)));
-        plainly = subst (λ (ls : List (List ℕ)). TellsOfLines p job job.first 0 ls told.plain state.selected) (sym same)
-            (tells_full p job told.searched later job.first 0 state.selected told.plain full told.tells);
+        tells = rw same (told.file later (inr (full, past)));
+        plainly = rw same (tells_full p job told.searched later job.first 0 state.selected told.plain full told.tells);
         written = told.written;
       }
 
@@ -159,13 +145,12 @@ module _ (p : Patterns) (job : Job) where
             record {
               bytes = told.bytes;
               plain = told.plain;
-              tells = subst (λ (ls : List (List ℕ)). TellsFile p job ls told.bytes state.selected) (sym same) (told.file [] (inl refl));
-              plainly = subst (λ (ls : List (List ℕ)). TellsOfLines p job job.first 0 ls told.plain state.selected) (sym (same ∙ append-nil told.searched)) told.tells;
+              tells = rw same (told.file [] (inl refl));
+              plainly = rw (same ∙ append-nil told.searched) told.tells;
               written = told.written;
             }
         | inr (inl (one, some)) ↦ absurd (true≢false (sym one ∙ several))
-        | inr (inr full) ↦ subst (λ (ls : List (List ℕ)). LinesTold held meanwhile ls state.selected) (append-nil (lines job.style.ending text))
-            (told_full before state held meanwhile text [] begin searches full)
+        | inr (inr full) ↦ rw (append-nil (lines job.style.ending text)) at (told_full before state held meanwhile text [] begin searches full)
       ]
 
   -- lines that were searched and those behind them
@@ -194,18 +179,17 @@ module _ (p : Patterns) (job : Job) where
       text = text;
       of = of;
       bytes = told.bytes ++ (if more then binary_by job.style else []);
-      tells = subst (λ (b : Bool). MatchBool b (TellsGuarded p job text any (told.bytes ++ (if more then binary_by job.style else []))) (TellsSearched p job (lines_sought job text) any (told.bytes ++ (if more then binary_by job.style else []))))
-          (sym guarded) (record {
-            told = told.bytes;
-            count = count;
-            tells = subst (λ (l : List (List ℕ)). TellsFile p job l told.bytes count) (sym first) told.tells;
-            some = nat_lt 0 count;
-            selected = subst (λ (l : List (List ℕ)). IsAny p job.fit job.invert l (nat_lt 0 count)) (sym first) (tells_any p job ls job.first told.plain count told.plainly);
-            more = more;
-            others = subst (λ (l : List (List ℕ)). MatchBool (is_full job.most count) (more ≡ false) (IsAny p job.fit job.invert l more)) (sym rest) found;
-            is_any = is;
-            all = refl;
-          });
+      tells = rw guarded (record {
+        told = told.bytes;
+        count = count;
+        tells = rw first told.tells;
+        some = nat_lt 0 count;
+        selected = rw first (tells_any p job ls job.first told.plain count told.plainly);
+        more = more;
+        others = rw rest found;
+        is_any = is;
+        all = refl;
+      });
       written = Appends-trans held meanwhile held' told.bytes (if more then binary_by job.style else []) told.written written;
     }
 
@@ -244,16 +228,11 @@ module _ (p : Patterns) (job : Job) where
                     (ap text_lines same ∙ text_behind job.style.ending searched others (past.text refl))
                     (ap binary_lines same ∙ binary_behind job.style.ending searched others (past.text refl))
                     (told_full before state held meanwhile searched (text_lines others) begin behind.searches full)
-                    (subst (λ (b : Bool). MatchBool b (false ≡ false) (IsAny p job.fit job.invert (binary_lines others) false)) (sym full.0) refl) (appends_none meanwhile) (sym (or-false (nat_lt 0 state.selected)));
+                    (rw full.0 refl) (appends_none meanwhile) (sym (or-false (nat_lt 0 state.selected)));
                 reads = record {
                   bytes = behind.came;
                   read = behind.consumed;
-                  ended = inr (inr (inl (
-                    asked.plain,
-                    state.selected,
-                    subst (λ (ls : List (List ℕ)). TellsOfLines p job job.first 0 ls asked.plain state.selected) (sym read) asked.plainly,
-                    full.0,
-                  )));
+                  ended = inr (inr (inl (asked.plain, state.selected, rw read asked.plainly, full.0)));
                 };
               }
         ]
@@ -393,10 +372,8 @@ finds_seeking p job kept left left' held held' any finds = record {
 
 pub finds_sought : (p : Patterns) (job sought : Job) → sought ≡ seeking job → (before state : State) (left left' held held' : Option (List ℕ)) (kept : List ℕ) → IsBegin sought before
     → SearchesBehind p sought (course before state held held' left left') kept → FindsSelected p job kept left left' held held' (nat_lt 0 state.selected)
-finds_sought p job sought same before state left left' held held' kept begin behind =
-    finds_seeking p job kept left left' held held' (nat_lt 0 state.selected)
-    (subst (λ (j : Job). FindsSelected p j kept left left' held held' (nat_lt 0 state.selected)) same
-    (finds_of p sought before state left left' held held' kept (ap (λ (j : Job). j.shown) same) begin behind))
+finds_sought p job sought same before state left left' held held' kept begin behind = finds_seeking p job kept left left' held held' (nat_lt 0 state.selected)
+    (rw same at (finds_of p sought before state left left' held held' kept (ap (λ (j : Job). j.shown) same) begin behind))
 
 pub begins_sought : (p : Patterns) (job sought : Job) → sought ≡ seeking job → (before state : State) (left held held' : Option (List ℕ)) (kept : List ℕ)
     → BeginsBehind p sought false before state held held' left kept → Appends held held' []

@@ -1,5 +1,5 @@
 -- What holds by a test.
-use Rattle.std.proofs.Common.{◌≡◌, Bool, true, false}
+use Rattle.std.proofs.Common.{◌≡◌, Bool, false, true}
 use Rattle.std.specs.Prelude.{MatchBool}
 
 pub where_true : {A : Type 0} (B : Type 0) (b : Bool) → b ≡ true → A → MatchBool b A B

@@ -1,17 +1,16 @@
 -- Which of the operands are searched.
-use Rattle.std.proofs.Common.{◌≡◌, ◌⊎◌, inl, inr, Bool, true, false, Option, None, Some, ℕ, ◌-◌, ◌<◌, List, [], ◌∷◌, ◌++◌, length, take, drop, refl, sym, ◌∙◌, ap, subst, arith, append_assoc, append-nil, take_all}
-use Rattle.std.specs.Prelude.{◌||◌, IfSome, not, unwrap_or}
-use Rattle.std.specs.Borrow.{Bor}
-use Rattle.std.proofs.lemmas.Bool.{cases_Bool, or_parts}
+use Rattle.std.proofs.Common.{◌++◌, ◌-◌, ◌<◌, ◌∙◌, ◌∷◌, ◌≡◌, ◌⊎◌, Bool, Bor, List, None, Option, Some, [], ap, append-nil, append_assoc, arith, drop, false, inl, inr, length, refl, subst, sym, take, take_all, true, ℕ}
 use Rattle.std.proofs.Math.ListN.{get_or}
+use Rattle.std.proofs.lemmas.Bool.{cases_Bool}
+use Rattle.std.proofs.lemmas.Grind.{common_steps}
+use Rattle.std.specs.Prelude.{◌||◌, IfSome, not}
 use Rattle.tool_parts.specs.Names.{is_input, name_bytes, or_input}
 use Rattle.acgrep.specs.Arguments.{Said, ways_by}
-use Rattle.acgrep.specs.Folders.{AreChosen, Chooses, IsKept, IsUnknown, Tree, is_folder, is_passed, kept_of, missed_of, passes}
+use Rattle.acgrep.specs.Folders.{AreChosen, Chooses, IsKept, IsUnknown, Tree, is_folder, is_passed, kept_of, missed_of}
 use Rattle.acgrep.specs.Listed.{listed_bytes}
 use Rattle.acgrep.specs.Rules.{RuleSaid, is_left_out}
-use Rattle.acgrep.specs.Runs.{AreReached, chooses, has_rules}
+use Rattle.acgrep.specs.Runs.{AreReached, chooses}
 use Rattle.acgrep.specs.declared.folders.Kind.{Kind}
-use Rattle.acgrep.specs.declared.folders.Kind.TheVariants.{File, Folder, Link, Device}
 use Rattle.acgrep.specs.declared.walk.Found.{Found}
 use Rattle.acgrep.specs.declared.walk.Ways.{Ways}
 
@@ -40,30 +39,12 @@ module _ (tree : Tree) (rules : List RuleSaid) (ways : Ways) (all : List (List �
   chosen-end (name ∷ names) found gone so_far = absurd (omega (arith, gone))
 
 -- where there are no rules, and none is passed over for what it is, all are searched
-kinds_free : (ways : Ways) (kind : Kind) → passes ways ≡ false → is_passed ways kind ≡ false
-kinds_free ways File none = refl
-kinds_free ways Folder none = (or_parts ways.skips_folders (not (unwrap_or ways.devices true)) none).0
-kinds_free ways Link none = refl
-kinds_free ways Device none = (or_parts ways.skips_folders (not (unwrap_or ways.devices true)) none).1
-
-rules_free : (rules : List RuleSaid) (is_folder : Bool) (name : List ℕ) → has_rules rules ≡ false → is_left_out rules is_folder true name ≡ false
-rules_free [] true name none = refl
-rules_free [] false name none = refl
-rules_free (rule ∷ rules) is_folder name none = absurd (cc)
-
 module _ (tree : Tree) (rules : List RuleSaid) (ways : Ways) (none : chooses rules ways ≡ false) where
   none_left : (kind : Kind) (name : List ℕ) → not (is_passed ways kind || is_left_out rules (is_folder kind) true name) ≡ true
-  none_left kind name =
-      let (ruleless, wayless) = or_parts (has_rules rules) (passes ways) none in
-      rw (kinds_free ways kind wayless) (rw (rules_free rules (is_folder kind) name ruleless) refl)
+  none_left kind name = grind (arith, common_steps)
 
   is_chosen : (name : List ℕ) (kept : Bool) → IsKept tree rules ways name kept → kept ≡ true
-  is_chosen name kept is = elim (cases_Bool (is_input name)) [
-    | inl input ↦ rw input at is
-    | inr other ↦
-        let looked = rw other at is in
-        elim looked [ inl lost ↦ lost.1 | inr (kind, known, same) ↦ same ∙ none_left kind name ]
-  ]
+  is_chosen name kept is = grind (arith, common_steps)
 
   -- so none has to be looked at
   pub all_kept : (name : List ℕ) → IsKept tree rules ways name true

@@ -1,14 +1,14 @@
 -- Matches that are written one after another.
-use Rattle.std.proofs.Common.{◌≡◌, ℕ, List, [], ◌∷◌, ◌++◌, Option, refl, sym, ◌∙◌, ap, subst, append_assoc, append-nil}
-use Rattle.std.specs.Io.KnownBytes.{Appends}
-use Rattle.std.specs.Prelude.{Bool, if◌then◌else◌}
+use Rattle.std.proofs.Common.{◌++◌, ◌∙◌, ◌∷◌, ◌≡◌, Bool, List, Option, [], ap, append-nil, append_assoc, arith, refl, subst, sym, ℕ}
 use Rattle.std.proofs.KnownBytes.{Appends-nil, Appends-trans}
 use Rattle.std.proofs.lemmas.Bool.{ne_eqb}
+use Rattle.std.proofs.lemmas.Grind.{common_steps}
+use Rattle.std.specs.Io.KnownBytes.{Appends}
+use Rattle.std.specs.Prelude.{if◌then◌else◌}
 use Rattle.aho_core.specs.Occurrence.{Occurrence}
 use Rattle.acgrep.specs.Matches.{behind_by, found_by, rest_behind, shown_from}
 use Rattle.acgrep.specs.Printed.{colored_by, match_code, painted, part_of}
 use Rattle.acgrep.specs.declared.matches.Shape.{Shape}
-use Rattle.acgrep.specs.declared.matches.Shape.TheVariants.{Colored, OnLines, AsFields}
 use Rattle.acgrep.specs.declared.print.Place.{Place}
 use Rattle.acgrep.specs.declared.print.Style.{Style}
 
@@ -33,14 +33,10 @@ pub record PutSoFar (shape : Shape) (style : Style) (place : Place) (line : List
 
 shown_more : (shape : Shape) (style : Style) (place : Place) (line : List ℕ) (at : ℕ) (m : Occurrence) (rest : List Occurrence)
     → shown_from shape style place line at (m ∷ rest) ≡ found_by shape style place line at m ++ shown_from shape style place line (behind_by shape at m) rest
-shown_more Colored style place line at m rest = refl
-shown_more OnLines style place line at m rest = refl
-shown_more AsFields style place line at m rest = refl
+shown_more shape style place line at m rest = grind (arith, common_steps)
 
 shown_last : (shape : Shape) (style : Style) (place : Place) (line : List ℕ) (at : ℕ) → shown_from shape style place line at [] ≡ rest_behind shape line at
-shown_last Colored style place line at = refl
-shown_last OnLines style place line at = refl
-shown_last AsFields style place line at = refl
+shown_last shape style place line at = grind (arith, common_steps)
 
 module _ (shape : Shape) (style : Style) (place : Place) (line : List ℕ) where
   -- before the first

@@ -1,22 +1,21 @@
 -- Digits among joined letters.
-use Rattle.std.proofs.Common.{◌≡◌, ◌==◌, inl, inr, ℕ, suc, zero, ◌≤◌, ◌<◌, true, false, List, [], ◌∷◌, ◌++◌, Option, None, Some, length, take, drop, refl, sym, ◌∙◌, ap, arith, append_assoc, append-nil}
-use Rattle.std.specs.Prelude.{option_and_then, option_map}
+use Rattle.std.proofs.Common.{◌++◌, ◌<◌, ◌==◌, ◌∙◌, ◌∷◌, ◌≡◌, ◌≤◌, List, None, Option, Some, [], ap, append-nil, append_assoc, arith, drop, false, length, refl, suc, sym, take, true, zero, ℕ}
+use Rattle.std.proofs.lemmas.Grind.{common_steps}
 use Rattle.std.specs.Char.{is_ascii_digit}
-use Rattle.std.proofs.lemmas.Bool.{cases_Bool, eqb-true}
-use Rattle.acgrep.specs.Arguments.{AreDigits, AreRefused, ReadSoFar, Said, letter_by, letters_by, letters_from, number_by, valued_letter, said_so, switch_by, switched, with_digits, with_number}
+use Rattle.std.specs.Prelude.{option_and_then, option_map}
+use Rattle.acgrep.specs.Arguments.{AreDigits, AreRefused, ReadSoFar, Said, letter_by, letters_by, letters_from, number_by, said_so, switch_by, switched, valued_letter, with_digits, with_number}
 use Rattle.acgrep.specs.Mistakes.{IsTold, digits_value_of, if_none, wrong_digits, wrong_from_digits, wrong_letter, wrong_letters}
 use Rattle.acgrep.specs.Told.{number_parts, valued_name}
-use Rattle.acgrep.specs.declared.arguments.Refusal.{Refusal}
-use Rattle.acgrep.specs.declared.arguments.Refusal.TheVariants.{Wrong, OutOfMemory}
-use Rattle.acgrep.specs.declared.long.Valued.TheVariants.{Around}
-use Rattle.acgrep.specs.declared.options.Switch.{Switch}
+use Rattle.acgrep.specs.declared.wrong.Refusal.{Refusal}
+use Rattle.acgrep.specs.declared.wrong.Refusal.TheVariants.{OutOfMemory, Wrong}
+use Rattle.acgrep.specs.declared.all_options.Valued.TheVariants.{Around}
+use Rattle.acgrep.specs.declared.all_options.Switch.{Switch}
 
 abbrev then_letters : List ℕ → Option Said → Option ReadSoFar
 then_letters letters said = option_and_then (λ s. letters_from [] letters s) said
 
 then_all : (said : Option Said) → option_map said_so said ≡ then_letters [] said
-then_all None = refl
-then_all (Some s) = refl
+then_all _ = refl
 
 then_letter : (letter : ℕ) (rest : List ℕ) → is_ascii_digit letter ≡ false → (said : Option Said)
     → option_and_then (letter_by letter rest (letters_from [] rest)) said ≡ then_letters (letter ∷ rest) said
@@ -36,12 +35,9 @@ run_by [] zero before s digits within = then_all (with_digits before s) ∙ ap (
 run_by [] (suc count) before s digits within = absurd (omega (arith, within))
 run_by (letter ∷ rest) zero before s digits within =
     let other : is_ascii_digit letter ≡ false = digits.ends (omega arith) in
-    let cut : letters_from before (letter ∷ rest) s ≡ option_and_then (letter_by letter rest (letters_from [] rest)) (with_digits before s) = rw other refl in
-    cut ∙ then_letter letter rest other (with_digits before s) ∙ ap (λ (l : List ℕ). then_letters (letter ∷ rest) (with_digits l s)) (sym (append-nil before))
+    (rw other refl) ∙ then_letter letter rest other (with_digits before s) ∙ ap (λ (l : List ℕ). then_letters (letter ∷ rest) (with_digits l s)) (sym (append-nil before))
 run_by (letter ∷ rest) (suc count) before s digits within =
-    let is : is_ascii_digit letter ≡ true = digits.all 0 (omega arith) in
-    let cut : letters_from before (letter ∷ rest) s ≡ letters_from (before ++ (letter ∷ [])) rest s = rw is refl in
-    cut ∙ run_by rest count (before ++ (letter ∷ [])) s (digits_less letter rest count digits) (omega (arith, within))
+    (rw (digits.all 0 (omega arith)) refl) ∙ run_by rest count (before ++ (letter ∷ [])) s (digits_less letter rest count digits) (omega (arith, within))
     ∙ ap (λ (l : List ℕ). then_letters (drop count rest) (with_digits l s)) (append_assoc before (letter ∷ []) (take count rest))
 
 abbrev wrong_or_then : List ℕ → List ℕ → List (List ℕ)
@@ -64,14 +60,10 @@ wrong_run (letter ∷ rest) (suc count) before digits within =
 
 -- the digits at the front of letters
 digits_with : (letters : List ℕ) (count : ℕ) (s : Said) → 0 < count → count ≤ length letters → with_digits (take count letters) s ≡ option_map (λ number. with_number Around number s) (number_by (take count letters))
-digits_with letters zero s some within = absurd (omega (arith, some))
-digits_with [] (suc count) s some within = absurd (omega (arith, within))
-digits_with (letter ∷ rest) (suc count) s some within = refl
+digits_with letters count s some within = grind (arith, common_steps)
 
 digits_value : (letters : List ℕ) (count : ℕ) → 0 < count → count ≤ length letters → digits_value_of (take count letters) ≡ number_by (take count letters)
-digits_value letters zero some within = absurd (omega (arith, some))
-digits_value [] (suc count) some within = absurd (omega (arith, within))
-digits_value (letter ∷ rest) (suc count) some within = refl
+digits_value letters count some within = grind (arith, common_steps)
 
 module _ (letters : List ℕ) (count : ℕ) (digits : AreDigits letters count) (within : count ≤ length letters) (some : 0 < count) where
   -- where they write a number
@@ -101,33 +93,16 @@ module _ (letters : List ℕ) (count : ℕ) (digits : AreDigits letters count) (
 
 -- a letter behind no digit
 pub letter_first : (letter : ℕ) (rest : List ℕ) (s : Said) → AreDigits (letter ∷ rest) 0 → letters_by (letter ∷ rest) s ≡ letter_by letter rest (letters_by rest) s
-letter_first letter rest s digits =
-    let other : is_ascii_digit letter ≡ false = digits.ends (omega arith) in
-    rw other refl
+letter_first letter rest s digits = grind (arith, common_steps)
 
 pub wrong_first : (letter : ℕ) (rest : List ℕ) → AreDigits (letter ∷ rest) 0 → wrong_letters (letter ∷ rest) ≡ wrong_letter letter rest (wrong_letters rest)
-wrong_first letter rest digits =
-    let other : is_ascii_digit letter ≡ false = digits.ends (omega arith) in
-    rw other refl
-
-not_equal : (a b : ℕ) → (a ≡ b → ⊥) → (a == b) ≡ false
-not_equal a b differ =
-    elim (cases_Bool (a == b)) [
-      | inl is ↦ absurd (differ (eqb-true a b is))
-      | inr not ↦ not
-    ]
+wrong_first letter rest digits = grind (arith, common_steps)
 
 -- a letter that turns something on
 pub letter_switch : (letter : ℕ) (rest : List ℕ) (follow : Said → Option ReadSoFar) (s : Said) (switch : Switch) → (letter ≡ 101 → ⊥) → (letter ≡ 102 → ⊥) → valued_letter letter ≡ None
     → switch_by letter ≡ Some switch → letter_by letter rest follow s ≡ follow (record s { flags = switched switch s.flags })
-letter_switch letter rest follow s switch no_text no_file plain is =
-    let text = not_equal letter 101 no_text in
-    let file = not_equal letter 102 no_file in
-    rw text (rw file (rw plain (rw is refl)))
+letter_switch letter rest follow s switch no_text no_file plain is = grind (arith, common_steps)
 
 pub wrong_switch : (letter : ℕ) (rest : List ℕ) (others : List (List ℕ)) (switch : Switch) → (letter ≡ 101 → ⊥) → (letter ≡ 102 → ⊥) → valued_letter letter ≡ None → switch_by letter ≡ Some switch
     → wrong_letter letter rest others ≡ others
-wrong_switch letter rest others switch no_text no_file plain is =
-    let text = not_equal letter 101 no_text in
-    let file = not_equal letter 102 no_file in
-    rw text (rw file (rw plain (rw is refl)))
+wrong_switch letter rest others switch no_text no_file plain is = grind (arith, common_steps)

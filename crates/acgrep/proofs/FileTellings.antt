@@ -1,9 +1,10 @@
 -- What is written of a file, from what was searched of its reader.
-use Rattle.std.proofs.Common.{◌≡◌, ◌⊎◌, inl, inr, ℕ, ◌<◌, Bool, true, false, List, [], ◌∷◌, ◌++◌, Option, None, Some, IfSome, refl, sym, ◌∙◌, ap, subst, arith, append-nil}
-use Rattle.std.specs.Prelude.{MatchBool, if◌then◌else◌, nat_lt}
-use Rattle.std.specs.Io.KnownBytes.{Appends, Consumes, IsAtEnd}
+use Rattle.std.proofs.Common.{◌++◌, ◌<◌, ◌∙◌, ◌∷◌, ◌≡◌, ◌⊎◌, Bool, List, None, Option, Some, [], ap, append-nil, arith, false, inl, inr, refl, subst, sym, true, ℕ}
 use Rattle.std.proofs.KnownBytes.{Appends-trans}
 use Rattle.std.proofs.lemmas.Bool.{cases_Bool, lt-ltb, ltb-false, ltb-true}
+use Rattle.std.proofs.lemmas.Grind.{common_steps}
+use Rattle.std.specs.Io.KnownBytes.{Appends, Consumes, IsAtEnd}
+use Rattle.std.specs.Prelude.{IfSome, MatchBool, if◌then◌else◌, nat_lt}
 use Rattle.aho_core.specs.Patterns.{Patterns}
 use Rattle.acgrep.specs.Binary.{TellsGuarded, is_guarded, lines_by, lines_sought, takes_text}
 use Rattle.acgrep.specs.Contexts.{IsBegin, SearchesIn, TellsFile, TellsIn, around_by, around_of, walk_of}
@@ -13,11 +14,11 @@ use Rattle.acgrep.specs.Printed.{file_line}
 use Rattle.acgrep.specs.Written.{EachLine, IsAny, IsPassedOver, IsSelected, IsSettled, ShowsBy, ShowsLine, SomeLine, TellsOfLines, is_full, needs_one, one_more}
 use Rattle.acgrep.specs.declared.options.Context.{Context}
 use Rattle.acgrep.specs.declared.options.Shown.{Shown}
-use Rattle.acgrep.specs.declared.options.Shown.TheVariants.{Lines, Matches, Objects, Count, Names, Lacking, Nothing}
+use Rattle.acgrep.specs.declared.options.Shown.TheVariants.{Count, Lacking, Lines, Matches, Names, Nothing, Objects}
 use Rattle.acgrep.specs.declared.print.Place.{Place}
 use Rattle.acgrep.specs.declared.print.Style.{Style}
-use Rattle.acgrep.specs.declared.select.Job.{Job}
-use Rattle.acgrep.specs.declared.select.State.{State}
+use Rattle.acgrep.specs.declared.job.Job.{Job}
+use Rattle.acgrep.specs.declared.job.State.{State}
 use Rattle.acgrep.proofs.Grouped.{told_around}
 use Rattle.acgrep.proofs.Tellings.{full_some, tells_full}
 use Rattle.acgrep.proofs.Walked.{walks_append, walks_full, walks_tells}
@@ -25,13 +26,7 @@ use Rattle.acgrep.proofs.Walked.{walks_append, walks_full, walks_tells}
 -- where one selected line tells all nothing is written of it
 shows_none : (p : Patterns) (shown : Shown) (alone invert : Bool) (style : Style) (place : Place) (line bytes : List ℕ) → needs_one shown ≡ true
     → ShowsBy p shown alone invert style place line bytes → bytes ≡ []
-shows_none p Lines alone invert style place line bytes one shows = absurd (cc)
-shows_none p Matches alone invert style place line bytes one shows = absurd (cc)
-shows_none p Objects alone invert style place line bytes one shows = absurd (cc)
-shows_none p Count alone invert style place line bytes one shows = absurd (cc)
-shows_none p Names alone invert style place line bytes one shows = shows
-shows_none p Lacking alone invert style place line bytes one shows = shows
-shows_none p Nothing alone invert style place line bytes one shows = shows
+shows_none p shown alone invert style place line bytes one shows = grind (arith, common_steps)
 
 more_positive : (count : ℕ) → 0 < one_more count
 more_positive count = omega arith
@@ -101,20 +96,14 @@ module _ (p : Patterns) (job : Job) where
   -- what is written of all lines
   by_whole : (shown : Shown) → shown ≡ job.shown → (ls : List (List ℕ)) (told : List ℕ) (count : ℕ) → TellsIn p job (around_by shown job.context) ls told count
       → TellsBy p job shown ls (nat_lt 0 count) (told ++ total_if shown job.style count)
-  by_whole Lines is ls told count tells =
-      (told, count, subst (λ (shown : Shown). TellsIn p job (around_by shown job.context) ls told count) is tells, ap (λ (shown : Shown). told ++ count_if shown job.style count) is)
-  by_whole Matches is ls told count tells =
-      (told, count, subst (λ (shown : Shown). TellsIn p job (around_by shown job.context) ls told count) is tells, ap (λ (shown : Shown). told ++ count_if shown job.style count) is)
-  by_whole Objects is ls told count tells =
-      (told, count, subst (λ (shown : Shown). TellsIn p job (around_by shown job.context) ls told count) is tells, ap (λ (shown : Shown). told ++ count_if shown job.style count) is)
-  by_whole Count is ls told count tells =
-      (told, count, subst (λ (shown : Shown). TellsIn p job (around_by shown job.context) ls told count) is tells, ap (λ (shown : Shown). told ++ count_if shown job.style count) is)
   by_whole Names is ls told count tells =
       ap (λ (l : List ℕ). l ++ total_if Names job.style count) (tells_none ls job.first 0 told count (shows_nothing (ap needs_one (sym is))) tells)
   by_whole Lacking is ls told count tells =
       ap (λ (l : List ℕ). l ++ total_if Lacking job.style count) (tells_none ls job.first 0 told count (shows_nothing (ap needs_one (sym is))) tells)
   by_whole Nothing is ls told count tells =
       ap (λ (l : List ℕ). l ++ []) (tells_none ls job.first 0 told count (shows_nothing (ap needs_one (sym is))) tells)
+  by_whole _ is ls told count tells =
+      (told, count, subst (λ (shown : Shown). TellsIn p job (around_by shown job.context) ls told count) is tells, ap (λ (shown : Shown). told ++ count_if shown job.style count) is)
 
   -- and where one selected line told all
   by_front : (shown : Shown) (ls : List (List ℕ)) (count : ℕ) → needs_one shown ≡ true → 0 < count → TellsBy p job shown ls true (total_if shown job.style count)
@@ -122,19 +111,14 @@ module _ (p : Patterns) (job : Job) where
   by_front Matches ls count one some = absurd (cc)
   by_front Objects ls count one some = absurd (cc)
   by_front Count ls count one some = absurd (cc)
-  by_front Names ls count one some =
-      let is : nat_lt 0 count ≡ true = lt-ltb 0 count some in
-      ap (λ (any : Bool). if any then file_line job.style else []) is
-  by_front Lacking ls count one some =
-      let is : nat_lt 0 count ≡ true = lt-ltb 0 count some in
-      ap (λ (any : Bool). if any then [] else file_line job.style) is
+  by_front Names ls count one some = ap (λ (any : Bool). if any then file_line job.style else []) (lt-ltb 0 count some)
+  by_front Lacking ls count one some = ap (λ (any : Bool). if any then [] else file_line job.style) (lt-ltb 0 count some)
   by_front Nothing ls count one some = refl
 
   -- what is told where lines with a zero byte are written too, or not searched
   unguarded : is_guarded job ≡ false → (text : List ℕ) (any : Bool) (bytes : List ℕ) → TellsSearched p job (lines_sought job text) any bytes
       → MatchBool (is_guarded job) (TellsGuarded p job text any bytes) (TellsSearched p job (lines_sought job text) any bytes)
-  unguarded plainly text any bytes tells =
-      subst (λ (b : Bool). MatchBool b (TellsGuarded p job text any bytes) (TellsSearched p job (lines_sought job text) any bytes)) (sym plainly) tells
+  unguarded plainly text any bytes tells = rw plainly tells
 
   -- what is asked of a file is written of which these lines are searched
   pub record LinesSearched (held held' : Option (List ℕ)) (ls : List (List ℕ)) (any : Bool) : Type 0 where
@@ -146,14 +130,10 @@ module _ (p : Patterns) (job : Job) where
   lines_whole : (state : State) (held meanwhile held' : Option (List ℕ)) (ls : List (List ℕ)) (told plain : List ℕ) → TellsOfLines p job job.first 0 ls plain state.selected
       → TellsFile p job ls told state.selected → Appends held meanwhile told → (any : Bool) → EndsFile job state.selected meanwhile held' any → LinesSearched held held' ls any
   lines_whole state held meanwhile held' ls told plain selects tells written any ends =
-      let count = state.selected in
       record {
-        bytes = told ++ total_if job.shown job.style count;
-        tells = (
-          subst (IsAny p job.fit job.invert ls) (sym ends.is_any) (tells_any ls job.first plain count selects),
-          subst (λ (any : Bool). TellsBy p job job.shown ls any (told ++ total_if job.shown job.style count)) (sym ends.is_any) (by_whole job.shown refl ls told count tells),
-        );
-        written = Appends-trans held meanwhile held' told (total_if job.shown job.style count) written ends.written;
+        bytes = told ++ total_if job.shown job.style state.selected;
+        tells = (rw ends.is_any (tells_any _ _ _ _ selects), rw ends.is_any (by_whole _ refl _ _ _ tells));
+        written = Appends-trans _ _ _ _ _ written ends.written;
       }
 
   -- a line was selected that told all
@@ -163,15 +143,10 @@ module _ (p : Patterns) (job : Job) where
   lines_front state held meanwhile held' ls searched told tells one some front written any ends =
       let count = state.selected in
       let is : any ≡ true = ends.is_any ∙ lt-ltb 0 count some in
-      let none : told ≡ [] = tells_none searched job.first 0 told count (shows_nothing one) tells in
       record {
         bytes = total_if job.shown job.style count;
-        tells = (
-          subst (IsAny p job.fit job.invert ls) (sym is) (front (tells_some searched job.first 0 told count tells refl some)),
-          subst (λ (any : Bool). TellsBy p job job.shown ls any (total_if job.shown job.style count)) (sym is) (by_front job.shown ls count one some),
-        );
-        written = subst (λ (l : List ℕ). Appends held held' (l ++ total_if job.shown job.style count)) none
-            (Appends-trans held meanwhile held' told (total_if job.shown job.style count) written ends.written);
+        tells = (rw is (front (tells_some _ _ 0 _ _ tells refl some)), rw is (by_front _ _ _ one some));
+        written = rw (tells_none _ _ 0 _ _ (shows_nothing one) tells) at (Appends-trans _ _ _ _ _ written ends.written);
       }
 
   -- a text of which these are the lines that are searched is that of the file
@@ -200,8 +175,7 @@ module _ (p : Patterns) (job : Job) where
 
   pub from_begin : (before : State) (ls : List (List ℕ)) (told : List ℕ) (count : ℕ) → IsBegin job before → TellsOfLines p job before.place before.selected ls told count
       → TellsOfLines p job job.first 0 ls told count
-  from_begin before ls told count begin tells =
-      subst (λ (at : Place). TellsOfLines p job at 0 ls told count) begin.place (subst (λ (n : ℕ). TellsOfLines p job before.place n ls told count) begin.selected tells)
+  from_begin before ls told count begin tells = rw begin.place at (rw begin.selected at tells)
 
   pub text_told : (around : Option Context) (before state : State) (held meanwhile : Option (List ℕ)) (text : List ℕ) → IsBegin job before
       → SearchesIn p job around before state held meanwhile text → TextTold around state held meanwhile text
@@ -252,30 +226,22 @@ module _ (p : Patterns) (job : Job) where
       }
 
   one_around : (shown : Shown) (context : Option Context) → needs_one shown ≡ true → around_by shown context ≡ None
-  one_around Lines context one = absurd (cc)
-  one_around Matches context one = absurd (cc)
-  one_around Objects context one = refl
-  one_around Count context one = refl
-  one_around Names context one = refl
-  one_around Lacking context one = refl
-  one_around Nothing context one = refl
+  one_around shown context one = grind (arith, common_steps)
 
   -- lines that were told, and others behind which nothing more is told
   pub lines_told : (state : State) (held meanwhile held' : Option (List ℕ)) (text : List ℕ) (told : TextTold (around_of job) state held meanwhile text) (ls later : List (List ℕ))
       → ls ≡ told.searched ++ later → (later ≡ []) ⊎ IsSettled job state → (any : Bool) → EndsFile job state.selected meanwhile held' any → LinesSearched held held' ls any
   lines_told state held meanwhile held' text told ls later cut (inl none) any ends =
       let first : ls ≡ told.searched ++ [] = cut ∙ ap (λ (l : List (List ℕ)). told.searched ++ l) none in
-      lines_whole state held meanwhile held' ls told.bytes told.plain
-      (subst (λ (l : List (List ℕ)). TellsOfLines p job job.first 0 l told.plain state.selected) (sym (first ∙ append-nil told.searched)) told.tells)
-      (subst (λ (l : List (List ℕ)). TellsFile p job l told.bytes state.selected) (sym first) (told.file [] (inl refl))) told.written any ends
+      lines_whole state held meanwhile held' ls told.bytes told.plain (rw (first ∙ append-nil told.searched) told.tells)
+      (rw first (told.file [] (inl refl))) told.written any ends
   lines_told state held meanwhile held' text told ls later cut (inr (inl (one, some))) any ends =
       lines_front state held meanwhile held' ls told.searched told.plain told.tells one some
-      (λ (is : SomeLine (IsSelected p job.fit job.invert) told.searched). subst (SomeLine (IsSelected p job.fit job.invert)) (sym cut) (some_front (IsSelected p job.fit job.invert) told.searched later is))
-      (subst (Appends held meanwhile) (told.single (one_around job.shown job.context one)) told.written) any ends
-  lines_told state held meanwhile held' text told ls later cut (inr (inr (full, past))) any ends =
-      lines_whole state held meanwhile held' ls told.bytes told.plain
-      (subst (λ (l : List (List ℕ)). TellsOfLines p job job.first 0 l told.plain state.selected) (sym cut) (tells_full p job told.searched later job.first 0 state.selected told.plain full told.tells))
-      (subst (λ (l : List (List ℕ)). TellsFile p job l told.bytes state.selected) (sym cut) (told.file later (inr (full, past)))) told.written any ends
+      (λ (is : SomeLine (IsSelected p job.fit job.invert) told.searched). rw cut (some_front (IsSelected p job.fit job.invert) told.searched later is))
+      (rw (told.single (one_around job.shown job.context one)) at told.written) any ends
+  lines_told state held meanwhile held' text told ls later cut (inr (inr (full, past))) any ends = lines_whole state held meanwhile held' ls told.bytes told.plain
+      (rw cut (tells_full p job told.searched later job.first 0 state.selected told.plain full told.tells))
+      (rw cut (told.file later (inr (full, past)))) told.written any ends
 
   -- up to these bytes a reader was read
   pub settled_read : (state : State) (held meanwhile held' left left' : Option (List ℕ)) (text bytes : List ℕ) (told : TextTold (around_of job) state held meanwhile text) (later : List (List ℕ))
@@ -288,8 +254,7 @@ module _ (p : Patterns) (job : Job) where
     ended = inr (inr (inl (
       told.plain,
       state.selected,
-      subst (λ (ls : List (List ℕ)). TellsOfLines p job job.first 0 ls told.plain state.selected) (sym cut)
-          (tells_full p job told.searched later job.first 0 state.selected told.plain full told.tells),
+      rw cut (tells_full p job told.searched later job.first 0 state.selected told.plain full told.tells),
       full,
     )));
   }

@@ -1,9 +1,10 @@
 -- What is written of a file that is not searched to its end.
-use Rattle.std.proofs.Common.{arith, ◌≡◌, inl, inr, ◌⊎◌, ℕ, Bool, true, false, List, [], ◌++◌, ◌==◌, Option, None, Some, IfSome, drop, take, take-append-drop, refl, sym, ◌∙◌, ap, subst, append-nil}
-use Rattle.std.specs.Prelude.{MatchBool, not, ◌&&◌, ◌||◌}
-use Rattle.std.specs.Io.KnownBytes.{Appends, Keeps}
+use Rattle.std.proofs.Common.{◌++◌, ◌==◌, ◌∙◌, ◌≡◌, ◌⊎◌, Bool, List, None, Option, Some, [], ap, append-nil, arith, drop, false, inl, inr, refl, subst, sym, take, take-append-drop, true, ℕ}
 use Rattle.std.proofs.KnownBytes.{Appends-trans}
 use Rattle.std.proofs.lemmas.Bool.{and_parts}
+use Rattle.std.proofs.lemmas.Grind.{common_steps}
+use Rattle.std.specs.Io.KnownBytes.{Appends, Keeps}
+use Rattle.std.specs.Prelude.{◌&&◌, ◌||◌, IfSome, MatchBool, not}
 use Rattle.aho_core.specs.Patterns.{Patterns}
 use Rattle.aho_devices.specs.Counts.{AppendsBeginning}
 use Rattle.acgrep.specs.Binary.{TellsBinary, binary_by, is_guarded, lines_by, takes_text, writes_lines}
@@ -14,11 +15,11 @@ use Rattle.acgrep.specs.Streamed.{BeginsBehind, course}
 use Rattle.acgrep.specs.Written.{ShowsBy}
 use Rattle.acgrep.specs.declared.options.Context.{Context}
 use Rattle.acgrep.specs.declared.options.Shown.{Shown}
-use Rattle.acgrep.specs.declared.options.Shown.TheVariants.{Lines, Matches, Objects, Count, Names, Lacking, Nothing}
+use Rattle.acgrep.specs.declared.options.Shown.TheVariants.{Lines, Matches, Objects}
 use Rattle.acgrep.specs.declared.print.Place.{Place}
 use Rattle.acgrep.specs.declared.print.Style.{Style}
-use Rattle.acgrep.specs.declared.select.Job.{Job}
-use Rattle.acgrep.specs.declared.select.State.{State}
+use Rattle.acgrep.specs.declared.job.Job.{Job}
+use Rattle.acgrep.specs.declared.job.State.{State}
 use Rattle.acgrep.proofs.Begun.{begins_both, begins_nothing, begins_on, nil_front}
 use Rattle.acgrep.proofs.FileTellings.{from_begin, tells_none}
 use Rattle.acgrep.proofs.Grouped.{told_around}
@@ -47,18 +48,9 @@ total_begins job count x y before after bytes none same is (n, within, written) 
   written = written;
 }
 
-pub total_bytes : (before after bytes total : List ℕ) → before ≡ [] → bytes ≡ after → Appends (Some before) (Some after) total → bytes ≡ total
-total_bytes before after bytes total none same is = same ∙ is ∙ ap (λ (l : List ℕ). l ++ total) none
-
 -- what follows from lines or matches being written
 pub lines_total : (shown : Shown) (style : Style) (count : ℕ) → writes_lines shown ≡ true → total_if shown style count ≡ []
-lines_total Lines style count is = refl
-lines_total Matches style count is = refl
-lines_total Objects style count is = absurd (cc)
-lines_total Count style count is = absurd (cc)
-lines_total Names style count is = absurd (cc)
-lines_total Lacking style count is = absurd (cc)
-lines_total Nothing style count is = absurd (cc)
+lines_total shown style count is = grind (arith, common_steps)
 
 pub shows_lines : (job : Job) → is_guarded job ≡ true → writes_lines job.shown ≡ true
 shows_lines job guarded = (and_parts (writes_lines job.shown) (job.guards && not (job.style.ending == 0)) guarded).0
@@ -69,21 +61,12 @@ one_none : (p : Patterns) (shown : Shown) → ((style : Style) (count : ℕ) →
 one_none p Lines = inl (λ style count. refl)
 one_none p Matches = inl (λ style count. refl)
 one_none p Objects = inl (λ style count. refl)
-one_none p Count = inr (λ alone invert style place line bytes none. none)
-one_none p Names = inr (λ alone invert style place line bytes none. none)
-one_none p Lacking = inr (λ alone invert style place line bytes none. none)
-one_none p Nothing = inr (λ alone invert style place line bytes none. none)
+one_none p _ = inr (λ alone invert style place line bytes none. none)
 
 module _ (p : Patterns) (job : Job) where
   -- nothing is asked of a file as a whole where lines around selected ones are written
   no_total : (shown : Shown) (asked : Option Context) (context : Context) (style : Style) (count : ℕ) → around_by shown asked ≡ Some context → total_if shown style count ≡ []
-  no_total Lines asked context style count is = refl
-  no_total Matches asked context style count is = refl
-  no_total Objects asked context style count is = absurd (cc)
-  no_total Count asked context style count is = absurd (cc)
-  no_total Names asked context style count is = absurd (cc)
-  no_total Lacking asked context style count is = absurd (cc)
-  no_total Nothing asked context style count is = absurd (cc)
+  no_total shown asked context style count is = grind (arith, common_steps)
 
   -- what was told of first lines from the begin of their file on, or what is asked of it as a whole, is nothing
   told_in : (around : Option Context) → around_of job ≡ around → (before : State) (count : ℕ) (first : List (List ℕ)) (told : List ℕ) → IsBegin job before → TellsFrom p job around before count first told
@@ -172,9 +155,7 @@ module _ (p : Patterns) (job : Job) where
       record { text = text; of = of; begins = begins_nothing Tells (lines_by (is_guarded job || takes_text job) job.style.ending text) held held' total told (keeps_nil held held' keeps) }
 
 pub of_kept : (known known' : Option (List ℕ)) (text : List ℕ) → Keeps known known' → IfSome known' (λ (bytes : List ℕ). text ≡ bytes) → IfSome known (λ (bytes : List ℕ). text ≡ bytes)
-of_kept None known' text keeps of = tt
-of_kept (Some xs) None text keeps of = absurd keeps
-of_kept (Some xs) (Some ys) text keeps of = of ∙ keeps
+of_kept known known' text keeps of = grind (arith, common_steps)
 
 -- the bytes of the file are those of its reader
 pub file_known : (p : Patterns) (job : Job) (known known' held held' : Option (List ℕ)) → Keeps known known' → BeginsFile p job known' held held' → BeginsFile p job known held held'

@@ -1,18 +1,19 @@
 -- What is written of files whose lines rules mark.
-use Rattle.std.proofs.Common.{◌≡◌, ◌⊎◌, inl, inr, ℕ, Bool, true, false, List, [], ◌∷◌, ◌++◌, Option, Some, None, length, take, refl, sym, ap, subst, ◌∙◌, append-nil, arith}
-use Rattle.std.specs.Prelude.{◌≢◌, ◌==◌, ◌&&◌, ◌||◌, nat_lt, Ok, Err, Result, if◌then◌else◌}
-use Rattle.std.specs.Io.{StartsWith}
-use Rattle.std.specs.Io.KnownBytes.{Appends, Consumes, IsAtEnd, Keeps}
+use Rattle.std.proofs.Common.{◌++◌, ◌==◌, ◌∙◌, ◌∷◌, ◌≡◌, ◌⊎◌, Bool, List, None, Option, Some, [], ap, append-nil, arith, false, inl, inr, refl, subst, sym, true, ℕ}
 use Rattle.std.proofs.KnownBytes.{Appends-trans, Consumes-whole}
 use Rattle.std.proofs.Math.Bool.{and-false, and-true}
-use Rattle.aho_core.specs.Occurrence.{Occurrence}
-use Rattle.aho_devices.specs.Counts.{counted}
+use Rattle.std.proofs.lemmas.Grind.{common_steps}
+use Rattle.std.specs.Io.{StartsWith}
+use Rattle.std.specs.Io.KnownBytes.{Consumes, IsAtEnd, Keeps}
+use Rattle.std.specs.Prelude.{◌&&◌, ◌||◌, ◌≢◌, Err, Ok, Result, if◌then◌else◌, nat_lt}
 use Rattle.aho_automaton.specs.declared.automaton.Automaton.{Ghosts as Automata}
+use Rattle.aho_core.specs.Occurrence.{Occurrence}
+use Rattle.aho_cover.proofs.Copied.{begins_with}
+use Rattle.aho_devices.specs.Counts.{counted}
 use Rattle.aho_devices.specs.declared.device.Sink.{Ghosts as SinkGhosts}
 use Rattle.aho_devices.specs.declared.device.Source.{Ghosts as SourceGhosts}
 use Rattle.aho_stream.specs.After.{MayFollow}
 use Rattle.secret_rules.specs.Covering.{Covering, covering_by}
-use Rattle.secret_rules.specs.LineCovers.{AreSearchedFor}
 use Rattle.secret_rules.specs.Lines.{Line, stream_lines}
 use Rattle.secret_rules.specs.Ready.{CanCoverLines, CoversTheSame, most_of, rules_of, words_of}
 use Rattle.secret_rules.specs.declared.error.LineError.{LineError}
@@ -20,20 +21,19 @@ use Rattle.secret_rules.specs.declared.line_cover.LineCover.{LineCover}
 use Rattle.secret_rules.specs.declared.rule.Rule.{Rule}
 use Rattle.tool_parts.specs.Names.{is_input}
 use Rattle.acgrep.specs.Files.{BeginsTotal, EndsFile, IsNamed, known_of, shown_name, total_if}
-use Rattle.acgrep.specs.Marked.{FileAsked, marked_shown, marked_line, marked_lines, pass_behind}
-use Rattle.acgrep.specs.MarkedFiles.{AreFirstGiven, BeginsWalk, BeginsInput, BeginsMarks, ComesInput, ComesMarked, ComesName, HasFirst, HasToldAll, MarksBy, MarksFile, MarksInput, MarksText, TellsAll, WalksGiven, WalksLines, file_asked, file_marked, file_selected, pass_from, seen_lines}
+use Rattle.acgrep.specs.InTurn.{IfBroken, IfSearched}
+use Rattle.acgrep.specs.Marked.{FileAsked, marked_line, marked_lines, marked_shown, pass_behind}
+use Rattle.acgrep.specs.MarkedFiles.{AreFirstGiven, BeginsInput, BeginsMarks, BeginsWalk, ComesInput, ComesMarked, ComesName, HasFirst, HasToldAll, MarksBy, MarksFile, MarksInput, MarksText, TellsAll, WalksGiven, WalksLines, file_asked, file_marked, file_selected, pass_from, seen_lines}
 use Rattle.acgrep.specs.Written.{needs_one}
 use Rattle.acgrep.specs.declared.files.Outcome.{Outcome}
 use Rattle.acgrep.specs.declared.files.Outcome.TheVariants.{Unread}
 use Rattle.acgrep.specs.declared.marked.Pass.{Pass}
 use Rattle.acgrep.specs.declared.options.Shown.{Shown}
-use Rattle.acgrep.specs.declared.options.Shown.TheVariants.{Lines, Matches, Objects, Count, Names, Lacking, Nothing}
 use Rattle.acgrep.specs.declared.print.Place.{Place}
 use Rattle.acgrep.specs.declared.print.Style.{Style}
-use Rattle.acgrep.specs.declared.select.Job.{Job}
-use Rattle.acgrep.proofs.InTurn.{if_broken, if_searched}
+use Rattle.acgrep.specs.declared.job.Job.{Job}
 use Rattle.acgrep.proofs.FilesBegun.{of_kept, total_none}
-use Rattle.acgrep.specs.InTurn.{IfBroken, IfSearched}
+use Rattle.acgrep.proofs.InTurn.{if_broken, if_searched}
 use Rattle.acgrep.proofs.NamesSearched.{at_file, at_input}
 use Rattle.acgrep.proofs.Streams.{keeps_nil}
 
@@ -70,32 +70,18 @@ either_none true bytes none = refl
 either_none false bytes none = none
 
 shown_none : (shown : Shown) (style : Style) (rules : List Rule) (place : Place) (line : List ℕ) (runs : List Occurrence) → needs_one shown ≡ true → marked_shown shown style rules place line runs ≡ []
-shown_none Lines style rules place line runs is = absurd (cc)
-shown_none Matches style rules place line runs is = absurd (cc)
-shown_none Objects style rules place line runs is = absurd (cc)
-shown_none Count style rules place line runs is = absurd (cc)
-shown_none Names style rules place line runs is = refl
-shown_none Lacking style rules place line runs is = refl
-shown_none Nothing style rules place line runs is = refl
+shown_none shown style rules place line runs is = grind (arith, common_steps)
 
 line_none : (asked : FileAsked) → needs_one asked.shown ≡ true → (place : Place) (line : List ℕ) (runs : List Occurrence) → marked_line asked place line runs ≡ []
-line_none asked needs place line runs =
-    either_none ((length runs == 0) || (length line == 0)) (marked_shown asked.shown asked.style asked.rules place line runs) (shown_none asked.shown asked.style asked.rules place line runs needs)
+line_none asked needs place line runs = either_none _ _ (shown_none _ _ _ _ _ _ needs)
 
 lines_none : (asked : FileAsked) → needs_one asked.shown ≡ true → (pass : Pass) (lines : List (List ℕ)) (runs : List (List Occurrence)) → marked_lines asked pass lines runs ≡ []
-lines_none asked needs pass [] runs = refl
-lines_none asked needs pass (line ∷ lines) [] = refl
 lines_none asked needs pass (line ∷ lines) (own ∷ runs) =
     ap (λ l. l ++ marked_lines asked (pass_behind pass line own) lines runs) (line_none asked needs pass.place line own) ∙ lines_none asked needs (pass_behind pass line own) lines runs
+lines_none asked needs pass _ _ = refl
 
 starts_nothing : (all part : List ℕ) → all ≡ [] → StartsWith all part → part ≡ []
-starts_nothing all [] none starts = refl
-starts_nothing all (byte ∷ part) none starts =
-    let clash : [] ≡ byte ∷ part = subst (λ (l : List ℕ). take (length (byte ∷ part)) l ≡ byte ∷ part) none starts in absurd (cc)
-
-starts_front : (begun missing : List ℕ) → StartsWith (begun ++ missing) begun
-starts_front [] missing = refl
-starts_front (byte ∷ begun) missing = ap (λ l. byte ∷ l) (starts_front begun missing)
+starts_nothing all part none starts = grind (arith, common_steps)
 
 module _ {R W : Type 0} (S : SourceGhosts R) (K : SinkGhosts W) (job : Job) (covering : Covering) (source source' : R) (output output' : W) (known : Option (List ℕ)) (pass' : Pass) (held' : Option (List ℕ))
     (left : S.remaining source ≡ known) (none : S.empty_reads source ≡ 0) (ends : S.empty_reads source' ≢ 0 → IsAtEnd (S.remaining source')) where
@@ -115,8 +101,7 @@ module _ {R W : Type 0} (S : SourceGhosts R) (K : SinkGhosts W) (job : Job) (cov
         are = whole.are;
         any_is = ends_file.is_any ∙ ap (nat_lt 0) selected;
         written = Appends-trans (K.taken output) (K.taken output') held' (file_marked job covering lines whole.runs) (total_if job.shown job.style (file_selected job covering lines whole.runs))
-            (subst (λ (a : FileAsked). Appends (K.taken output) (K.taken output') (marked_lines a (pass_from job.first) (seen_lines covering.most lines) whole.runs)) same whole.written)
-            (subst (λ (n : ℕ). Appends (K.taken output') held' (total_if job.shown job.style n)) selected ends_file.written);
+            (rw same at whole.written) (rw selected at ends_file.written);
       }
 
   -- one of which a selected line told all
@@ -135,8 +120,7 @@ module _ {R W : Type 0} (S : SourceGhosts R) (K : SinkGhosts W) (job : Job) (cov
             (ends_seen (S.empty_reads source) (S.empty_reads source') begun.ended none ends begun.gives.end);
         selected = sym (ap (nat_lt 0) selected) ∙ all.1;
         written = Appends-trans (K.taken output) (K.taken output') held' [] (total_if job.shown job.style (file_selected job covering begun.passed begun.own))
-            (subst (Appends (K.taken output) (K.taken output')) nothing begun.written)
-            (subst (λ (n : ℕ). Appends (K.taken output') held' (total_if job.shown job.style n)) selected ends_file.written);
+            (rw nothing at begun.written) (rw selected at ends_file.written);
       }
 
   -- and one that was not read to its end, or not all was written
@@ -151,7 +135,7 @@ module _ {R W : Type 0} (S : SourceGhosts R) (K : SinkGhosts W) (job : Job) (cov
     begins = subst (λ (a : FileAsked). StartsWith (marked_lines a (pass_from job.first) (seen_lines covering.most begun.lines) begun.runs) begun.part) same begun.begins;
     count = count;
     tail = total.begun;
-    ends = subst (λ (l : List ℕ). StartsWith l total.begun) (sym total.cut) (starts_front total.begun total.missing);
+    ends = subst (λ (l : List ℕ). StartsWith l total.begun) (sym total.cut) (begins_with total.begun total.missing);
     written = Appends-trans (K.taken output) (K.taken output') held' begun.part total.begun begun.written total.written;
   }
 
@@ -170,9 +154,8 @@ covering_rules G cover covering rules by same = ap (λ (c : Covering). c.rules) 
 pub still_marks : {A : Type 0} (G : Automata A) (old new : LineCover A) (covering : Covering) → CanCoverLines G new → CoversTheSame old new → MarksBy G old covering → MarksBy G new covering
 still_marks G old new covering can same is = record {
   can = can;
-  searched = subst (λ o. AreSearchedFor G o covering.patterns) (sym same.automaton) is.searched;
-  is = is.is
-      ∙ ap (λ w. covering_by w (rules_of old) (most_of old) covering.patterns) (sym same.words)
+  searched = rw same.automaton is.searched;
+  is = is.is ∙ ap (λ w. covering_by w (rules_of old) (most_of old) covering.patterns) (sym same.words)
       ∙ ap (λ r. covering_by (words_of new) r (most_of old) covering.patterns) (sym same.rules)
       ∙ ap (λ m. covering_by (words_of new) (rules_of new) m covering.patterns) (sym same.most);
 }
@@ -197,9 +180,7 @@ marks_none job covering known held held' kept = record {
 
 -- whatever more is known of its bytes
 has_known : (covering : Covering) (known left : Option (List ℕ)) (lines : List Line) (runs : List (List Occurrence)) → Keeps known left → HasFirst covering left lines runs → HasFirst covering known lines runs
-has_known covering None left lines runs kept has = record { text = has.text; of = tt; first = has.first; are = has.are }
-has_known covering (Some all) None lines runs kept has = absurd kept
-has_known covering (Some all) (Some rest) lines runs kept has = record { text = has.text; of = has.of ∙ kept; first = has.first; are = has.are }
+has_known covering known left lines runs kept has = grind (arith, common_steps)
 
 file_known : (job : Job) (covering : Covering) (known left held held' : Option (List ℕ)) → Keeps known left → (any : Bool) → MarksFile job covering left held held' any → MarksFile job covering known held held' any
 file_known job covering known left held held' kept any (inl whole) = inl (record {

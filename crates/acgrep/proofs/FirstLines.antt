@@ -1,7 +1,6 @@
 -- The first line of a text and the others.
-use Rattle.std.proofs.Common.{◌≡◌, inl, inr, ℕ, suc, zero, ◌≤◌, ◌<◌, ◌==◌, true, false, List, [], ◌∷◌, ◌++◌, length, take, drop, refl, ◌∙◌, ap, arith}
+use Rattle.std.proofs.Common.{◌++◌, ◌<◌, ◌==◌, ◌∙◌, ◌∷◌, ◌≡◌, ◌≤◌, Bor, List, [], ap, arith, drop, false, inl, inr, length, refl, suc, take, true, zero, ℕ}
 use Rattle.std.proofs.lemmas.Bool.{cases_Bool}
-use denote.Ref.{Bor}
 use Rattle.aho_core.specs.Replacement.{pieces_of}
 use Rattle.memchr.specs.Find.{Nowhere}
 use Rattle.acgrep.specs.Lines.{IsEnding, joined_to, lines}

@@ -1,8 +1,9 @@
 -- What was read of a reader so far, up to its end.
-use Rattle.std.proofs.Common.{◌≡◌, ℕ, List, [], ◌++◌, Option, take, sym, subst, append-nil}
-use Rattle.std.specs.Prelude.{IfSome}
+use Rattle.std.proofs.Common.{◌++◌, ◌≡◌, List, Option, [], arith, subst, sym, take, ℕ}
+use Rattle.std.proofs.KnownBytes.{Consumes-nil, Consumes-trans}
+use Rattle.std.proofs.lemmas.Grind.{common_steps}
 use Rattle.std.specs.Io.KnownBytes.{Consumes, IsAtEnd}
-use Rattle.std.proofs.KnownBytes.{Consumes-nil, Consumes-trans, Consumes-whole}
+use Rattle.std.specs.Prelude.{IfSome}
 
 -- nothing
 pub text_begun : (left : Option (List ℕ)) (text : List ℕ) → text ≡ [] → Consumes left left text
@@ -15,6 +16,4 @@ module _ (begin left left' : Option (List ℕ)) (text room : List ℕ) (count : 
 
   -- where that is nothing, it is all
   pub text_whole : count ≡ 0 → Consumes begin left text → Consumes left left' (take count room) → IsAtEnd left' → IfSome begin (λ known. text ≡ known)
-  text_whole none read more ended =
-      Consumes-whole begin left' (text ++ take count room) (λ known. text ≡ known) (Consumes-trans begin left left' text (take count room) read more) ended
-      (subst (λ (n : ℕ). text ≡ text ++ take n room) (sym none) (sym (append-nil text)))
+  text_whole none read more ended = grind (arith, common_steps)

@@ -1,14 +1,15 @@
 -- The pieces of a format, written one after another, are the format.
-use Rattle.std.proofs.Common.{◌≡◌, ℕ, zero, suc, ◌<◌, ◌-◌, ◌==◌, Bool, true, false, List, [], ◌∷◌, ◌++◌, Option, Some, None, ◌∙◌, ap, refl, sym, subst, inl, inr, drop, length, codes, arith}
-use Rattle.std.specs.Prelude.{◌||◌, nat_eq, option_and_then, option_map, if◌then◌else◌}
-use Rattle.std.specs.List.{starts_with}
+use Rattle.std.proofs.Common.{◌++◌, ◌-◌, ◌<◌, ◌==◌, ◌∙◌, ◌∷◌, ◌≡◌, Bool, List, None, Option, Some, [], ap, arith, codes, drop, false, inl, inr, length, refl, subst, suc, sym, true, zero, ℕ}
 use Rattle.std.proofs.lemmas.Bool.{cases_Bool}
 use Rattle.std.proofs.lemmas.Bool.Decides.{Decides-eqb}
 use Rattle.std.proofs.lemmas.Slice.Eq.{starts_is}
-use Rattle.acgrep.specs.Formats.{format_text, front_at, front_by, piece_text, pieces_behind, format_pieces, plain_front}
+use Rattle.std.specs.List.{starts_with}
+use Rattle.std.specs.Prelude.{◌||◌, if◌then◌else◌, nat_eq, option_and_then, option_map}
+use Rattle.acgrep.specs.Formats.{format_pieces, format_text, front_at, front_by, piece_text, pieces_behind, plain_front}
 use Rattle.acgrep.specs.declared.format.Front.{Front}
 use Rattle.acgrep.specs.declared.format.Piece.{Piece}
-use Rattle.acgrep.specs.declared.format.Piece.TheVariants.{Byte, Path, LineNumber, Start, End, PatternNumber, Found}
+use Rattle.acgrep.specs.declared.format.Piece.TheVariants.{Byte, End, Found, LineNumber, Path, PatternNumber, Start}
+use Rattle.acgrep.proofs.Formatted.{drop_piece}
 use Rattle.acgrep.proofs.LineLists.{drop_zero}
 
 -- a piece stands at the front of a format, and takes as many bytes
@@ -56,19 +57,13 @@ front_taken byte rest front is =
     chosen _ Found 6 _ format front is (λ t. (starts format (codes "{text}") t, omega arith)) (λ is. plain_taken byte rest front is))))))))
 
 -- the pieces behind some bytes are what stands behind them
-behind_piece : (len byte : ℕ) (rest : List ℕ) → 0 < len → drop len (byte ∷ rest) ≡ drop (len - 1) rest
-behind_piece zero byte rest some = absurd (omega (arith, some))
-behind_piece (suc len) byte rest some =
-    let same : suc len - 1 ≡ len = omega arith in
-    ap (λ (n : ℕ). drop n rest) (sym same)
-
 text_of_pieces : (byte : ℕ) (rest : List ℕ) (front : Front) (pieces : List Piece) (others : Option (List Piece)) → IsTaken (byte ∷ rest) front
     → ((more : List Piece) → others ≡ Some more → format_text more ≡ drop (front.len - 1) rest) → option_map (λ pieces. front.piece ∷ pieces) others ≡ Some pieces
     → format_text pieces ≡ byte ∷ rest
 text_of_pieces byte rest front pieces None taken behind is = absurd (cc)
 text_of_pieces byte rest front pieces (Some more) taken behind is =
     let same : front.piece ∷ more ≡ pieces = cc in
-    ap format_text (sym same) ∙ ap (λ (l : List ℕ). piece_text front.piece ++ l) (behind more refl ∙ sym (behind_piece front.len byte rest taken.1)) ∙ taken.0
+    ap format_text (sym same) ∙ ap (λ (l : List ℕ). piece_text front.piece ++ l) (behind more refl ∙ sym (drop_piece front.len byte rest taken.1)) ∙ taken.0
 
 text_of_front : (byte : ℕ) (rest : List ℕ) (pieces : List Piece) (front : Option Front)
     → ((skipped : ℕ) (more : List Piece) → pieces_behind skipped rest ≡ Some more → format_text more ≡ drop skipped rest) → front_by (byte ∷ rest) ≡ front

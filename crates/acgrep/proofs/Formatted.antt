@@ -1,46 +1,37 @@
 -- A format, one piece after another; and base64, one group after another.
-use Rattle.std.proofs.Common.{◌≡◌, ℕ, zero, suc, ◌+◌, ◌<◌, ◌-◌, ◌==◌, false, List, [], ◌∷◌, ◌++◌, Option, Some, None, ◌∙◌, ap, refl, sym, subst, inl, inr, drop, take, length, arith, append_assoc, append-nil}
-use Rattle.std.specs.Prelude.{option_map}
-use Rattle.std.proofs.lemmas.Bool.{cases_Bool}
+use Rattle.std.proofs.Common.{◌++◌, ◌+◌, ◌-◌, ◌<◌, ◌==◌, ◌∙◌, ◌∷◌, ◌≡◌, List, None, Option, Some, [], ap, append-nil, append_assoc, arith, drop, false, length, refl, subst, suc, sym, take, zero, ℕ}
+use Rattle.std.proofs.lemmas.Grind.{common_steps}
 use Rattle.std.proofs.lemmas.List.{length-drop, take_all}
+use Rattle.std.specs.Prelude.{option_map}
 use Rattle.memchr.specs.Find.{Nowhere, Passes, is_byte}
-use Rattle.acgrep.specs.Formats.{front_by, pieces_behind, format_pieces, unknown_behind, unknown_in, up_to_brace}
+use Rattle.acgrep.specs.Formats.{format_pieces, front_by, pieces_behind, unknown_behind, unknown_in, up_to_brace}
 use Rattle.acgrep.specs.declared.format.Front.{Front}
 use Rattle.acgrep.specs.declared.format.Piece.{Piece}
 
 -- what belongs to a piece before is passed over
 pub pieces_skip : (skipped : ℕ) (format : List ℕ) → pieces_behind skipped format ≡ format_pieces (drop skipped format)
-pieces_skip zero [] = refl
-pieces_skip zero (byte ∷ rest) = refl
-pieces_skip (suc skipped) [] = refl
 pieces_skip (suc skipped) (byte ∷ rest) = pieces_skip skipped rest
+pieces_skip _ _ = refl
 
 pub unknown_skip : (skipped : ℕ) (format : List ℕ) → unknown_behind skipped format ≡ unknown_in (drop skipped format)
-unknown_skip zero [] = refl
-unknown_skip zero (byte ∷ rest) = refl
-unknown_skip (suc skipped) [] = refl
 unknown_skip (suc skipped) (byte ∷ rest) = unknown_skip skipped rest
+unknown_skip _ _ = refl
 
 -- what a piece takes is dropped
-drop_piece : (len byte : ℕ) (rest : List ℕ) → 0 < len → drop len (byte ∷ rest) ≡ drop (len - 1) rest
-drop_piece zero byte rest some = absurd (omega (arith, some))
-drop_piece (suc len) byte rest some =
-    let same : suc len - 1 ≡ len = omega arith in
-    ap (λ (n : ℕ). drop n rest) (sym same)
+pub drop_piece : (len byte : ℕ) (rest : List ℕ) → 0 < len → drop len (byte ∷ rest) ≡ drop (len - 1) rest
+drop_piece len byte rest some = grind (arith, common_steps)
 
 -- the first piece, and those behind it
 pub pieces_step : (format : List ℕ) (front : Front) → 0 < length format → 0 < front.len → front_by format ≡ Some front
     → format_pieces format ≡ option_map (λ pieces. front.piece ∷ pieces) (format_pieces (drop front.len format))
 pieces_step [] front some long is = absurd (omega (arith, some))
-pieces_step (byte ∷ rest) front some long is =
-    rw is (ap (λ (o : Option (List Piece)). option_map (λ pieces. front.piece ∷ pieces) o)
-    (pieces_skip (front.len - 1) rest ∙ ap format_pieces (sym (drop_piece front.len byte rest long))))
+pieces_step (byte ∷ rest) front some long is = rw is (ap (λ (o : Option (List Piece)). option_map (λ pieces. front.piece ∷ pieces) o)
+    (pieces_skip (front.len - 1) _ ∙ ap format_pieces (sym (drop_piece front.len _ _ long))))
 
 pub unknown_step : (format : List ℕ) (front : Front) → 0 < length format → 0 < front.len → front_by format ≡ Some front
     → unknown_in format ≡ unknown_in (drop front.len format)
 unknown_step [] front some long is = absurd (omega (arith, some))
-unknown_step (byte ∷ rest) front some long is =
-    rw is (unknown_skip (front.len - 1) rest ∙ ap unknown_in (sym (drop_piece front.len byte rest long)))
+unknown_step (byte ∷ rest) front some long is = rw is (unknown_skip (front.len - 1) _ ∙ ap unknown_in (sym (drop_piece front.len _ _ long)))
 
 -- a piece more
 pub pieces_more : (items : List Piece) (piece : Piece) (others : Option (List Piece))
@@ -59,11 +50,7 @@ rest_behind xs at = take_all (length xs - at) (drop at xs) (omega (arith, length
 
 -- up to the first brace that closes a field, or to the end
 other_first : (byte : ℕ) (rest : List ℕ) (end : ℕ) → 0 < end → Nowhere (Passes (is_byte 125) (byte ∷ rest)) 0 end → (byte == 125) ≡ false
-other_first byte rest end some none =
-    elim (cases_Bool (byte == 125)) [
-      | inl is ↦ absurd (none 0 (omega arith) some is)
-      | inr other ↦ other
-    ]
+other_first byte rest end some none = grind (arith, common_steps)
 
 none_behind : (byte : ℕ) (rest : List ℕ) (end : ℕ) → Nowhere (Passes (is_byte 125) (byte ∷ rest)) 0 (suc end) → Nowhere (Passes (is_byte 125) rest) 0 end
 none_behind byte rest end none = λ k low high is. none (suc k) (omega (arith, low)) (omega (arith, high)) is
@@ -71,17 +58,15 @@ none_behind byte rest end none = λ k low high is. none (suc k) (omega (arith, l
 pub up_to_none : (format : List ℕ) → Nowhere (Passes (is_byte 125) format) 0 (length format) → format ≡ up_to_brace format
 up_to_none [] none = refl
 up_to_none (byte ∷ rest) none =
-    let other : (byte == 125) ≡ false = other_first byte rest (suc (length rest)) (omega arith) none in
-    rw other (ap (λ (l : List ℕ). byte ∷ l) (up_to_none rest (none_behind byte rest (length rest) none)))
+    rw (other_first byte rest (suc (length rest)) (omega arith) none) (ap (λ (l : List ℕ). byte ∷ l) (up_to_none rest (none_behind byte rest (length rest) none)))
 
 pub up_to_first : (end : ℕ) (format : List ℕ) → end < length format → Nowhere (Passes (is_byte 125) format) 0 end → Passes (is_byte 125) format end
     → take (end + 1) format ≡ up_to_brace format
 up_to_first end [] within none is = absurd (omega (arith, within))
-up_to_first zero (byte ∷ []) within none is = rw is refl
-up_to_first zero (byte ∷ next ∷ rest) within none is = rw is refl
 up_to_first (suc end) (byte ∷ rest) within none is =
     let other : (byte == 125) ≡ false = other_first byte rest (suc end) (omega arith) none in
     let longer : suc end + 1 ≡ suc (end + 1) = omega arith in
     let same : take (suc (end + 1)) (byte ∷ rest) ≡ up_to_brace (byte ∷ rest) =
     rw other (ap (λ (l : List ℕ). byte ∷ l) (up_to_first end rest (omega (arith, within)) (none_behind byte rest end none) is)) in
     subst (λ (n : ℕ). take n (byte ∷ rest) ≡ up_to_brace (byte ∷ rest)) (sym longer) same
+up_to_first zero _ within none is = rw is refl

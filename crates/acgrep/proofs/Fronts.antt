@@ -1,5 +1,6 @@
 -- The lines before the first that holds a zero byte, put together from reads.
-use Rattle.std.proofs.Common.{◌≡◌, Bool, ℕ, ◌-◌, ◌≤◌, ◌<◌, true, List, [], ◌∷◌, ◌++◌, Option, Some, length, take, drop, refl, sym, ◌∙◌, ap, subst, arith, length-append}
+use Rattle.std.proofs.Common.{◌++◌, ◌-◌, ◌<◌, ◌∙◌, ◌∷◌, ◌≡◌, ◌≤◌, Bool, List, Option, Some, [], arith, drop, length, refl, subst, sym, take, true, ℕ}
+use Rattle.std.proofs.lemmas.Grind.{common_steps}
 use Rattle.std.specs.Io.KnownBytes.{Keeps}
 use Rattle.aho_core.specs.Patterns.{Patterns}
 use Rattle.acgrep.specs.Binary.{is_text}
@@ -9,22 +10,12 @@ use Rattle.acgrep.specs.Guarded.{IsFirstBinary, IsZeroLine, ReadsFront, Searches
 use Rattle.acgrep.specs.Lines.{IsEnding, lines}
 use Rattle.acgrep.specs.Streamed.{SearchesWhole, TextIf, course}
 use Rattle.acgrep.specs.Written.{IsSettled}
+use Rattle.acgrep.specs.declared.job.Job.{Job}
+use Rattle.acgrep.specs.declared.job.State.{State}
 use Rattle.acgrep.specs.declared.stream.Came.{Came}
-use Rattle.acgrep.specs.declared.stream.Came.TheVariants.{Text, Binary, End}
-use Rattle.acgrep.specs.declared.select.Job.{Job}
-use Rattle.acgrep.specs.declared.select.State.{State}
+use Rattle.acgrep.specs.declared.stream.Came.TheVariants.{Binary, End, Text}
 use Rattle.acgrep.proofs.BinaryLines.{text_back, text_front, text_joined}
 use Rattle.acgrep.proofs.Streams.{reads_none, reads_some, stream_done, stream_end, stream_step, stream_stop, stream_whole_lines, whole_searched}
-
-take_back : (xs ys : List ℕ) → take (length (xs ++ ys) - length ys) (xs ++ ys) ≡ xs
-take_back xs ys =
-    let count : length (xs ++ ys) - length ys ≡ length xs = omega (arith, length-append xs ys) in
-    ap (λ (n : ℕ). take n (xs ++ ys)) count ∙ take_seam xs ys
-  where
-    take_seam : (xs ys : List ℕ) → take (length xs) (xs ++ ys) ≡ xs
-    take_seam [] [] = refl
-    take_seam [] (y ∷ ys) = refl
-    take_seam (x ∷ xs) ys = ap (λ (l : List ℕ). x ∷ l) (take_seam xs ys)
 
 no_bytes : (xs : List ℕ) (count : ℕ) → length xs ≡ count → count ≡ 0 → is_text xs ≡ true
 no_bytes [] count long none = refl
@@ -32,10 +23,7 @@ no_bytes (x ∷ xs) count long none = absurd (omega (arith, long, none))
 
 -- what was kept before a read
 pub kept_front : (kept filled : List ℕ) (l m : Option (List ℕ)) (count : ℕ) → FillsBehind kept filled l m count → is_text kept ≡ true → is_text (take (length filled - count) filled) ≡ true
-kept_front kept filled l m count fills is =
-    subst (λ (bytes : List ℕ). is_text (take (length bytes - count) bytes) ≡ true) (sym fills.behind)
-    (subst (λ (n : ℕ). is_text (take (length (kept ++ fills.came) - n) (kept ++ fills.came)) ≡ true) fills.counted
-    (subst (λ (bytes : List ℕ). is_text bytes ≡ true) (sym (take_back kept fills.came)) is))
+kept_front kept filled l m count fills is = grind (arith, common_steps)
 
 module _ (p : Patterns) (job : Job) (alone : Bool) where
   -- at the begin the whole lines that are there are searched

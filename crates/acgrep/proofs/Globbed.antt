@@ -1,25 +1,22 @@
 -- How a name is read along a glob.
-use Rattle.std.proofs.Common.{◌≡◌, inl, inr, ◌⊎◌, ℕ, zero, suc, ◌+◌, ◌-◌, ◌≤◌, Bool, true, false, List, [], ◌∷◌, length, drop, take, take_all, refl, sym, ◌∙◌, ap, subst, arith}
-use Rattle.std.specs.Prelude.{◌||◌}
-use Rattle.std.proofs.Math.Seq.{drop-nil}
+use Rattle.std.proofs.Common.{◌+◌, ◌-◌, ◌∙◌, ◌∷◌, ◌≡◌, ◌≤◌, ◌⊎◌, Bool, List, [], ap, arith, drop, false, inl, inr, length, refl, subst, suc, sym, take, true, zero, ℕ}
 use Rattle.std.proofs.lemmas.Bool.{and_parts, ne_eqb, or_right}
+use Rattle.std.proofs.lemmas.Grind.{common_steps}
+use Rattle.std.proofs.lemmas.List.{drop-drop}
+use Rattle.std.specs.Prelude.{◌||◌}
 use Rattle.acgrep.specs.Globs.{IsCut, any_suffix, closes_at, closing, fits, item_len, one_fits, part_len, stands_for}
 use Rattle.acgrep.proofs.LineLists.{drop_zero}
 
 -- what belongs to a part before is passed
 pub fits_skip : (k : ℕ) (glob name : List ℕ) → fits k glob name ≡ fits 0 (drop k glob) name
-fits_skip zero [] name = refl
-fits_skip zero (first ∷ behind) name = refl
-fits_skip (suc k) [] name = refl
 fits_skip (suc k) (first ∷ behind) name = fits_skip k behind name
+fits_skip _ _ name = refl
 
 pub closes_skip : (k passed : ℕ) (items : List ℕ) → closes_at passed k items ≡ closes_at (passed + k) 0 (drop k items)
 closes_skip zero passed [] = refl
 closes_skip zero passed (first ∷ behind) = ap (λ (n : ℕ). closes_at n 0 (first ∷ behind)) (omega arith)
 closes_skip (suc k) passed [] = refl
-closes_skip (suc k) passed (first ∷ behind) =
-    let same : passed + 1 + k ≡ passed + suc k = omega arith in
-    closes_skip k (passed + 1) behind ∙ ap (λ (n : ℕ). closes_at n 0 (drop k behind)) same
+closes_skip (suc k) passed (first ∷ behind) = closes_skip k (passed + 1) behind ∙ ap (λ (n : ℕ). closes_at n 0 (drop k behind)) (omega arith)
 
 -- a suffix of what is left is one of the whole
 pub any_here : (holds : List ℕ → Bool) (word : List ℕ) → holds word ≡ true → any_suffix holds word ≡ true
@@ -31,10 +28,8 @@ or_either true b is = inl refl
 or_either false b is = inr is
 
 pub any_later : (holds : List ℕ → Bool) (k : ℕ) (word : List ℕ) → any_suffix holds (drop k word) ≡ true → any_suffix holds word ≡ true
-any_later holds zero [] is = is
-any_later holds zero (byte ∷ rest) is = is
-any_later holds (suc k) [] is = is
 any_later holds (suc k) (byte ∷ rest) is = or_right (holds (byte ∷ rest)) (any_suffix holds rest) (any_later holds k rest is)
+any_later holds _ _ is = is
 
 pub any_where : (holds : List ℕ → Bool) (word : List ℕ) → any_suffix holds word ≡ true → (k : ℕ) × (holds (drop k word) ≡ true)
 any_where holds [] is = (0, is)
@@ -44,20 +39,13 @@ any_where holds (byte ∷ rest) is = elim (or_either (holds (byte ∷ rest)) (an
 ]
 
 pub both_ways : (a b : Bool) → (a ≡ true → b ≡ true) → (b ≡ true → a ≡ true) → a ≡ b
-both_ways true b one other = sym (one refl)
-both_ways false true one other = other refl
-both_ways false false one other = refl
+both_ways a b one other = grind (arith, common_steps)
 
 drop_more : (i j : ℕ) (word : List ℕ) → drop (suc i) (drop j word) ≡ drop i (drop (suc j) word)
-drop_more i zero [] = sym (drop-nil i)
-drop_more i (suc j) [] = sym (drop-nil i)
-drop_more i zero (byte ∷ rest) = ap (drop i) (sym (drop_zero rest))
-drop_more i (suc j) (byte ∷ rest) = drop_more i j rest
+drop_more i j word = drop-drop (suc i) j word ∙ ap (λ (n : ℕ). drop n word) (omega arith) ∙ sym (drop-drop i (suc j) word)
 
 drop_drop : (i j : ℕ) (word : List ℕ) → drop i (drop j word) ≡ drop j (drop i word)
-drop_drop zero j word = drop_zero (drop j word) ∙ ap (drop j) (sym (drop_zero word))
-drop_drop (suc i) j [] = ap (drop (suc i)) (drop-nil j) ∙ sym (drop-nil j)
-drop_drop (suc i) j (byte ∷ rest) = drop_more i j (byte ∷ rest) ∙ drop_drop i j rest
+drop_drop i j word = drop-drop i j word ∙ ap (λ (n : ℕ). drop n word) (omega arith) ∙ sym (drop-drop j i word)
 
 -- where a glob fits up to a star, what is left of both decides
 pub cut_same : (glob name rest left : List ℕ) → IsCut glob name rest left → any_suffix (fits 0 glob) name ≡ any_suffix (fits 0 rest) left
@@ -95,10 +83,8 @@ read_more glob name first behind byte other unlike stands read = let plain = ne_
   shorter = omega (arith, read.shorter, less (part_len first behind) behind);
   within = omega (arith, read.within);
   back = λ is. read.back (rw plain (rw stands (fits_skip (part_len first behind) behind other ∙ is)));
-  on = λ word is.
-      let here : one_fits (stands_for first behind) (fits (part_len first behind) behind) (drop read.count word) ≡ true = rw plain at (read.on word is) in
-      ap (fits 0 (drop (part_len first behind) behind)) (sym (drop_more 0 read.count word ∙ drop_zero (drop (suc read.count) word)))
-      ∙ sym (fits_skip (part_len first behind) behind (drop 1 (drop read.count word))) ∙ one_behind (stands_for first behind) (fits (part_len first behind) behind) (drop read.count word) here;
+  on = λ word is. ap (fits 0 (drop (part_len first behind) behind)) (sym (drop_more 0 read.count word ∙ drop_zero (drop (suc read.count) word)))
+      ∙ sym (fits_skip (part_len first behind) behind (drop 1 (drop read.count word))) ∙ one_behind (stands_for first behind) (fits (part_len first behind) behind) (drop read.count word) (rw plain at (read.on word is));
 }
   where
     less : (k : ℕ) (l : List ℕ) → length (drop k l) ≤ length l
@@ -109,19 +95,7 @@ read_more glob name first behind byte other unlike stands read = let plain = ne_
 
 -- what stands behind so many bytes of a slice
 pub behind_slice : (k : ℕ) (bytes : List ℕ) → take (length bytes - k) (drop k bytes) ≡ drop k bytes
-behind_slice k bytes = take_all (length bytes - k) (drop k bytes) (short k bytes)
-  where
-    short : (k : ℕ) (l : List ℕ) → length (drop k l) ≤ length l - k
-    short zero [] = omega arith
-    short zero (x ∷ l) = omega arith
-    short (suc k) [] = omega arith
-    short (suc k) (x ∷ l) = omega (arith, short k l)
-
-length_behind : (k : ℕ) (l : List ℕ) → k ≤ length l → k + length (drop k l) ≡ length l
-length_behind zero [] within = refl
-length_behind zero (x ∷ l) within = omega arith
-length_behind (suc k) [] within = absurd (omega (arith, within))
-length_behind (suc k) (x ∷ l) within = omega (arith, length_behind k l (omega (arith, within)))
+behind_slice k bytes = grind (arith, common_steps)
 
 -- an item more of a set was passed
 pub closes_first : (first : ℕ) (behind : List ℕ) (len : ℕ) → len ≡ item_len first behind → closing (first ∷ behind) ≡ closes_at (1 + len) 0 (take (length behind - len) (drop len behind))
@@ -131,12 +105,8 @@ closes_first first behind len is =
 pub closes_more : (passed first : ℕ) (behind : List ℕ) (len : ℕ) → (first ≡ 93 → ⊥) → len ≡ item_len first behind
     → closes_at passed 0 (first ∷ behind) ≡ closes_at (passed + (1 + len)) 0 (take (length behind - len) (drop len behind))
 closes_more passed first behind len other is =
-    let opens = ne_eqb first 93 other in
-    let same : passed + 1 + len ≡ passed + (1 + len) = omega arith in
-    rw opens (closes_skip (item_len first behind) (passed + 1) behind ∙ ap (λ (n : ℕ). closes_at (passed + 1 + n) 0 (drop n behind)) (sym is)
-    ∙ ap (λ (n : ℕ). closes_at n 0 (drop len behind)) same ∙ ap (closes_at (passed + (1 + len)) 0) (sym (behind_slice len behind)))
+    rw (ne_eqb first 93 other) (closes_skip (item_len first behind) (passed + 1) behind ∙ ap (λ (n : ℕ). closes_at (passed + 1 + n) 0 (drop n behind)) (sym is)
+    ∙ ap (λ (n : ℕ). closes_at n 0 (drop len behind)) (omega arith) ∙ ap (closes_at (passed + (1 + len)) 0) (sym (behind_slice len behind)))
 
 pub passed_first : (behind : List ℕ) (len : ℕ) → len ≤ length behind → 1 + len + length (take (length behind - len) (drop len behind)) ≡ 1 + length behind
-passed_first behind len within =
-    let same : length (take (length behind - len) (drop len behind)) ≡ length (drop len behind) = ap length (behind_slice len behind) in
-    omega (arith, same, length_behind len behind within)
+passed_first behind len within = grind (arith, common_steps)

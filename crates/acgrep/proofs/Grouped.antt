@@ -1,29 +1,29 @@
 -- A walk from line to line writes the lines that are near selected ones.
-use Rattle.std.proofs.Common.{◌≡◌, ◌⊎◌, inl, inr, ℕ, suc, zero, ◌+◌, ◌-◌, ◌<◌, ◌≤◌, ◌==◌, Bool, true, false, List, [], ◌∷◌, ◌++◌, length, refl, sym, ◌∙◌, ap, subst, arith, append_assoc, append-nil, length-append}
-use Rattle.std.specs.Prelude.{nat_le, nat_lt, ◌&&◌}
-use Rattle.std.proofs.Math.ListN.{get_or}
-use Rattle.std.proofs.lemmas.Bool.{cases_Bool, cases_lt, eqb-true, leb-false, leb-true, lt-leb, ltb-false, ltb-true, true≢false}
+use Rattle.std.proofs.Common.{◌++◌, ◌+◌, ◌-◌, ◌<◌, ◌==◌, ◌∙◌, ◌∷◌, ◌≡◌, ◌≤◌, ◌⊎◌, Bool, List, [], ap, append-nil, append_assoc, arith, false, inl, inr, length, length-append, refl, subst, suc, sym, true, zero, ℕ}
 use Rattle.std.proofs.Math.Bool.{and-false}
+use Rattle.std.proofs.Math.ListN.{get_or}
+use Rattle.std.proofs.lemmas.Bool.{cases_Bool, cases_lt, eqb-true, leb-false, leb-true, ltb-false, ltb-true, true≢false}
+use Rattle.std.proofs.lemmas.Grind.{common_steps}
+use Rattle.std.proofs.lemmas.List.{get_or-append_right, length-map}
+use Rattle.std.specs.Prelude.{◌&&◌, map, nat_le, nat_lt}
 use Rattle.aho_core.specs.Patterns.{Patterns}
 use Rattle.acgrep.specs.Contexts.{AreChosen, IsNearChosen, IsNotChosen, PassesBy, ShowsEach, ShowsGroup, TellsAround, TellsWritten, Walk, WalksOver, behind_passed, beside, first_in, separator_if}
 use Rattle.acgrep.specs.Written.{IsSelected, ShowsLine, after_line, after_lines, is_full, one_more}
 use Rattle.acgrep.specs.declared.options.Context.{Context}
 use Rattle.acgrep.specs.declared.print.Place.{Place}
-use Rattle.acgrep.specs.declared.select.Job.{Job}
+use Rattle.acgrep.specs.declared.job.Job.{Job}
 use Rattle.acgrep.proofs.Tellings.{after_append}
+use Rattle.acgrep.proofs.Walking.{moved}
 
 -- one mark for each of some lines
 abbrev pub marks : Bool → List (List ℕ) → List Bool
-marks mark [] = []
-marks mark (line ∷ rest) = mark ∷ marks mark rest
+marks mark ls = map (λ line. mark) ls
 
 length_marks : (mark : Bool) (ls : List (List ℕ)) → length (marks mark ls) ≡ length ls
-length_marks mark [] = refl
-length_marks mark (line ∷ rest) = ap suc (length_marks mark rest)
+length_marks mark ls = length-map ls (λ line. mark)
 
 marks_more : (ls : List (List ℕ)) (line : List ℕ) (chosen : List Bool) → marks false (ls ++ (line ∷ [])) ++ chosen ≡ marks false ls ++ (false ∷ chosen)
-marks_more [] line chosen = refl
-marks_more (first ∷ rest) line chosen = ap (λ (l : List Bool). false ∷ l) (marks_more rest line chosen)
+marks_more ls line chosen = moved (λ line. false) ls line chosen
 
 -- what stands among the marks of some lines, and behind them
 mark_in : (mark : Bool) (ls : List (List ℕ)) (more : List Bool) (i : ℕ) → i < length ls → get_or (marks mark ls ++ more) i false ≡ mark
@@ -32,11 +32,7 @@ mark_in mark (line ∷ rest) more zero within = refl
 mark_in mark (line ∷ rest) more (suc i) within = mark_in mark rest more i (omega (arith, within))
 
 mark_behind : (mark : Bool) (ls : List (List ℕ)) (more : List Bool) (i : ℕ) → length ls ≤ i → get_or (marks mark ls ++ more) i false ≡ get_or more (i - length ls) false
-mark_behind mark [] more i behind = ap (λ (k : ℕ). get_or more k false) (omega arith)
-mark_behind mark (line ∷ rest) more zero behind = absurd (omega (arith, behind))
-mark_behind mark (line ∷ rest) more (suc i) behind =
-    let less : i - length rest ≡ suc i - length (line ∷ rest) = omega arith in
-    mark_behind mark rest more i (omega (arith, behind)) ∙ ap (λ (k : ℕ). get_or more k false) less
+mark_behind mark ls more i behind = get_or-append_right (marks mark ls) more (length ls) i false (length_marks mark ls) behind
 
 -- no line is chosen up to a place
 unmarked : (ls : List (List ℕ)) (more : List Bool) (i : ℕ) → i ≤ length ls → get_or (marks false ls ++ (false ∷ more)) i false ≡ false
@@ -46,9 +42,8 @@ unmarked (line ∷ rest) more zero within = refl
 unmarked (line ∷ rest) more (suc i) within = unmarked rest more i (omega (arith, within))
 
 unmarked_all : (ls : List (List ℕ)) (i : ℕ) → get_or (marks false ls ++ []) i false ≡ false
-unmarked_all [] i = refl
-unmarked_all (line ∷ rest) zero = refl
 unmarked_all (line ∷ rest) (suc i) = unmarked_all rest i
+unmarked_all _ _ = refl
 
 first_more : (place first : Place) (ls : List (List ℕ)) (line : List ℕ) → first_in place first (ls ++ (line ∷ [])) ≡ first
 first_more place first [] line = refl
@@ -59,12 +54,10 @@ first_same place first [] is = sym is
 first_same place first (line ∷ rest) is = refl
 
 no_room : (n : ℕ) → (n == 0) ≡ false → nat_le n 0 ≡ false
-no_room zero some = absurd (true≢false some)
-no_room (suc n) some = lt-leb (suc n) 0 (omega arith)
+no_room n some = grind (arith, common_steps)
 
 some_more : (n : ℕ) → (n == 0) ≡ false → 0 < n
-some_more zero some = absurd (true≢false some)
-some_more (suc n) some = omega arith
+some_more n some = grind (arith, common_steps)
 
 -- where so many lines are due, a line is near too where it is among the first of them
 pub record AreWrittenFrom (context : Context) (due : ℕ) (chosen written : List Bool) : Type 0 where
@@ -218,13 +211,16 @@ module _ (p : Patterns) (job : Job) (context : Context) where
         one,
         next ++ (shown ++ more),
         is_shown,
-        subst (TellsWritten p job context (after_line place first) true false (others ++ (line ∷ rest)) (marks false others ++ (true ∷ chosen)) (marks true others ++ (true ∷ written)))
-            (ap (λ (l : List ℕ). l ++ (next ++ (shown ++ more))) unparted) IH,
+        rw (ap (λ (l : List ℕ). l ++ (next ++ (shown ++ more))) unparted) at IH,
         ap (λ (l : List ℕ). separator_if (context.parted && (some && apart)) job.style ++ l) (ap (λ (l : List ℕ). l ++ (shown ++ more)) is ∙ append_assoc one next (shown ++ more)),
       )
 
 abbrev pub walk : Place → (selected due : ℕ) → (some apart : Bool) → Place → List (List ℕ) → Walk
 walk place selected due some apart first held = record { place = place; selected = selected; due = due; some = some; apart = apart; first = first; held = held }
+
+-- two walks are the same where their parts are
+pub walk_same : (a b : Walk) → a.place ≡ b.place → a.selected ≡ b.selected → a.due ≡ b.due → a.some ≡ b.some → a.apart ≡ b.apart → a.first ≡ b.first → a.held ≡ b.held → a ≡ b
+walk_same a b place selected due some apart first held = grind (arith, common_steps)
 
 -- what a walk keeps: held lines stand before its place, and none is held while some are due
 pub record IsKept (context : Context) (w : Walk) : Type 0 where
@@ -241,16 +237,6 @@ pub record Grouped (p : Patterns) (job : Job) (context : Context) (w : Walk) (ls
   pub are_chosen : AreChosen p job w.selected ls chosen total
   pub are_written : AreWrittenFrom context w.due (marks false w.held ++ chosen) written
   pub tells : TellsWritten p job context (first_in w.place w.first w.held) w.some w.apart (w.held ++ ls) (marks false w.held ++ chosen) written bytes
-
--- at the begin of a file
-kept_begin : (context : Context) (place : Place) (selected : ℕ) (some apart : Bool) (first : Place) → IsKept context (walk place selected 0 some apart first [])
-kept_begin context place selected some apart first = record {
-  within = omega arith;
-  most = omega arith;
-  none = λ due. absurd (omega (arith, due));
-  joined = λ due. absurd (omega (arith, due));
-  placed = refl;
-}
 
 -- behind a selected line
 kept_chosen : (context : Context) (place : Place) (selected : ℕ) (first : Place) → IsKept context (walk place selected context.after true false first [])
@@ -326,9 +312,8 @@ module _ (p : Patterns) (job : Job) (context : Context) where
     chosen = false ∷ IH.chosen;
     written = false ∷ IH.written;
     are_chosen = (passed, IH.are_chosen);
-    are_written = subst (λ (n : ℕ). AreWrittenFrom context n (false ∷ IH.chosen) (false ∷ IH.written)) (sym past)
-        (written_far context IH.chosen IH.written (λ at low. let here : at ≡ 0 = omega (arith, low, none) in ap (λ (n : ℕ). get_or (false ∷ IH.chosen) n false) here)
-        (subst (λ (n : ℕ). AreWrittenFrom context n IH.chosen IH.written) past IH.are_written));
+    are_written = rw past (written_far context IH.chosen IH.written (λ at low. let here : at ≡ 0 = omega (arith, low, none) in ap (λ (n : ℕ). get_or (false ∷ IH.chosen) n false) here)
+        (rw past at IH.are_written));
     tells = IH.tells;
   }
 
@@ -338,17 +323,12 @@ module _ (p : Patterns) (job : Job) (context : Context) where
       → Grouped p job context (walk (after_line place line) selected due some apart (first_in place first held) (held ++ (line ∷ []))) rest more total
       → Grouped p job context (walk place selected due some apart first held) (line ∷ rest) more total
   group_held place selected due some apart first held line rest more total passed IH =
-      let start = first_in place first held in
       record {
         chosen = false ∷ IH.chosen;
         written = IH.written;
         are_chosen = (passed, IH.are_chosen);
-        are_written = subst (λ (l : List Bool). AreWrittenFrom context due l IH.written) (marks_more held line IH.chosen) IH.are_written;
-        tells = subst (λ (at : Place). TellsWritten p job context at some apart (held ++ (line ∷ rest)) (marks false held ++ (false ∷ IH.chosen)) IH.written more)
-            (first_more (after_line place line) start held line)
-            (subst (λ (l : List Bool). TellsWritten p job context (first_in (after_line place line) start (held ++ (line ∷ []))) some apart (held ++ (line ∷ rest)) l IH.written more) (marks_more held line IH.chosen)
-            (subst (λ (l : List (List ℕ)). TellsWritten p job context (first_in (after_line place line) start (held ++ (line ∷ []))) some apart l (marks false (held ++ (line ∷ [])) ++ IH.chosen) IH.written more)
-            (append_assoc held (line ∷ []) rest) IH.tells));
+        are_written = rw (marks_more held line IH.chosen) at IH.are_written;
+        tells = rw (first_more (after_line place line) (first_in place first held) held line) at (rw (marks_more held line IH.chosen) at (rw (append_assoc held (line ∷ []) rest) at IH.tells));
       }
 
   -- and the first held one is not near
@@ -364,12 +344,9 @@ module _ (p : Patterns) (job : Job) (context : Context) where
         chosen = IH'.chosen;
         written = false ∷ IH'.written;
         are_chosen = IH'.are_chosen;
-        are_written = subst (λ (n : ℕ). AreWrittenFrom context n (false ∷ (marks false held ++ (false ∷ IH.chosen))) (false ∷ IH'.written)) (sym past)
-            (written_far context (marks false held ++ (false ∷ IH.chosen)) IH'.written
-            (λ at low. unmarked (other ∷ held) IH.chosen at (omega (arith, low, long)))
-            (subst (λ (n : ℕ). AreWrittenFrom context n (marks false held ++ (false ∷ IH.chosen)) IH'.written) past IH'.are_written));
-        tells = subst (λ (at : Place). TellsWritten p job context at some true (held ++ (line ∷ rest)) (marks false held ++ (false ∷ IH.chosen)) IH'.written more)
-            (first_same place second held placed) IH'.tells;
+        are_written = rw past (written_far context (marks false held ++ (false ∷ IH.chosen)) IH'.written
+            (λ at low. unmarked (other ∷ held) IH.chosen at (omega (arith, low, long))) (rw past at IH'.are_written));
+        tells = rw (first_same place second held placed) at IH'.tells;
       }
 
   held_short : (held : List (List ℕ)) (line : List ℕ) (n : ℕ) → length held < n → length (held ++ (line ∷ [])) ≤ n
@@ -513,16 +490,8 @@ module _ (p : Patterns) (job : Job) (context : Context) where
   pub told_around : (ls : List (List ℕ)) (w w' : Walk) (bytes : List ℕ) → w.place ≡ job.first → w.selected ≡ 0 → w.due ≡ 0 → w.some ≡ job.follows → w.apart ≡ true → w.held ≡ []
       → WalksOver p job context w ls bytes w' → TellsAround p job context ls bytes w'.selected
   told_around ls w w' bytes place selected due some apart held walks =
-      let begin = walk job.first 0 0 job.follows true w.first [] in
-      let same : w ≡ begin =
-      ap (λ (at : Place). walk at w.selected w.due w.some w.apart w.first w.held) place
-      ∙ ap (λ (n : ℕ). walk job.first n w.due w.some w.apart w.first w.held) selected
-      ∙ ap (λ (n : ℕ). walk job.first 0 n w.some w.apart w.first w.held) due
-      ∙ ap (λ (b : Bool). walk job.first 0 0 b w.apart w.first w.held) some
-      ∙ ap (λ (b : Bool). walk job.first 0 0 job.follows b w.first w.held) apart
-      ∙ ap (λ (h : List (List ℕ)). walk job.first 0 0 job.follows true w.first h) held in
-      let all = grouped ls job.first 0 0 job.follows true w.first [] w' bytes (kept_begin context job.first 0 job.follows true w.first)
-      (subst (λ (v : Walk). WalksOver p job context v ls bytes w') same walks) in
+      let same = walk_same w (walk job.first 0 0 job.follows true w.first []) place selected due some apart refl held in
+      let all = grouped ls job.first 0 0 job.follows true w.first [] w' bytes (kept_over job.first 0 0 job.follows true w.first refl) (subst (λ (v : Walk). WalksOver p job context v ls bytes w') same walks) in
       record {
         chosen = all.chosen;
         written = all.written;

@@ -1,37 +1,28 @@
 -- Lines that are held, and one more or one less of them.
-use Rattle.std.proofs.Common.{◌≡◌, ℕ, ◌+◌, ◌≤◌, ◌<◌, List, [], ◌∷◌, ◌++◌, length, take, drop, sym, ◌∙◌, ap, arith}
+use Rattle.std.proofs.Common.{◌++◌, ◌+◌, ◌<◌, ◌∙◌, ◌∷◌, ◌≡◌, ◌≤◌, List, [], ap, arith, drop, length, sym, take, ℕ}
+use Rattle.std.proofs.lemmas.Grind.{common_steps}
+use Rattle.std.proofs.lemmas.List.{drop-append-le, length-drop, take-append-le, take_all}
+use Rattle.std.proofs.lemmas.List.Sums.{sum_by-cons}
 use Rattle.std.specs.List.{sum}
 use Rattle.std.specs.Prelude.{slice_index_or}
-use Rattle.std.proofs.lemmas.List.Sums.{sum_by-cons, sum_by-drop_more}
-use Rattle.std.proofs.lemmas.List.{at_drop_more, drop-append-le, length-drop, take-append-le, take_all}
 use Rattle.acgrep.specs.Filled.{cut_by}
-
-sum_first : (size : ℕ) (sizes : List ℕ) → sum (size ∷ sizes) ≡ size + sum sizes
-sum_first size sizes = sum_by-cons (λ n. n) size sizes
 
 -- bytes of so many lines, and those of one more behind them
 pub cut_more : (sizes : List ℕ) (bytes line : List ℕ) → sum sizes ≡ length bytes → cut_by (sizes ++ (length line ∷ [])) (bytes ++ line) ≡ cut_by sizes bytes ++ (line ∷ [])
 cut_more [] [] line same = ap (λ (l : List ℕ). l ∷ []) (take_all (length line) line (omega arith))
 cut_more [] (byte ∷ bytes) line same = absurd (omega (arith, same))
 cut_more (size ∷ sizes) bytes line same =
-    let all : size + sum sizes ≡ length bytes = sym (sum_first size sizes) ∙ same in
+    let all : size + sum sizes ≡ length bytes = sym (sum_by-cons (λ n. n) size sizes) ∙ same in
     let within : size ≤ length bytes = omega (arith, all) in
-    let left : sum sizes ≡ length (drop size bytes) = omega (arith, all, length-drop size bytes) in
     ap (λ (l : List ℕ). l ∷ cut_by (sizes ++ (length line ∷ [])) (drop size (bytes ++ line))) (take-append-le size bytes line within)
     ∙ ap (λ (l : List ℕ). take size bytes ∷ cut_by (sizes ++ (length line ∷ [])) l) (drop-append-le size bytes line within)
-    ∙ ap (λ (l : List (List ℕ)). take size bytes ∷ l) (cut_more sizes (drop size bytes) line left)
+    ∙ ap (λ (l : List (List ℕ)). take size bytes ∷ l) (cut_more sizes (drop size bytes) line (omega (arith, all, length-drop size bytes)))
 
 -- a line is cut off where its size is the next one
 pub sum_left : (sizes : List ℕ) (index size : ℕ) (rest left : List ℕ) → index < length sizes → size ≡ slice_index_or sizes index size → sum (drop index sizes) ≡ length rest
     → left ≡ drop size rest → sum (drop (index + 1) sizes) ≡ length left
-sum_left sizes index size rest left some is all cut =
-    let first : sum (drop index sizes) ≡ slice_index_or sizes index size + sum (drop (index + 1) sizes) = sum_by-drop_more (λ n. n) sizes index size some in
-    omega (arith, all, is, first, ap length cut, length-drop size rest)
+sum_left sizes index size rest left some is all cut = grind (arith, common_steps)
 
 pub cut_left : (sizes : List ℕ) (index size : ℕ) (rest line left : List ℕ) → index < length sizes → size ≡ slice_index_or sizes index size → line ≡ take size rest → left ≡ drop size rest
     → cut_by (drop index sizes) rest ≡ line ∷ cut_by (drop (index + 1) sizes) left
-cut_left sizes index size rest line left some is front back =
-    at_drop_more (λ (l : List ℕ). cut_by l rest) sizes index size some
-    ∙ ap (λ (n : ℕ). take n rest ∷ cut_by (drop (index + 1) sizes) (drop n rest)) (sym is)
-    ∙ ap (λ (l : List ℕ). l ∷ cut_by (drop (index + 1) sizes) (drop size rest)) (sym front)
-    ∙ ap (λ (l : List ℕ). line ∷ cut_by (drop (index + 1) sizes) l) (sym back)
+cut_left sizes index size rest line left some is front back = grind (arith, common_steps)

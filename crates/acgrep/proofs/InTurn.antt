@@ -1,48 +1,37 @@
 -- Files that are searched one after another.
-use Rattle.std.proofs.Common.{◌≡◌, inl, inr, ◌⊎◌, ℕ, ◌-◌, ◌<◌, Bool, true, false, List, [], ◌∷◌, Option, length, take, drop, refl, sym, ◌∙◌, ap, subst, arith}
-use Rattle.std.specs.Prelude.{◌||◌, Vec, map, if◌then◌else◌}
-use Rattle.std.specs.Io.KnownBytes.{Keeps}
+use Rattle.std.proofs.Common.{◌-◌, ◌<◌, ◌∙◌, ◌∷◌, ◌≡◌, ◌⊎◌, Bool, List, Option, [], ap, arith, drop, false, inl, inr, length, refl, subst, sym, take, true, ℕ}
 use Rattle.std.proofs.KnownBytes.{Keeps-refl, Keeps-trans}
 use Rattle.std.proofs.Math.Bool.{or-false, or-true, or_assoc}
 use Rattle.std.proofs.Math.ListN.{get_or}
 use Rattle.std.proofs.lemmas.Bool.{cases_Bool}
-use Rattle.std.proofs.lemmas.List.{take_all}
+use Rattle.std.proofs.lemmas.Grind.{common_steps}
+use Rattle.std.specs.Io.KnownBytes.{Keeps}
+use Rattle.std.specs.Prelude.{◌||◌, Vec, if◌then◌else◌, map}
 use Rattle.tool_parts.specs.Answers.{status_of}
 use Rattle.acgrep.specs.InTurn.{AreBegun, AreDone, AreDoneOr, AreSeen, FileWork, HasOne, IfBroken, IfSearched, is_enough, nothing_seen, seen_after, status_by}
 use Rattle.acgrep.specs.Listed.{listed_bytes}
 use Rattle.acgrep.specs.declared.files.Outcome.{Outcome}
-use Rattle.acgrep.specs.declared.files.Outcome.TheVariants.{Searched, Unread, Stopped}
+use Rattle.acgrep.specs.declared.files.Outcome.TheVariants.{Searched}
 use Rattle.acgrep.specs.declared.files.Seen.{Seen}
 use Rattle.acgrep.specs.declared.options.Shown.{Shown}
-use Rattle.acgrep.specs.declared.options.Shown.TheVariants.{Lines, Matches, Objects, Count, Names, Lacking, Nothing}
+use Rattle.acgrep.specs.declared.options.Shown.TheVariants.{Nothing}
 use Rattle.acgrep.proofs.Bools.{either_way}
 
 -- what follows where a file was searched
 pub if_searched : (outcome : Outcome) (P Q : Bool → Type 0) → ((any : Bool) → P any → Q any) → IfSearched outcome P → IfSearched outcome Q
-if_searched (Searched any) P Q follows is = follows any is
-if_searched Unread P Q follows is = tt
-if_searched Stopped P Q follows is = tt
+if_searched outcome P Q follows is = grind (arith, common_steps)
 
 -- what holds whatever the outcome
 pub on_broken : {P : Type 0} (outcome : Outcome) → P → IfBroken outcome P
-on_broken (Searched any) holds = tt
-on_broken Unread holds = holds
-on_broken Stopped holds = holds
+on_broken outcome holds = grind (arith, common_steps)
 
 pub if_broken : {P Q : Type 0} (outcome : Outcome) → (P → Q) → IfBroken outcome P → IfBroken outcome Q
-if_broken (Searched any) follows broken = tt
-if_broken Unread follows broken = follows broken
-if_broken Stopped follows broken = follows broken
+if_broken outcome follows broken = grind (arith, common_steps)
 
 -- a selected line is enough only under `-q`
 pub enough_only : (shown : Shown) (any : Bool) → is_enough shown any ≡ true → (shown ≡ Nothing) × (any ≡ true)
-enough_only Lines any is = absurd (cc)
-enough_only Matches any is = absurd (cc)
-enough_only Objects any is = absurd (cc)
-enough_only Count any is = absurd (cc)
-enough_only Names any is = absurd (cc)
-enough_only Lacking any is = absurd (cc)
 enough_only Nothing any is = (refl, is)
+enough_only _ any is = absurd (cc)
 
 status_clean : (shown : Shown) (any : Bool) → (if is_enough shown any then 0 else (if any then 0 else 1)) ≡ status_of any
 status_clean shown true = elim (cases_Bool (is_enough shown true)) [ inl enough ↦ rw enough refl | inr not ↦ rw not refl ]
@@ -86,14 +75,7 @@ module _ {S : Type 0} (work : FileWork S) (shown : Shown) where
           ];
       begun = λ held'' more. so_far.begun held'' (inr (left', held', leaves, inl (first, searched, more)));
     }
-    so_far_step name rest left left' held held' seen Unread goes so_far leaves searched broken has = record {
-      ended = λ clean ends. absurd (cc);
-      on = λ clean next left'' held'' others more. absurd (cc);
-      finds = λ one. so_far.finds (inr (left', leaves, one));
-      found = so_far.found;
-      begun = λ held'' more. so_far.begun held'' (inr (left', held', leaves, inr (broken, more)));
-    }
-    so_far_step name rest left left' held held' seen Stopped goes so_far leaves searched broken has = record {
+    so_far_step name rest left left' held held' seen _ goes so_far leaves searched broken has = record {
       ended = λ clean ends. absurd (cc);
       on = λ clean next left'' held'' others more. absurd (cc);
       finds = λ one. so_far.finds (inr (left', leaves, one));
@@ -122,11 +104,10 @@ module _ {S : Type 0} (work : FileWork S) (shown : Shown) where
     so_far_end rest ends so_far = record {
       searched = λ clean.
           elim (cases_Bool seen.ended) [
-            | inl is ↦ let (all, selected) = so_far.ended clean is in subst (AreDone work shown false names begin left held₀ held) (sym selected) all
+            | inl is ↦ let (all, selected) = so_far.ended clean is in rw selected all
             | inr goes ↦
                 let none : rest ≡ [] = elim ends [ inl none ↦ none | inr is ↦ absurd (cc) ] in
-                subst (AreDone work shown false names begin left held₀ held) (or-false seen.selected)
-                (so_far.on clean goes left held false (subst (λ (l : List (List ℕ)). AreDone work shown seen.selected l left left held held false) (sym none) (refl, Keeps-refl held, refl)))
+                rw (or-false seen.selected) at (so_far.on clean goes left held false (rw none (refl, Keeps-refl held, refl)))
           ];
       found = so_far.found;
       begun = so_far.begun held (begun_none seen.selected rest left held held (Keeps-refl held));
@@ -177,10 +158,7 @@ module _ {S : Type 0} (work : FileWork S) (shown : Shown) where
 module _ {X : Type 0} (f : X → List ℕ) where
   pub names_cut : (names : List X) (first d : X) (name : List ℕ) → 0 < length names → first ≡ get_or names 0 d → name ≡ f first
       → map f names ≡ name ∷ map f (take (length names - 1) (drop 1 names))
-  names_cut [] first d name some is same = absurd (omega (arith, some))
-  names_cut (other ∷ names) first d name some is same =
-      ap (λ (x : X). f x ∷ map f names) (sym is) ∙ ap (λ (n : List ℕ). n ∷ map f names) (sym same)
-      ∙ ap (λ (l : List X). name ∷ map f l) (sym (take_all (length (other ∷ names) - 1) names (omega arith)))
+  names_cut names first d name some is same = grind (arith, common_steps)
 
 -- where no name is left, none of their bytes are
 pub ends_by : {Z : Type 0} (rest : List (Vec ℕ Z)) (seen : Seen) → (rest ≡ []) ⊎ (seen.ended ≡ true) → (listed_bytes rest ≡ []) ⊎ (seen.ended ≡ true)

@@ -6,13 +6,11 @@ pub mod BinaryLines
 pub mod BinaryTold
 pub mod Bools
 pub mod Choosing
-pub mod ColorParts
 pub mod Coloring
 pub mod Digits
 pub mod FileTellings
 pub mod FilesBegun
 pub mod FilesMarked
-pub mod Fillings
 pub mod FirstLines
 pub mod FolderTexts
 pub mod FormatTexts
@@ -24,24 +22,16 @@ pub mod HeldLines
 pub mod InTurn
 pub mod Kept
 pub mod LineLists
-pub mod LongNames
 pub mod MarkedLines
-pub mod MarksKept
 pub mod MarksTold
-pub mod Mistaken
-pub mod NamesMarked
 pub mod NamesSearched
-pub mod NoneAround
 pub mod NoneInLines
 pub mod Numbers
 pub mod OrCounted
 pub mod PlacesBehind
-pub mod PlainWords
 pub mod Reaching
 pub mod RuleTexts
-pub mod RuledCalls
 pub mod RulesGiven
-pub mod Statuses
 pub mod Stepped
 pub mod Streams
 pub mod StreamsBegun
@@ -50,8 +40,6 @@ pub mod Tellings
 pub mod TextAlone
 mod Told
 pub mod Unfitting
-pub mod Unselected
 pub mod Walked
 pub mod Walking
-pub mod Whole
 pub mod WordLists

@@ -1,18 +1,19 @@
 -- The lines of a text that is cut, and patterns that occur in none of them.
-use Rattle.std.proofs.Common.{◌≡◌, inl, inr, ℕ, suc, ◌+◌, ◌-◌, ◌≤◌, ◌<◌, ◌==◌, true, List, [], ◌∷◌, ◌++◌, length, take, drop, refl, sym, ◌∙◌, ap, subst, arith, take-append-drop}
-use Rattle.std.specs.Prelude.{slice_range}
+use Rattle.std.proofs.Common.{◌++◌, ◌+◌, ◌-◌, ◌<◌, ◌==◌, ◌∙◌, ◌∷◌, ◌≡◌, ◌≤◌, List, [], ap, arith, drop, inl, inr, length, refl, subst, suc, sym, take, take-append-drop, true, ℕ}
 use Rattle.std.proofs.lemmas.Bool.{cases_Bool, cases_lt}
-use Rattle.std.proofs.lemmas.List.{length-take-le, length-drop, drop-drop, take_all}
+use Rattle.std.proofs.lemmas.Grind.{common_steps}
+use Rattle.std.proofs.lemmas.List.{drop-drop, length-drop, length-take-le, take_all}
+use Rattle.std.specs.Prelude.{slice_range}
+use Rattle.aho_core.specs.Bytes.{IsSameWord}
 use Rattle.aho_core.specs.Occurrence.{Occurrence}
 use Rattle.aho_core.specs.Occurs.{Occurs, OccursIn}
-use Rattle.aho_core.specs.Bytes.{IsSameWord}
 use Rattle.aho_core.specs.Patterns.{Patterns, pattern_at}
 use Rattle.aho_core.specs.Search.{plain_search}
 use Rattle.aho_core.specs.declared.search.Anchored.TheVariants.{No}
 use Rattle.aho_core.specs.declared.search.Span.{Span}
-use Rattle.aho_laws.specs.CutLaws.{moved}
 use Rattle.aho_laws.proofs.ClearCuts.{Occurs-in}
 use Rattle.aho_laws.proofs.SpanTexts.{Occurs-moved, Occurs-moved_back, length_part, moved-zero, moved_back}
+use Rattle.aho_laws.specs.CutLaws.{moved}
 use Rattle.acgrep.specs.Lines.{EndsLine, IsEnding, joined_to, lines}
 use Rattle.acgrep.specs.Selected.{HoldNoEnding, IsFirstWith}
 use Rattle.acgrep.specs.Written.{EachLine, HasMatch, HasNone}
@@ -20,19 +21,15 @@ use Rattle.acgrep.proofs.Around.{behind_newline, ends_before, front_newline, new
 use Rattle.acgrep.proofs.FirstLines.{lines_first, lines_joined}
 
 pub drop_zero : (xs : List ℕ) → drop 0 xs ≡ xs
-drop_zero [] = refl
-drop_zero (x ∷ xs) = refl
+drop_zero _ = refl
 
 pub take_zero : (xs : List ℕ) → take 0 xs ≡ []
-take_zero [] = refl
-take_zero (x ∷ xs) = refl
+take_zero _ = refl
 
 module _ (ending : ℕ) where
   -- a text of one byte that ends a line is a newline
   pub ends_one : (byte : ℕ) → EndsLine ending (byte ∷ []) → (byte == ending) ≡ true
-  ends_one byte ends =
-      let last : length (byte ∷ []) - 1 ≡ 0 = omega arith in
-      subst (λ (n : ℕ). IsEnding ending (byte ∷ []) n) last (ends (omega arith))
+  ends_one byte ends = grind (arith, common_steps)
 
   -- and a longer one ends as it does without its first byte
   pub ends_tail : (byte next : ℕ) (rest : List ℕ) → EndsLine ending (byte ∷ next ∷ rest) → EndsLine ending (next ∷ rest)
@@ -101,9 +98,7 @@ module _ (ending : ℕ) where
 
     none_rest : (byte : ℕ) (rest : List ℕ) → HasNone p (byte ∷ rest) → HasNone p rest
     none_rest byte rest none =
-        let size : length rest ≤ suc (length rest) - 1 = omega arith in
-        let same : slice_range (byte ∷ rest) 1 (suc (length rest)) ≡ rest = ap (take (suc (length rest) - 1)) (drop_zero rest) ∙ take_all (suc (length rest) - 1) rest size in
-        subst (HasNone p) same (none_part (byte ∷ rest) 1 (suc (length rest)) (omega arith) (omega arith) none)
+        subst (HasNone p) (ap (take (suc (length rest) - 1)) (drop_zero rest) ∙ take_all (suc (length rest) - 1) rest (omega arith)) (none_part (byte ∷ rest) 1 (suc (length rest)) (omega arith) (omega arith) none)
 
     -- nor in a line of it
     pub none_in_lines : (text : List ℕ) → HasNone p text → EachLine (HasNone p) (lines ending text)
@@ -119,9 +114,7 @@ module _ (ending : ℕ) where
           | inl is ↦ rw is (none_front (byte ∷ next ∷ rest) 0 (omega arith) none, IH)
           | inr other ↦
               let (end, others, within, same) = first_line rest next in
-              let behind : EachLine (HasNone p) (take end (next ∷ rest) ∷ others) = subst (EachLine (HasNone p)) same IH in
-              subst (EachLine (HasNone p)) (sym (lines_joined ending byte (next ∷ rest) other ∙ ap (joined_to byte) same))
-              (none_front (byte ∷ next ∷ rest) (suc end) (omega (arith, within)) none, behind.1)
+              rw (lines_joined ending byte (next ∷ rest) other ∙ ap (joined_to byte) same) (none_front (byte ∷ next ∷ rest) (suc end) (omega (arith, within)) none, (rw same at IH).1)
         ]
 
     -- what occurs in a range of a text occurs in the range's bytes
@@ -130,8 +123,7 @@ module _ (ending : ℕ) where
         let long : length (slice_range text start end) ≡ end - start = length_part text start end within in
         let low : start + 0 ≡ start = omega arith in
         let high : start + length (slice_range text start end) ≡ end = omega (arith, long, ordered) in
-        let here : Occurs p No text (start + 0) (start + length (slice_range text start end)) m =
-        subst (λ (n : ℕ). Occurs p No text n (start + length (slice_range text start end)) m) (sym low) (subst (λ (n : ℕ). Occurs p No text start n m) (sym high) occurs) in
+        let here : Occurs p No text (start + 0) (start + length (slice_range text start end)) m = rw low (rw high occurs) in
         (moved_back start m, Occurs-moved_back p text start end 0 (length (slice_range text start end)) m (omega (arith, high)) here)
 
     module _ (plain : HoldNoEnding ending p) (text : List ℕ) (line : Span) (first : IsFirstWith p ending text line) where
@@ -220,5 +212,4 @@ module _ (ending : ℕ) where
   pub ends_drop : (text : List ℕ) (at : ℕ) → EndsLine ending text → EndsLine ending (drop at text)
   ends_drop text at ends some =
       let long : length (drop at text) ≡ length text - at = length-drop at text in
-      let place : at + (length (drop at text) - 1) ≡ length text - 1 = omega (arith, long, some) in
-      behind_newline ending text at (length (drop at text) - 1) (subst (IsEnding ending text) (sym place) (ends (omega (arith, long, some))))
+      behind_newline ending text at (length (drop at text) - 1) (subst (IsEnding ending text) (sym (omega (arith, long, some))) (ends (omega (arith, long, some))))

@@ -1,14 +1,15 @@
 -- What is written of lines, one after another, by what a visitor of them leaves.
-use Rattle.std.proofs.Common.{◌≡◌, inl, inr, ℕ, zero, suc, List, [], ◌∷◌, ◌++◌, true, false, length, take, refl, sym, ap, subst, ◌∙◌, append_assoc, append-nil, arith}
-use Rattle.std.specs.Prelude.{Bool, Result, Ok, Err}
+use Rattle.std.proofs.Common.{◌++◌, ◌∙◌, ◌∷◌, ◌≡◌, Bool, List, [], ap, append-nil, append_assoc, arith, drop, false, inl, inr, length, refl, subst, suc, sym, take, take-append-drop, true, ℕ}
+use Rattle.std.proofs.KnownBytes.{Appends-nil, Appends-trans}
 use Rattle.std.specs.Borrow.{MutBor}
 use Rattle.std.specs.Io.{StartsWith}
 use Rattle.std.specs.Io.KnownBytes.{Appends}
-use Rattle.std.proofs.KnownBytes.{Appends-nil, Appends-trans}
+use Rattle.std.specs.Prelude.{Err, Ok, Result}
 use Rattle.aho_core.specs.Occurrence.{Occurrence}
 use Rattle.aho_core.specs.Patterns.{Patterns}
 use Rattle.aho_core.specs.declared.error.stream.StreamError.{StreamError}
 use Rattle.aho_core.specs.declared.search.MatchKind.TheVariants.{Standard}
+use Rattle.aho_cover.proofs.Copied.{begins_with}
 use Rattle.aho_devices.specs.declared.device.Sink.{Ghosts as SinkGhosts}
 use Rattle.aho_devices.specs.declared.device.Source.{Ghosts as SourceGhosts}
 use Rattle.secret_rules.specs.Covering.{AreLineRuns, Covering, covering_by, seen_line}
@@ -24,14 +25,10 @@ use Rattle.acgrep.specs.declared.marked.Task.{Task}
 
 -- a text starts with itself, and with its first bytes
 pub starts_taken : (text : List ℕ) (count : ℕ) → StartsWith text (take count text)
-starts_taken [] zero = refl
-starts_taken [] (suc count) = refl
-starts_taken (byte ∷ text) zero = refl
-starts_taken (byte ∷ text) (suc count) = ap (λ l. byte ∷ l) (starts_taken text count)
+starts_taken text count = subst (λ (all : List ℕ). StartsWith all (take count text)) (take-append-drop count text) (begins_with (take count text) (drop count text))
 
 pub starts_all : (text : List ℕ) → StartsWith text text
-starts_all [] = refl
-starts_all (byte ∷ text) = ap (λ l. byte ∷ l) (starts_all text)
+starts_all text = subst (λ (all : List ℕ). StartsWith all text) (append-nil text) (begins_with text [])
 
 starts_behind : (front all first : List ℕ) → StartsWith all first → StartsWith (front ++ all) (front ++ first)
 starts_behind [] all first is = is
@@ -41,10 +38,9 @@ starts_behind (byte ∷ front) all first is = ap (λ l. byte ∷ l) (starts_behi
 runs_front : (covering : Covering) (before : List (List ℕ)) (first : List Line) (line : Line) (more : List (List Occurrence)) (own : List Occurrence) → AreLineRuns covering before (first ++ line ∷ []) (more ++ own ∷ [])
     → length first ≡ length more → AreLineRuns covering before first more
 runs_front covering before [] line [] own are same = tt
-runs_front covering before [] line (runs ∷ more) own are same = absurd (omega (arith, same))
-runs_front covering before (one ∷ first) line [] own are same = absurd (omega (arith, same))
 runs_front covering before (one ∷ first) line (runs ∷ more) own are same =
     (are.0, runs_front covering (before ++ seen_line covering.most one.bytes ∷ []) first line more own are.1 (omega (arith, same)))
+runs_front covering before _ line _ own are same = absurd (omega (arith, same))
 
 -- lines without the last are first lines too
 first_front : (first : List Line) (line : Line) (all : List Line) → AreFirstLines (first ++ line ∷ []) all → AreFirstLines first all
@@ -58,19 +54,17 @@ lines_append most (one ∷ first) line = ap (λ l. seen_line most one.bytes ∷ 
 marked_append : (asked : FileAsked) (pass : Pass) (first : List (List ℕ)) (line : List ℕ) (more : List (List Occurrence)) (own : List Occurrence) → length first ≡ length more
     → marked_lines asked pass (first ++ line ∷ []) (more ++ own ∷ []) ≡ marked_lines asked pass first more ++ marked_line asked (pass_after pass first more).place line own
 marked_append asked pass [] line [] own same = append-nil (marked_line asked pass.place line own)
-marked_append asked pass [] line (runs ∷ more) own same = absurd (omega (arith, same))
-marked_append asked pass (one ∷ first) line [] own same = absurd (omega (arith, same))
 marked_append asked pass (one ∷ first) line (runs ∷ more) own same =
     let next = pass_behind pass one runs in
     ap (λ l. marked_line asked pass.place one runs ++ l) (marked_append asked next first line more own (omega (arith, same)))
     ∙ sym (append_assoc (marked_line asked pass.place one runs) (marked_lines asked next first more) (marked_line asked (pass_after next first more).place line own))
+marked_append asked pass _ line _ own same = absurd (omega (arith, same))
 
 after_append : (pass : Pass) (first : List (List ℕ)) (line : List ℕ) (more : List (List Occurrence)) (own : List Occurrence) → length first ≡ length more
     → pass_after pass (first ++ line ∷ []) (more ++ own ∷ []) ≡ pass_behind (pass_after pass first more) line own
 after_append pass [] line [] own same = refl
-after_append pass [] line (runs ∷ more) own same = absurd (omega (arith, same))
-after_append pass (one ∷ first) line [] own same = absurd (omega (arith, same))
 after_append pass (one ∷ first) line (runs ∷ more) own same = after_append (pass_behind pass one runs) first line more own (omega (arith, same))
+after_append pass _ line _ own same = absurd (omega (arith, same))
 
 seen_length : (most : ℕ) (lines : List Line) → length (seen_lines most lines) ≡ length lines
 seen_length most [] = refl
@@ -96,8 +90,6 @@ module _ {V W : Type 0} (L : VisitorGhosts V) (K : SinkGhosts W) (most : ℕ) (o
     written = subst (λ (v : V). Appends (K.taken (output_of visitor).now) (K.taken (output_of v).now) []) (sym is) (Appends-nil (K.taken (output_of visitor).now));
     comes = ap pass_in is;
   }
-  each_written visitor visitor' [] (own ∷ runs) is = absurd is
-  each_written visitor visitor' (line ∷ lines) [] is = absurd is
   each_written visitor visitor' (line ∷ lines) (own ∷ runs) (next, visits, rest) =
       let one = writes visitor next (taken_line most line) own visits in
       let later = each_written next visitor' lines runs rest in
@@ -114,6 +106,7 @@ module _ {V W : Type 0} (L : VisitorGhosts V) (K : SinkGhosts W) (most : ℕ) (o
             (marked_line asked (pass_in visitor).place (seen_line most line.bytes) own) (marked_lines asked behind seen runs) one.written more;
         comes = later.comes ∙ ap (λ (p : Pass). pass_after p seen runs) one.behind;
       }
+  each_written visitor visitor' _ _ is = absurd is
 
   -- some lines were taken whole, and a beginning of what is asked of some was written
   record StopsEach (covering : Covering) (visitor visitor' : V) (lines : List Line) (runs : List (List Occurrence)) : Type 0 where
@@ -176,8 +169,8 @@ module _ {V W : Type 0} (L : VisitorGhosts V) (K : SinkGhosts W) (most : ℕ) (o
           | inl kept ↦ record {
             same = stop_last.same ∙ each_first.same;
             part = front ++ take count rest;
-            begins = subst (λ l. StartsWith l (front ++ take count rest)) (sym all_is) (starts_behind front rest (take count rest) (starts_taken rest count));
-            written = Appends-trans (K.taken (output_of visitor).now) (K.taken (output_of between).now) (K.taken (output_of visitor').now) front (take count rest) each_first.written stop_last.begun.2;
+            begins = subst (λ l. StartsWith l (front ++ take count rest)) (sym all_is) (starts_behind _ rest (take count rest) (starts_taken rest _));
+            written = Appends-trans _ _ _ _ (take count rest) each_first.written stop_last.begun.2;
             passed = first;
             own = more;
             are = λ are. runs_front covering [] first line more own are each_first.as_many;
@@ -187,14 +180,13 @@ module _ {V W : Type 0} (L : VisitorGhosts V) (K : SinkGhosts W) (most : ℕ) (o
           | inr moved ↦ record {
             same = stop_last.same ∙ each_first.same;
             part = front ++ take count rest;
-            begins = subst (λ l. StartsWith l (front ++ take count rest)) (sym all_is) (starts_behind front rest (take count rest) (starts_taken rest count));
-            written = Appends-trans (K.taken (output_of visitor).now) (K.taken (output_of between).now) (K.taken (output_of visitor').now) front (take count rest) each_first.written stop_last.begun.2;
+            begins = subst (λ l. StartsWith l (front ++ take count rest)) (sym all_is) (starts_behind _ rest (take count rest) (starts_taken rest _));
+            written = Appends-trans _ _ _ _ (take count rest) each_first.written stop_last.begun.2;
             passed = first ++ line ∷ [];
             own = more ++ own ∷ [];
             are = λ are. are;
             first = λ all is. is;
-            comes = moved.0 ∙ ap (λ (p : Pass). pass_behind p seen_last own) each_first.comes
-                ∙ sym (after_append (pass_in visitor) (seen_lines most first) seen_last more own as_many)
+            comes = moved.0 ∙ ap (λ (p : Pass). pass_behind p seen_last own) each_first.comes ∙ sym (after_append _ _ seen_last more own as_many)
                 ∙ ap (λ (l : List (List ℕ)). pass_after (pass_in visitor) l (more ++ own ∷ [])) (sym (lines_append most first line));
           }
         ]
@@ -202,9 +194,7 @@ module _ {V W : Type 0} (L : VisitorGhosts V) (K : SinkGhosts W) (most : ℕ) (o
   stops_within : (covering : Covering) (visitor visitor' : V) (lines : List Line) (runs : List (List Occurrence)) (error : LineError) → StopsWithin L most visitor visitor' lines runs error → StopsEach covering visitor visitor' lines runs
   stops_within covering visitor visitor' lines runs error (inl is) = stops_whole covering visitor visitor' lines runs is.0
   stops_within covering visitor visitor' lines runs error (inr last) =
-      subst (λ (r : List (List Occurrence)). StopsEach covering visitor visitor' lines r) (sym last.runs_are)
-      (subst (λ (l : List Line). StopsEach covering visitor visitor' l (last.more ++ last.own ∷ [])) (sym last.lines_are)
-      (stops_at_last covering visitor visitor' last.first last.line last.more last.own last.between last.cause last.visits last.stops))
+      rw last.runs_are (rw last.lines_are (stops_at_last covering visitor visitor' last.first last.line last.more last.own last.between last.cause last.visits last.stops))
 
   module _ {R : Type 0} (S : SourceGhosts R) (Searched : Patterns → Type 0) (words : Bool) (rules : List Rule) (p : Patterns) (sought : Searched p) (source source' : R) (visitor visitor' : V) where
     lines_ended : VisitsLines S L Searched words rules most source source' visitor visitor'

@@ -1,11 +1,11 @@
 -- What is told of files whose lines rules mark.
-use Rattle.std.proofs.Common.{◌≡◌, ◌<◌, inl, inr, ℕ, Bool, true, false, List, [], ◌∷◌, refl, sym, ap, subst, length, arith}
-use Rattle.std.specs.Prelude.{◌==◌, if◌then◌else◌}
+use Rattle.std.proofs.Common.{◌<◌, ◌==◌, ◌∷◌, ◌≡◌, Bool, List, [], ap, arith, false, inl, inr, length, refl, subst, sym, true, ℕ}
 use Rattle.std.proofs.lemmas.List.Elements.{All-nil}
+use Rattle.std.specs.Prelude.{if◌then◌else◌}
 use Rattle.aho_devices.specs.declared.device.Sink.{Ghosts as SinkGhosts}
+use Rattle.tool_parts.proofs.Lines.{some-one, some-tells, some-then, some-weaker, tells-then, tells-weaker}
 use Rattle.tool_parts.specs.Telling.{Tells, TellsBytes, TellsSome}
 use Rattle.tool_parts.specs.declared.errors.Errors.{Errors}
-use Rattle.tool_parts.proofs.Lines.{some-one, some-tells, some-then, some-weaker, tells-then, tells-weaker}
 use Rattle.acgrep.specs.Arguments.{shown_by}
 use Rattle.acgrep.specs.Reached.{TellsMissed}
 use Rattle.acgrep.specs.Runs.{status_reached}
@@ -13,7 +13,7 @@ use Rattle.acgrep.specs.RunsByRules.{long_message, unwritten_line}
 use Rattle.acgrep.specs.Told.{IsMessage, TellsOfEnd, TellsOfOutcome, TellsOutcome, TellsStatus}
 use Rattle.acgrep.specs.ToldByRules.{IsMarkTold}
 use Rattle.acgrep.specs.declared.files.Outcome.{Outcome}
-use Rattle.acgrep.specs.declared.files.Outcome.TheVariants.{Searched, Unread, Stopped}
+use Rattle.acgrep.specs.declared.files.Outcome.TheVariants.{Stopped, Unread}
 use Rattle.acgrep.specs.declared.options.Flags.{Flags}
 use Rattle.acgrep.specs.declared.options.Shown.{Shown}
 use Rattle.acgrep.specs.declared.options.Shown.TheVariants.{Nothing}
@@ -25,10 +25,9 @@ module _ {E : Type 0} (K : SinkGhosts E) where
   some-told names old new told = some-weaker K (IsMessage names) IsMarkTold old new (λ line is. inl (names, is)) told
 
   outcome-by : (names : List (List ℕ)) (hushed : Bool) (outcome : Outcome) (old new : Errors E) → TellsOutcome K (IsMessage names) hushed outcome old new → TellsOutcome K IsMarkTold hushed outcome old new
-  outcome-by names hushed (Searched any) old new told = told
-  outcome-by names true Unread old new told = told
   outcome-by names false Unread old new told = some-told names old new told
   outcome-by names hushed Stopped old new told = some-told names old new told
+  outcome-by names _ _ old new told = told
 
   pub outcome-told : (hushed : Bool) (name : List ℕ) (outcome : Outcome) (old new : Errors E) → TellsOfOutcome K hushed name outcome old new → TellsOutcome K IsMarkTold hushed outcome old new
   outcome-told hushed name outcome old new told = outcome-by (name ∷ []) hushed outcome old new (told (name ∷ []) (λ asked. inl refl))

@@ -1,12 +1,12 @@
 -- What the file of a name has that was searched.
-use Rattle.std.proofs.Common.{◌≡◌, ℕ, Bool, true, false, List, Option, refl, sym, ap, subst}
+use Rattle.std.proofs.Common.{◌≡◌, Bool, List, Option, ap, false, refl, subst, sym, true, ℕ}
 use Rattle.aho_core.specs.Patterns.{Patterns}
 use Rattle.tool_parts.specs.Names.{is_input}
 use Rattle.acgrep.specs.Binary.{is_guarded, lines_sought}
 use Rattle.acgrep.specs.Files.{HasSelected, SearchesName, known_of}
 use Rattle.acgrep.specs.Written.{IsSelected, SomeLine}
 use Rattle.acgrep.specs.declared.options.Fit.{Fit}
-use Rattle.acgrep.specs.declared.select.Job.{Job}
+use Rattle.acgrep.specs.declared.job.Job.{Job}
 use Rattle.acgrep.proofs.BinaryTold.{either_some}
 
 -- a selected line, where the same lines are searched

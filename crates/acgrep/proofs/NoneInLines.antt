@@ -1,9 +1,9 @@
 -- What occurs in no line of a text does not occur in it.
-use Rattle.std.proofs.Common.{◌≡◌, inl, inr, ℕ, suc, zero, ◌+◌, ◌-◌, ◌≤◌, ◌<◌, ◌==◌, false, List, [], ◌∷◌, length, take, drop, sym, ◌∙◌, ap, subst, arith}
-use Rattle.std.specs.Prelude.{slice_range}
+use Rattle.std.proofs.Common.{◌+◌, ◌-◌, ◌<◌, ◌==◌, ◌∙◌, ◌∷◌, ◌≡◌, ◌≤◌, List, [], ap, arith, drop, false, inl, inr, length, subst, suc, sym, take, zero, ℕ}
 use Rattle.std.proofs.lemmas.Bool.{cases_Bool, cases_lt, true≢false}
-use Rattle.std.proofs.lemmas.List.{length-drop, length-take-le, take_all}
-use Rattle.memchr.specs.Find.{Nowhere}
+use Rattle.std.proofs.lemmas.Grind.{common_steps}
+use Rattle.std.proofs.lemmas.List.{length-drop, length-take-le}
+use Rattle.std.specs.Prelude.{slice_range}
 use Rattle.aho_core.specs.Bytes.{IsSameWord}
 use Rattle.aho_core.specs.Occurrence.{Occurrence}
 use Rattle.aho_core.specs.Occurs.{Occurs, OccursIn}
@@ -12,22 +12,19 @@ use Rattle.aho_core.specs.Search.{plain_search}
 use Rattle.aho_core.specs.declared.search.Anchored.TheVariants.{No}
 use Rattle.aho_laws.proofs.ClearCuts.{Occurs-in}
 use Rattle.aho_laws.proofs.SpanTexts.{Occurs-moved_back, moved_back}
+use Rattle.memchr.specs.Find.{Nowhere}
 use Rattle.acgrep.specs.Lines.{IsEnding, lines}
 use Rattle.acgrep.specs.Selected.{HoldNoEnding}
 use Rattle.acgrep.specs.Written.{EachLine, HasNone}
 use Rattle.acgrep.proofs.Around.{ends_before}
 use Rattle.acgrep.proofs.FirstLines.{lines_first}
-use Rattle.acgrep.proofs.LineLists.{drop_zero, take_zero}
+use Rattle.acgrep.proofs.LineLists.{take_zero}
 
 slice_front : (text : List ℕ) (end : ℕ) → slice_range text 0 end ≡ take end text
-slice_front text end =
-    let count : end - 0 ≡ end = omega arith in
-    ap (λ (n : ℕ). take n (drop 0 text)) count ∙ ap (take end) (drop_zero text)
+slice_front text end = grind (arith, common_steps)
 
 pub slice_back : (text : List ℕ) (at : ℕ) → slice_range text at (length text) ≡ drop at text
-slice_back text at =
-    let short : length (drop at text) ≤ length text - at = omega (arith, length-drop at text) in
-    take_all (length text - at) (drop at text) short
+slice_back text at = grind (arith, common_steps)
 
 module _ (ending : ℕ) where
   -- where the first line of a text ends
@@ -84,8 +81,7 @@ module _ (ending : ℕ) where
           | inr low ↦ none (moved_back 0 m) (in_front text first.end m first.within (ends_before ending p plain text first.end m occurs low first.newline) occurs)
           | inl high ↦
               let at = suc first.end in
-              let within : at ≤ length text = omega (arith, high, full, occurs.before_end) in
-              none_full n (drop at text) (omega (arith, length-drop at text, short, some)) rest (moved_back at m) (in_back text at m within (omega (arith, high)) occurs)
+              none_full n (drop at text) (omega (arith, length-drop at text, short, some)) rest (moved_back at m) (in_back text at m (omega (arith, high, full, occurs.before_end)) (omega (arith, high)) occurs)
               (omega (arith, full, high))
         ]
 

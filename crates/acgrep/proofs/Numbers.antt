@@ -1,13 +1,13 @@
 -- What `parse` says of digits, by what they mean.
-use Rattle.std.proofs.Common.{◌≡◌, inl, inr, ℕ, ◌<◌, ◌^◌, true, List, Some, None, length, refl, ap}
-use Rattle.std.specs.Prelude.{◌≢◌, ⊤, Ok, Err, nat_lt}
-use Rattle.std.specs.Str.{IsUtf8, all_ascii_digits}
-use Rattle.std.specs.Str.Parse.{ParsesUnsigned, digits_value}
+use Rattle.std.proofs.Common.{◌<◌, ◌^◌, ◌≡◌, List, None, Some, ap, inl, inr, length, refl, true, ℕ}
 use Rattle.std.proofs.Math.ListN.{get_or}
 use Rattle.std.proofs.lemmas.Bool.{and_from, and_parts, cases_Bool, lt-ltb, ltb-true}
 use Rattle.std.proofs.lemmas.Fmt.{IsAscii-from_digits}
 use Rattle.std.proofs.lemmas.Str.{IsUtf8-from_ascii}
 use Rattle.std.proofs.lemmas.Str.Parse.{IsNumeralModel, numerals_by_value, parse_plain, tells_all_ascii_digits}
+use Rattle.std.specs.Prelude.{◌≢◌, Err, Ok, nat_lt, ⊤}
+use Rattle.std.specs.Str.{IsUtf8, all_ascii_digits}
+use Rattle.std.specs.Str.Parse.{ParsesUnsigned, digits_value}
 use Rattle.acgrep.specs.Arguments.{is_number, number_by}
 
 numerals : IsNumeralModel (λ ds. all_ascii_digits ds ≡ true) (digits_value 10)

@@ -1,7 +1,7 @@
 -- A search that is written, or whose matches are counted.
-use Rattle.std.proofs.Common.{◌≡◌, ◌<◌, ◌⊎◌, ◌∙◌, ◌++◌, inl, inr, ℕ, Bool, List, [], Option, Some, ap, sym, subst, arith}
-use Rattle.std.specs.Io.KnownBytes.{Keeps}
+use Rattle.std.proofs.Common.{◌++◌, ◌<◌, ◌∙◌, ◌≡◌, ◌⊎◌, Bool, List, Option, Some, [], arith, inl, inr, subst, sym, ℕ}
 use Rattle.std.proofs.KnownBytes.{Appends-kept, Appends-nil, Keeps-refl}
+use Rattle.std.specs.Io.KnownBytes.{Keeps}
 use Rattle.aho_devices.specs.Counts.{AppendsBeginning}
 use Rattle.aho_devices.specs.declared.device.Sink.{Ghosts as SinkGhosts}
 use Rattle.tool_parts.proofs.Beginnings.{beginning-kept}
@@ -40,10 +40,6 @@ module _ (flags : Flags) (patterns : List (List ℕ)) (P : (old new : Option (Li
 -- nothing is a beginning
 pub beginning-none : (held : Option (List ℕ)) (bytes : List ℕ) → AppendsBeginning held held bytes
 beginning-none held bytes = (0, omega arith, Appends-nil held)
-
--- what was put together behind nothing
-pub put-together : (before after bytes text : List ℕ) → before ≡ [] → after ≡ before ++ text → bytes ≡ after → bytes ≡ text
-put-together before after bytes text none put same = same ∙ put ∙ ap (λ (l : List ℕ). l ++ text) none
 
 -- a call of which it is known that no line is selected tells why it failed, if it did
 pub none-told : {E : Type 0} (K : SinkGhosts E) (May : List ℕ → Type 0) (hushed : Bool) (shown : Shown) (status : ℕ) (old new : Errors E) → (status ≡ 1) ⊎ (status ≡ 2)

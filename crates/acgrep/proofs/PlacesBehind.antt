@@ -1,13 +1,13 @@
 -- The place behind a text of whole lines.
-use Rattle.std.proofs.Common.{◌≡◌, ℕ, zero, suc, ◌+◌, ◌-◌, ◌%◌, ◌^◌, ◌<◌, ◌==◌, List, [], ◌∷◌, length, take, inl, inr, refl, sym, ◌∙◌, ap, arith}
-use Rattle.std.proofs.lemmas.Bool.{cases_Bool}
+use Rattle.std.proofs.Common.{◌%◌, ◌+◌, ◌-◌, ◌<◌, ◌==◌, ◌^◌, ◌∙◌, ◌∷◌, ◌≡◌, List, [], ap, arith, inl, inr, length, refl, suc, sym, zero, ℕ}
 use Rattle.std.proofs.Math.Nat.{mod-add-mod, mod-eq_of_lt, mod-lt}
+use Rattle.std.proofs.lemmas.Bool.{cases_Bool}
 use Rattle.std.specs.Prelude.{slice_index}
 use Rattle.memchr.specs.Find.{is_byte, places, places_from}
 use Rattle.acgrep.specs.Lines.{EndsLine, joined_to, lines}
 use Rattle.acgrep.specs.Written.{NumbersLines, SamePlace, after_line, after_lines}
 use Rattle.acgrep.specs.declared.print.Place.{Place}
-use Rattle.acgrep.specs.declared.select.Job.{Job}
+use Rattle.acgrep.specs.declared.job.Job.{Job}
 use Rattle.acgrep.proofs.FirstLines.{lines_joined}
 use Rattle.acgrep.proofs.LineLists.{ends_one, ends_tail, first_line}
 
@@ -22,9 +22,8 @@ module _ (ending : ℕ) where
   unfolding places_from
   places_more x hay zero i = refl
   places_more x hay (suc n) i =
-      let further : suc i + 1 ≡ suc (i + 1) = omega arith in
       let IH : length (places_from (is_byte ending) (x ∷ hay) (suc i + 1) n) ≡ length (places_from (is_byte ending) hay (i + 1) n) =
-      ap (λ (k : ℕ). length (places_from (is_byte ending) (x ∷ hay) k n)) further ∙ places_more x hay n (i + 1) in
+      ap (λ (k : ℕ). length (places_from (is_byte ending) (x ∷ hay) k n)) (omega arith) ∙ places_more x hay n (i + 1) in
       elim (cases_Bool (is_byte ending (slice_index hay i))) [
         | inl is ↦ rw is (ap suc IH)
         | inr not ↦ rw not IH
@@ -33,8 +32,7 @@ module _ (ending : ℕ) where
   places_first : (text : List ℕ) → EndsLine ending text → (length (places_from (is_byte ending) text 0 (length text)) ≡ length (lines ending text)) × (total (lines ending text) ≡ length text)
   unfolding places_from
   places_first [] ends = (refl, refl)
-  places_first (byte ∷ []) ends =
-      rw (ends_one ending byte ends) (refl, refl)
+  places_first (byte ∷ []) ends = rw (ends_one ending byte ends) (refl, refl)
   places_first (byte ∷ next ∷ rest) ends =
       let (count, size) = places_first (next ∷ rest) (ends_tail ending byte next rest ends) in
       let later : length (places_from (is_byte ending) (byte ∷ next ∷ rest) 1 (length (next ∷ rest))) ≡ length (lines ending (next ∷ rest)) =
@@ -42,32 +40,21 @@ module _ (ending : ℕ) where
       elim (cases_Bool (byte == ending)) [
         | inl is ↦ rw is (ap suc later, omega (arith, size))
         | inr other ↦
-            let (end, others, within, same) = first_line ending rest next in
-            let joined : lines ending (byte ∷ next ∷ rest) ≡ (byte ∷ take end (next ∷ rest)) ∷ others = lines_joined ending byte (next ∷ rest) other ∙ ap (joined_to byte) same in (
+            let (end, others, within, same) = first_line ending rest next in (
               rw other (later ∙ ap length same ∙ sym (ap (λ (l : List (List ℕ)). length (joined_to byte l)) same)),
-              ap total joined ∙ omega (arith, size, ap total same),
+              ap total (lines_joined ending byte (next ∷ rest) other ∙ ap (joined_to byte) same) ∙ omega (arith, size, ap total same),
             )
       ]
 
 lines_on : (ls : List (List ℕ)) (place : Place) → place.lines < 2 ^ 64 → (after_lines place ls).lines ≡ (place.lines + length ls) % 2 ^ 64
-lines_on [] place low =
-    let none : place.lines + 0 ≡ place.lines = omega arith in
-    sym (ap (λ (n : ℕ). n % 2 ^ 64) none ∙ mod-eq_of_lt low)
-lines_on (line ∷ rest) place low =
-    let all : place.lines + 1 + length rest ≡ place.lines + suc (length rest) = omega arith in
-    lines_on rest (after_line place line) (mod-lt (place.lines + 1) (omega arith))
-    ∙ mod-add-mod (place.lines + 1) (2 ^ 64) (length rest)
-    ∙ ap (λ (n : ℕ). n % 2 ^ 64) all
+lines_on [] place low = sym (ap (λ (n : ℕ). n % 2 ^ 64) (omega arith) ∙ mod-eq_of_lt low)
+lines_on (line ∷ rest) place low = lines_on rest (after_line place line) (mod-lt (place.lines + 1) (omega arith)) ∙ mod-add-mod (place.lines + 1) (2 ^ 64) (length rest)
+    ∙ ap (λ (n : ℕ). n % 2 ^ 64) (omega arith)
 
 bytes_on : (ls : List (List ℕ)) (place : Place) → place.bytes < 2 ^ 64 → (after_lines place ls).bytes ≡ (place.bytes + total ls) % 2 ^ 64
-bytes_on [] place low =
-    let none : place.bytes + 0 ≡ place.bytes = omega arith in
-    sym (ap (λ (n : ℕ). n % 2 ^ 64) none ∙ mod-eq_of_lt low)
-bytes_on (line ∷ rest) place low =
-    let all : place.bytes + (length line + 1) + total rest ≡ place.bytes + (length line + 1 + total rest) = omega arith in
-    bytes_on rest (after_line place line) (mod-lt (place.bytes + (length line + 1)) (omega arith))
-    ∙ mod-add-mod (place.bytes + (length line + 1)) (2 ^ 64) (total rest)
-    ∙ ap (λ (n : ℕ). n % 2 ^ 64) all
+bytes_on [] place low = sym (ap (λ (n : ℕ). n % 2 ^ 64) (omega arith) ∙ mod-eq_of_lt low)
+bytes_on (line ∷ rest) place low = bytes_on rest (after_line place line) (mod-lt (place.bytes + (length line + 1)) (omega arith))
+    ∙ mod-add-mod (place.bytes + (length line + 1)) (2 ^ 64) (total rest) ∙ ap (λ (n : ℕ). n % 2 ^ 64) (omega arith)
 
 pub place_behind : (job : Job) (before after : Place) (text : List ℕ) → before.lines < 2 ^ 64 → before.bytes < 2 ^ 64
     → (NumbersLines job → after.lines ≡ (before.lines + length (places (is_byte job.style.ending) text)) % 2 ^ 64) → after.bytes ≡ (before.bytes + length text) % 2 ^ 64

@@ -1,12 +1,13 @@
 -- What may be told of the files that operands name.
-use Rattle.std.proofs.Common.{◌≡◌, inl, inr, ℕ, ◌<◌, ◌≤◌, Bool, true, false, List, [], ◌∷◌, ◌++◌, length, ap, refl, subst, sym, arith}
-use Rattle.std.specs.Prelude.{◌&&◌, ◌==◌, if◌then◌else◌}
-use Rattle.std.proofs.lemmas.Bool.{and_parts, cases_Bool}
+use Rattle.std.proofs.Common.{◌++◌, ◌<◌, ◌==◌, ◌∷◌, ◌≡◌, ◌≤◌, Bool, List, [], ap, arith, false, inl, inr, length, refl, subst, sym, true, ℕ}
+use Rattle.std.proofs.lemmas.Bool.{cases_Bool}
+use Rattle.std.proofs.lemmas.Grind.{common_steps}
+use Rattle.std.specs.Prelude.{◌&&◌, if◌then◌else◌}
 use Rattle.aho_devices.specs.declared.device.Sink.{Ghosts as SinkGhosts}
+use Rattle.tool_parts.proofs.Lines.{some-tells, some-then, some-weaker, tells-none, tells-then, tells-weaker, then-some}
 use Rattle.tool_parts.specs.Names.{IsOneOf, or_input}
 use Rattle.tool_parts.specs.Telling.{Tells, TellsSome}
 use Rattle.tool_parts.specs.declared.errors.Errors.{Errors}
-use Rattle.tool_parts.proofs.Lines.{some-tells, some-then, some-weaker, then-some, tells-none, tells-then, tells-weaker}
 use Rattle.acgrep.specs.Arguments.{Origin, Said, shown_by}
 use Rattle.acgrep.specs.Folders.{Tree}
 use Rattle.acgrep.specs.Reached.{TellsMissed}
@@ -28,9 +29,8 @@ some-sources K tree given sources names old new told = some-weaker K (IsMessage 
 
 pub sources-told : {E : Type 0} (K : SinkGhosts E) (tree : Tree) (given : Said) (sources : List Origin) (names : List (List ℕ)) (old mid new : Errors E) → mid ≡ old
     → TellsSome K (IsMessage (source_names sources)) mid new → TellsStatus K (MaySay tree given sources names) given.flags.no_messages (shown_by given.flags) 2 old new
-sources-told K tree given sources names old mid new silent told =
-    status-some K (MaySay tree given sources names) given.flags.no_messages (shown_by given.flags) old new
-    (subst (λ (e : Errors _). TellsSome K (MaySay tree given sources names) e new) silent (some-sources K tree given sources names mid new told))
+sources-told K tree given sources names old mid new silent told = status-some K (MaySay tree given sources names) given.flags.no_messages (shown_by given.flags) old new
+    (rw silent at (some-sources K tree given sources names mid new told))
 
 -- and what may be told of its files
 pub may-behind : (tree : Tree) (given : Said) (sources : List Origin) (names : List (List ℕ)) (line : List ℕ) → MaySay tree given [] names line → MaySay tree given sources names line
@@ -41,25 +41,14 @@ may-behind tree given sources names line (inr reached) = inr reached
 
 -- a status that tells of no error is that of the search
 pub reached-low : (flags : Flags) (unread : List (List ℕ)) (found : ℕ) → status_reached flags unread found < 2 → found < 2
-reached-low flags [] found low = low
-reached-low flags (name ∷ names) found low = elim (cases_Bool (flags.quiet && (found == 0))) [
-  | inl enough ↦ rw enough at low
-  | inr not ↦ let two = rw not at low in absurd (omega (arith, two))
-]
+reached-low flags unread found low = grind (arith, common_steps)
 
 pub reached-bound : (flags : Flags) (unread : List (List ℕ)) (found : ℕ) → found ≤ 2 → status_reached flags unread found ≤ 2
-reached-bound flags [] found bound = bound
-reached-bound flags (name ∷ names) found bound = elim (cases_Bool (flags.quiet && (found == 0))) [
-  | inl enough ↦ rw enough bound
-  | inr not ↦ rw not (omega arith)
-]
+reached-bound flags unread found bound = grind (arith, common_steps)
 
 -- where something cannot be read it is one under `-q` alone
 pub reached-quiet : (flags : Flags) (name : List ℕ) (names : List (List ℕ)) (found : ℕ) → status_reached flags (name ∷ names) found < 2 → flags.quiet ≡ true
-reached-quiet flags name names found low = elim (cases_Bool (flags.quiet && (found == 0))) [
-  | inl enough ↦ (and_parts flags.quiet (found == 0) enough).0
-  | inr not ↦ let two = rw not at low in absurd (omega (arith, two))
-]
+reached-quiet flags name names found low = grind (arith, common_steps)
 
 pub shown-quiet : (flags : Flags) → flags.quiet ≡ true → shown_by flags ≡ Nothing
 shown-quiet flags quiet = rw quiet refl
@@ -151,8 +140,4 @@ module _ {E : Type 0} (K : SinkGhosts E) (all : List (List ℕ)) where
   }
 
   pub told-hushed : (e : Errors E) → TellsMissed K true all e e
-  told-hushed e = record {
-    tells = tells-none K (IsMessage all) e;
-    none = λ which. refl;
-    some = λ asked. absurd (cc);
-  }
+  told-hushed e = record { tells = tells-none _ _ _; none = λ which. refl; some = λ asked. absurd (cc) }

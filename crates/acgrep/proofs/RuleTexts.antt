@@ -1,12 +1,12 @@
 -- The texts of the files of rules, one after another, and the rules that they hold.
-use Rattle.std.proofs.Common.{◌≡◌, inl, inr, ℕ, ◌-◌, ◌≤◌, ◌<◌, Bool, true, false, List, [], ◌∷◌, ◌++◌, Option, length, take, drop, refl, sym, ◌∙◌, ap, subst, arith, append-nil, append_assoc}
-use Rattle.std.specs.Prelude.{MatchBool}
+use Rattle.std.proofs.Common.{◌++◌, ◌-◌, ◌<◌, ◌∙◌, ◌∷◌, ◌≡◌, ◌≤◌, Bool, List, Option, [], ap, append-nil, append_assoc, arith, drop, false, inl, inr, length, refl, subst, sym, take, true, ℕ}
 use Rattle.std.proofs.Math.ListN.{get_or}
 use Rattle.std.proofs.lemmas.Bool.{cases_Bool}
 use Rattle.std.proofs.lemmas.List.{take_all}
+use Rattle.std.specs.Prelude.{MatchBool}
 use Rattle.tool_parts.specs.Names.{IsOneOf}
 use Rattle.acgrep.specs.Loading.{AreTexts, IsTextOfRule}
-use Rattle.acgrep.specs.Rules.{RuleSaid, expanded, is_from_file, is_space, glob_before, rule_before, rule_said, rules_by, rules_said, glob_of_line}
+use Rattle.acgrep.specs.Rules.{RuleSaid, expanded, glob_before, glob_of_line, is_from_file, is_space, rule_before, rule_said, rules_by, rules_said}
 use Rattle.acgrep.specs.Runs.{AreRules, AreRulesOf, IsTextOf}
 use Rattle.acgrep.specs.Told.{rule_files}
 use Rattle.acgrep.specs.declared.rules.Rule.{Rule}
@@ -18,28 +18,21 @@ module _ (holds : List ℕ → Option (List ℕ)) where
   rules_of_text rule left left' text is =
       elim (cases_Bool (is_from_file rule.sense)) [
         | inl file ↦
-            let read : IsTextOf holds rule.glob left left' text =
-            subst (λ (b : Bool). MatchBool b (IsTextOf holds rule.glob left left' text) ((left' ≡ left) × (text ≡ []))) file is in
-            rw file (record { text = text; is = read; are = refl })
+            rw file (record { text = text; is = subst (λ (b : Bool). MatchBool b (IsTextOf holds rule.glob left left' text) ((left' ≡ left) × (text ≡ []))) file is; are = refl })
         | inr glob ↦
-            let none : (left' ≡ left) × (text ≡ []) =
-            subst (λ (b : Bool). MatchBool b (IsTextOf holds rule.glob left left' text) ((left' ≡ left) × (text ≡ []))) glob is in
-            rw glob (none.0, refl)
+            rw glob ((subst (λ (b : Bool). MatchBool b (IsTextOf holds rule.glob left left' text) ((left' ≡ left) × (text ≡ []))) glob is).0, refl)
       ]
 
   -- and of all
   rules_of_texts : (rules : List RuleSaid) (left left' : Option (List ℕ)) (texts : List (List ℕ)) → AreTexts holds rules left left' texts → AreRules holds rules left left' (expanded rules texts)
   rules_of_texts [] left left' texts are = (are.0, refl)
   rules_of_texts (rule ∷ rules) left left' texts (between, text, others, cut, is, are) =
-      subst (λ (l : List (List ℕ)). AreRules holds (rule ∷ rules) left left' (expanded (rule ∷ rules) l)) (sym cut)
-      (between, rules_by rule text, expanded rules others, refl, rules_of_text rule left between text is, rules_of_texts rules between left' others are)
+      rw cut (between, rules_by rule text, expanded rules others, refl, rules_of_text rule left between text is, rules_of_texts rules between left' others are)
 
   -- texts that were read, and what was put together of them
   pub rules_read : (given slice all : List RuleSaid) (texts found : List (List ℕ)) (left left' : Option (List ℕ)) → slice ≡ given → found ≡ texts → AreTexts holds slice left left' texts
       → all ≡ expanded slice found → AreRules holds given left left' all
-  rules_read given slice all texts found left left' same alike are is =
-      subst (λ (l : List RuleSaid). AreRules holds l left left' all) same
-      (subst (AreRules holds slice left left') (ap (expanded slice) (sym alike) ∙ sym is) (rules_of_texts slice left left' texts are))
+  rules_read given slice all texts found left left' same alike are is = rw same at (rw (ap (expanded slice) (sym alike) ∙ sym is) at (rules_of_texts _ _ _ _ are))
 
   module _ (all : List RuleSaid) (begin : Option (List ℕ)) where
     -- the texts of the rules so far, and those that are to be read of the others, are those of all
@@ -59,8 +52,7 @@ module _ (holds : List ℕ → Option (List ℕ)) where
     texts_next [] other left left' old new some before added = absurd (omega (arith, some))
     texts_next (rule ∷ []) other left left' old new some before added = texts_more (rule_said rule) [] left left' old new before added
     texts_next (rule ∷ next ∷ rules) other left left' old new some before added =
-        subst (λ (l : List Rule). AreTextsWith (rules_said l) left' new) (sym (take_all (length (rule ∷ next ∷ rules) - 1) (next ∷ rules) (omega arith)))
-        (texts_more (rule_said rule) (rules_said (next ∷ rules)) left left' old new before added)
+        rw (take_all (length (rule ∷ next ∷ rules) - 1) (next ∷ rules) (omega arith)) (texts_more (rule_said rule) (rules_said (next ∷ rules)) left left' old new before added)
 
     pub texts_end : (rules : List Rule) (left : Option (List ℕ)) (texts : List (List ℕ)) → length rules ≡ 0 → AreTextsWith (rules_said rules) left texts → AreTexts holds all begin left texts
     texts_end [] left texts none before = subst (AreTexts holds all begin left) (append-nil texts) (before left [] (refl, refl))
@@ -87,9 +79,8 @@ pub rules_cut : (rules : List Rule) (other : Rule) (all : List (List ℕ)) → 0
     → (is_from_file (rule_said (get_or rules 0 other)).sense ≡ true → IsOneOf (rule_said (get_or rules 0 other)).glob all) × AreWithin (rule_files (rules_said (take (length rules - 1) (drop 1 rules)))) all
 rules_cut [] other all some within = absurd (omega (arith, some))
 rules_cut (rule ∷ rules) other all some within =
-    let rest : take (length (rule ∷ rules) - 1) rules ≡ rules = take_all (length (rule ∷ rules) - 1) rules (omega arith) in
     let both = files_cut (rule_said rule) (rules_said rules) all within in
-    (both.0, subst (λ (l : List Rule). AreWithin (rule_files (rules_said l)) all) (sym rest) both.1)
+    (both.0, subst (λ (l : List Rule). AreWithin (rule_files (rules_said l)) all) (sym (take_all (length (rule ∷ rules) - 1) rules (omega arith))) both.1)
 
 -- no rule is left, or no text
 pub expanded_none : (rules : List RuleSaid) → expanded rules [] ≡ []

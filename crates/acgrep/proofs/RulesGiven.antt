@@ -1,8 +1,8 @@
 -- The rules that a call names.
-use Rattle.std.proofs.Common.{◌≡◌, ℕ, true, false, List, [], ◌∷◌, ◌++◌, Option, Bor, length, refl, sym, ap, subst, ◌∙◌, append-nil, append_assoc, arith}
-use Rattle.tool_parts.specs.Names.{name_bytes}
+use Rattle.std.proofs.Common.{◌++◌, ◌∙◌, ◌∷◌, ◌≡◌, Bor, List, Option, [], ap, append-nil, append_assoc, arith, false, length, refl, subst, sym, true, ℕ}
 use Rattle.secret_rules.specs.Tables.{TellsRules}
 use Rattle.secret_rules.specs.declared.rule.Rule.{Rule}
+use Rattle.tool_parts.specs.Names.{name_bytes}
 use Rattle.acgrep.specs.Runs.{IsTextOf}
 use Rattle.acgrep.specs.RunsByRules.{AddsRules, AreAllRules, AreNamedRules, is_own}
 
@@ -31,8 +31,7 @@ all_next holds names left name rest now next rules rules' so_far added left' lat
 
 pub all_end : (holds : List ℕ → Option (List ℕ)) (names : List (List ℕ)) (left : Option (List ℕ)) (rest : List (List ℕ)) (now : Option (List ℕ)) (rules : List Rule) → rest ≡ [] → AllSoFar holds names left rest now rules
     → AreAllRules holds names left now rules
-all_end holds names left rest now rules none so_far =
-    subst (λ (l : List Rule). AreAllRules holds names left now l) (append-nil rules) (so_far now [] (subst (λ (l : List (List ℕ)). AreAllRules holds l now now []) (sym none) (refl, refl)))
+all_end holds names left rest now rules none so_far = rw (append-nil rules) at (so_far now [] (rw none (refl, refl)))
 
 -- where no name is left
 pub names_end : (names : List (Bor (List ℕ))) → length names ≡ 0 → name_bytes names ≡ []

@@ -1,9 +1,9 @@
 -- One line of a walk: what is written of it, and where the walk then is.
-use Rattle.std.proofs.Common.{◌≡◌, inl, inr, ℕ, ◌<◌, Bool, true, false, List, [], ◌∷◌, ◌++◌, Option, refl, sym, ◌∙◌, ap, subst, append_assoc}
-use Rattle.std.specs.Prelude.{nat_lt, ◌&&◌}
-use Rattle.std.specs.Io.KnownBytes.{Appends}
+use Rattle.std.proofs.Common.{◌++◌, ◌<◌, ◌∙◌, ◌∷◌, ◌≡◌, Bool, List, Option, [], ap, append_assoc, false, inl, inr, refl, subst, sym, true, ℕ}
 use Rattle.std.proofs.KnownBytes.{Appends-nil, Appends-trans}
 use Rattle.std.proofs.lemmas.Bool.{lt-ltb}
+use Rattle.std.specs.Io.KnownBytes.{Appends}
+use Rattle.std.specs.Prelude.{◌&&◌, nat_lt}
 use Rattle.aho_core.specs.Patterns.{Patterns}
 use Rattle.aho_devices.specs.Counts.{AppendsBeginning}
 use Rattle.acgrep.specs.Contexts.{IsChosenBy, IsNotChosen, PassesBy, ShowsEach, ShowsGroup, Steps, Walk, WalksBegun, WalksLines, WalksSome, behind_chosen, behind_due, behind_passed, beside, separator_if}
@@ -11,21 +11,10 @@ use Rattle.acgrep.specs.Lines.{lines}
 use Rattle.acgrep.specs.Written.{ShowsLine, WritesLine, after_line}
 use Rattle.acgrep.specs.declared.options.Context.{Context}
 use Rattle.acgrep.specs.declared.print.Place.{Place}
-use Rattle.acgrep.specs.declared.select.Job.{Job}
+use Rattle.acgrep.specs.declared.job.Job.{Job}
 use Rattle.acgrep.proofs.Begun.{begins_more, begins_some}
-use Rattle.acgrep.proofs.Grouped.{walk}
 use Rattle.acgrep.proofs.Walked.{begun_behind, lines_join, lines_none, walks_one}
-
--- two walks are the same where their parts are
-pub walk_same : (a b : Walk) → a.place ≡ b.place → a.selected ≡ b.selected → a.due ≡ b.due → a.some ≡ b.some → a.apart ≡ b.apart → a.first ≡ b.first → a.held ≡ b.held → a ≡ b
-walk_same a b place selected due some apart first held =
-    ap (λ (at : Place). walk at a.selected a.due a.some a.apart a.first a.held) place
-    ∙ ap (λ (n : ℕ). walk b.place n a.due a.some a.apart a.first a.held) selected
-    ∙ ap (λ (n : ℕ). walk b.place b.selected n a.some a.apart a.first a.held) due
-    ∙ ap (λ (t : Bool). walk b.place b.selected b.due t a.apart a.first a.held) some
-    ∙ ap (λ (t : Bool). walk b.place b.selected b.due b.some t a.first a.held) apart
-    ∙ ap (λ (at : Place). walk b.place b.selected b.due b.some b.apart at a.held) first
-    ∙ ap (λ (h : List (List ℕ)). walk b.place b.selected b.due b.some b.apart b.first h) held
+pub use Rattle.acgrep.proofs.Grouped.{walk_same}
 
 module _ (p : Patterns) (job : Job) where
   module _ (context : Context) where
@@ -42,14 +31,11 @@ module _ (p : Patterns) (job : Job) where
     pub takes_begun : (w : Walk) (line bytes : List ℕ) (x y : Option (List ℕ)) → IsChosenBy p job w.selected line true → ShowsGroup p job context w line bytes → AppendsBeginning x y bytes
         → WalksBegun p job context w x y (line ∷ [])
     takes_begun w line bytes x y chosen shows begins =
-        let next = behind_chosen context w line in
-        begins_some (WalksSome p job context w) (line ∷ []) x y bytes
-        (next, walks_one p job context w next line bytes (inl (record { more = chosen.0; selected = chosen.1; shows = shows; behind = refl }))) begins
+        begins_some _ _ _ _ _ ((behind_chosen context w line), walks_one _ _ _ _ _ _ _ (inl (record { more = chosen.0; selected = chosen.1; shows = shows; behind = refl }))) begins
 
     due_step : (w w' : Walk) (line bytes : List ℕ) → 0 < w.due → IsNotChosen p job w.selected line → ShowsLine p (beside job) w.place line bytes → w' ≡ behind_due w line
         → Steps p job context w line bytes w'
-    due_step w w' line bytes some_due passed shows is =
-        inr (record { passed = passed; passes = subst (PassesBy p job context w line bytes w') (sym (lt-ltb 0 w.due some_due)) (shows, is) })
+    due_step w w' line bytes some_due passed shows is = inr (record { passed = passed; passes = rw (lt-ltb 0 w.due some_due) (shows, is) })
 
     -- a line that is due is written
     pub due_lines : (w w' : Walk) (line : List ℕ) (x y : Option (List ℕ)) → 0 < w.due → IsChosenBy p job w.selected line false → WritesLine p (beside job) w.place x y line → w' ≡ behind_due w line
@@ -98,9 +84,8 @@ module _ (p : Patterns) (job : Job) where
 
     pub to_begun : (a b : Walk) (x y z : Option (List ℕ)) (text rest line left : List ℕ) → lines job.style.ending rest ≡ line ∷ lines job.style.ending left → WalksTo a b x y text rest
         → WalksBegun p job context b y z (line ∷ []) → WalksBegun p job context a x z (lines job.style.ending text)
-    to_begun a b x y z text rest line left more to one =
-        subst (WalksBegun p job context a x z) (sym (cut_more text rest line left to.searched to.cut more))
-        (begins_more (WalksSome p job context a) (to.searched ++ (line ∷ [])) (lines job.style.ending left) x z (begun_behind p job context a b x y z to.searched (line ∷ []) to.tells one))
+    to_begun a b x y z text rest line left more to one = subst (WalksBegun p job context a x z) (sym (cut_more _ _ _ _ to.searched to.cut more))
+        (begins_more _ (to.searched ++ (line ∷ [])) _ _ _ (begun_behind _ _ _ _ _ _ _ _ to.searched _ to.tells one))
 
   -- lines around a selected one, one after another
   pub record ShowsTo (first place : Place) (x y : Option (List ℕ)) (ls rest : List (List ℕ)) : Type 0 where
@@ -110,9 +95,7 @@ module _ (p : Patterns) (job : Job) where
   pub shows_step : (first place : Place) (x y z : Option (List ℕ)) (ls rest : List (List ℕ)) (line : List ℕ) (left : List (List ℕ)) → rest ≡ line ∷ left → ShowsTo first place x y ls rest
       → WritesLine p job place y z line → ShowsTo first (after_line place line) x z ls left
   shows_step first place x y z ls rest line left more to (shown, shows, written) = record {
-    follow = λ bytes last each others.
-        to.follow (shown ++ bytes) last (subst (λ (rest : List (List ℕ)). ShowsEach p job place rest (shown ++ bytes)) (sym more) (shown, bytes, shows, each, refl))
-        (Appends-trans y z last shown bytes written others);
+    follow = λ bytes last each others. to.follow (shown ++ bytes) last (rw more (shown, bytes, shows, each, refl)) (Appends-trans y z last shown bytes written others);
   }
 
   pub shows_end : (first place : Place) (x y : Option (List ℕ)) (ls : List (List ℕ)) → ShowsTo first place x y ls [] → (all : List ℕ) × ShowsEach p job first ls all × Appends x y all

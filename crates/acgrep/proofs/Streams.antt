@@ -1,29 +1,28 @@
 -- What was searched of a stream, put together from its reads.
-use Rattle.std.proofs.Common.{◌≡◌, inl, inr, ℕ, ◌+◌, ◌-◌, ◌≤◌, ◌<◌, ◌==◌, Bool, true, false, List, [], ◌∷◌, ◌++◌, Option, None, Some, length, take, drop, take-append-drop, refl, sym, ◌∙◌, ap, subst, arith, append_assoc, append-nil, length-append}
-use Rattle.std.specs.Io.KnownBytes.{Appends, IsAtEnd, Keeps}
-use Rattle.std.proofs.KnownBytes.{Appends-trans, Consumes-trans, Consumes-nil}
-use Rattle.std.proofs.Math.Seq.{drop-append_seam, drop-append-add}
+use Rattle.std.proofs.Common.{◌++◌, ◌+◌, ◌-◌, ◌<◌, ◌==◌, ◌∙◌, ◌∷◌, ◌≡◌, ◌≤◌, Bool, List, None, Option, Some, [], ap, append-nil, append_assoc, arith, drop, false, inl, inr, length, length-append, refl, subst, sym, take, take-append-drop, true, ℕ}
+use Rattle.std.proofs.KnownBytes.{Appends-trans, Consumes-nil, Consumes-trans}
+use Rattle.std.proofs.Math.Seq.{drop-append-add, drop-append_seam}
+use Rattle.std.proofs.lemmas.Grind.{common_steps}
 use Rattle.std.proofs.lemmas.List.{get_or-append-add, length-take-le}
+use Rattle.std.specs.Io.KnownBytes.{Appends, IsAtEnd, Keeps}
 use Rattle.aho_core.specs.Patterns.{Patterns}
-use Rattle.acgrep.specs.Lines.{EndsLine, IsEnding, lines}
-use Rattle.acgrep.specs.Filled.{FillsBehind, ReadsOn}
-use Rattle.acgrep.specs.Streamed.{ReadsSome, SearchesBehind, SearchesWhole, course}
 use Rattle.acgrep.specs.Contexts.{SearchesIn, SearchesText, around_of}
+use Rattle.acgrep.specs.Filled.{FillsBehind, ReadsOn}
+use Rattle.acgrep.specs.Lines.{EndsLine, IsEnding, lines}
+use Rattle.acgrep.specs.Streamed.{ReadsSome, SearchesBehind, SearchesWhole, course}
 use Rattle.acgrep.specs.Written.{IsSettled, SamePlace, SearchesPlain, after_lines}
 use Rattle.acgrep.specs.declared.options.Context.{Context}
 use Rattle.acgrep.specs.declared.print.Place.{Place}
-use Rattle.acgrep.specs.declared.select.Job.{Job}
-use Rattle.acgrep.specs.declared.select.State.{State}
+use Rattle.acgrep.specs.declared.job.Job.{Job}
+use Rattle.acgrep.specs.declared.job.State.{State}
 use Rattle.acgrep.proofs.Around.{front_newline}
 use Rattle.acgrep.proofs.LineLists.{ends_drop, lines_append}
-use Rattle.acgrep.proofs.Walked.{text_behind_kept, text_join, text_none}
 use Rattle.acgrep.proofs.Tellings.{after_append, same_lines, same_place, same_trans, tells_join}
+use Rattle.acgrep.proofs.Walked.{text_behind_kept, text_join, text_none}
 
 -- bytes that are kept grow by none
 pub keeps_nil : (x y : Option (List ℕ)) → Keeps x y → Appends x y []
-keeps_nil None y keeps = tt
-keeps_nil (Some xs) None keeps = absurd keeps
-keeps_nil (Some xs) (Some ys) keeps = keeps ∙ sym (append-nil xs)
+keeps_nil x y keeps = grind (arith, common_steps)
 
 -- one read after another
 pub reads_both : (a b c : Option (List ℕ)) → ReadsOn a b → ReadsOn b c → ReadsOn a c
@@ -40,9 +39,7 @@ module _ (ending : ℕ) where
 
   pub ends_joined : (front back : List ℕ) → EndsLine ending front → EndsLine ending back → EndsLine ending (front ++ back)
   ends_joined front [] one other = subst (EndsLine ending) (sym (append-nil front)) one
-  ends_joined front (byte ∷ back) one other = λ some.
-      let place : length front + (length (byte ∷ back) - 1) ≡ length (front ++ (byte ∷ back)) - 1 = omega (arith, length-append front (byte ∷ back)) in
-      subst (IsEnding ending (front ++ (byte ∷ back))) place
+  ends_joined front (byte ∷ back) one other = λ some. subst (IsEnding ending (front ++ (byte ∷ back))) (omega (arith, length-append front (byte ∷ back)))
       (subst (λ (b : ℕ). (b == ending) ≡ true) (sym (get_or-append-add front (byte ∷ back) (length (byte ∷ back) - 1) 0)) (other (omega arith)))
 
 module _ (p : Patterns) (job : Job) where
@@ -223,8 +220,7 @@ module _ (ending : ℕ) where
   pub front_whole : (bytes : List ℕ) (whole : ℕ) → whole ≤ length bytes → (0 < whole → IsEnding ending bytes (whole - 1)) → EndsLine ending (take whole bytes)
   front_whole bytes whole within newline some =
       let long : length (take whole bytes) ≡ whole = length-take-le whole bytes within in
-      subst (λ (n : ℕ). IsEnding ending (take whole bytes) (n - 1)) (sym long)
-      (front_newline ending bytes whole (whole - 1) (omega (arith, long, some)) (newline (omega (arith, long, some))))
+      rw long (front_newline ending bytes whole (whole - 1) (omega (arith, long, some)) (newline (omega (arith, long, some))))
 
 -- and what follows is kept
 unfoldable pub whole_searched : (p : Patterns) (job : Job) (a b : State) (x y : Option (List ℕ)) (bytes kept : List ℕ) (whole : ℕ) → whole ≤ length bytes

@@ -1,23 +1,24 @@
 -- A search of a stream that is broken off, put together from its reads.
-use Rattle.std.proofs.Common.{◌≡◌, inl, inr, ℕ, ◌-◌, ◌≤◌, ◌<◌, Bool, true, false, List, [], ◌++◌, Option, None, Some, IfSome, length, take, drop, take-append-drop, refl, sym, ◌∙◌, ap, subst, append_assoc, append-nil}
+use Rattle.std.proofs.Common.{◌++◌, ◌-◌, ◌<◌, ◌∙◌, ◌≡◌, ◌≤◌, Bool, List, None, Option, Some, [], ap, append-nil, append_assoc, drop, false, inl, inr, length, refl, subst, sym, take, take-append-drop, true, ℕ}
 use Rattle.std.specs.Io.KnownBytes.{Consumes, IsAtEnd, Keeps}
+use Rattle.std.specs.Prelude.{IfSome}
 use Rattle.aho_core.specs.Patterns.{Patterns}
 use Rattle.acgrep.specs.Begun.{BeginsOf}
-use Rattle.acgrep.specs.Binary.{is_text, lines_by, text_lines}
+use Rattle.acgrep.specs.Binary.{lines_by, text_lines}
 use Rattle.acgrep.specs.Contexts.{BeginsSearched, SearchesIn, SearchesText, TellsFrom, around_of, walk_of}
 use Rattle.acgrep.specs.Filled.{FillsBehind}
 use Rattle.acgrep.specs.Lines.{EndsLine, IsEnding, lines}
 use Rattle.acgrep.specs.Streamed.{BeginsBehind, BeginsWhole, ReadsSome, SearchesBehind, TextIf, course}
 use Rattle.acgrep.specs.Written.{IsSettled}
 use Rattle.acgrep.specs.declared.options.Context.{Context}
-use Rattle.acgrep.specs.declared.select.Job.{Job}
-use Rattle.acgrep.specs.declared.select.State.{State}
+use Rattle.acgrep.specs.declared.job.Job.{Job}
+use Rattle.acgrep.specs.declared.job.State.{State}
 use Rattle.acgrep.proofs.Beginnings.{begins_join}
 use Rattle.acgrep.proofs.Begun.{begins_all, begins_kept, begins_more, begins_nothing}
 use Rattle.acgrep.proofs.BinaryLines.{text_behind, text_front}
 use Rattle.acgrep.proofs.LineLists.{lines_append}
-use Rattle.acgrep.proofs.Walked.{begun_behind, text_lines as walked_lines}
 use Rattle.acgrep.proofs.Streams.{front_whole, keeps_nil}
+use Rattle.acgrep.proofs.Walked.{begun_behind, text_lines as walked_lines}
 
 -- a text that begins so
 pub text_from : (left : Option (List ℕ)) (kept : List ℕ) → (more : List ℕ) × IfSome left (λ (bytes : List ℕ). kept ++ more ≡ kept ++ bytes)
@@ -44,30 +45,24 @@ module _ (p : Patterns) (job : Job) where
   after_in None a b count x y z front ms whole goes one other =
       let first = one.searches in
       let none : one.left ≡ [] = elim one.ends [ inl none ↦ none | inr settled ↦ absurd (goes settled) ] in
-      let all : lines job.style.ending front ≡ first.searched = first.cut ∙ ap (λ (l : List ℕ). first.searched ++ lines job.style.ending l) none ∙ append-nil first.searched in
-      subst (λ (ls : List (List ℕ)). BeginsOf (TellsFrom p job None a count) (ls ++ ms) x z) (sym all) (begins_join p job a b count x y z first.searched ms first.tells (first.placed (inr whole)) other)
+      rw (first.cut ∙ ap (λ (l : List ℕ). first.searched ++ lines job.style.ending l) none ∙ append-nil first.searched) (begins_join p job a b count x y z first.searched ms first.tells (first.placed (inr whole)) other)
   after_in (Some context) a b count x y z front ms whole goes one other =
-      subst (λ (ls : List (List ℕ)). BeginsOf (TellsFrom p job (Some context) a count) (ls ++ ms) x z) (sym (walked_lines p job context a b x y front one goes))
-      (begun_behind p job context (walk_of a) (walk_of b) x y z one.searched ms one.tells other)
+      rw (walked_lines p job context a b x y front one goes) (begun_behind p job context (walk_of a) (walk_of b) x y z one.searched ms one.tells other)
 
   -- what was told of a text is a beginning too
   whole_in : (around : Option Context) (a b : State) (x y : Option (List ℕ)) (text : List ℕ) → SearchesIn p job around a b x y text → BeginsOf (TellsFrom p job around a b.selected) (lines job.style.ending text) x y
   whole_in None a b x y text one =
       let to = one.searches in
-      let Tells = TellsFrom p job None a b.selected in
-      subst (λ (ls : List (List ℕ)). BeginsOf Tells ls x y) (sym to.cut) (begins_more Tells to.searched (lines job.style.ending one.left) x y (begins_all Tells to.searched x y to.tells.bytes to.tells.told to.tells.written))
+      rw to.cut (begins_more _ _ (lines job.style.ending one.left) _ _ (begins_all _ _ _ _ _ to.tells.told to.tells.written))
   whole_in (Some context) a b x y text one =
-      let Tells = TellsFrom p job (Some context) a b.selected in
-      subst (λ (ls : List (List ℕ)). BeginsOf Tells ls x y) (sym one.cut)
-      (begins_more Tells one.searched (lines job.style.ending one.left) x y (begins_all Tells one.searched x y one.tells.bytes (walk_of b, one.tells.walks) one.tells.written))
+      rw one.cut (begins_more _ one.searched (lines job.style.ending one.left) _ _ (begins_all _ one.searched _ _ one.tells.bytes (walk_of b, one.tells.walks) one.tells.written))
 
   module _ (alone : Bool) where
     -- nothing is written
     pub behind_none : (a : State) (x y left : Option (List ℕ)) (kept : List ℕ) → Keeps x y → BeginsBehind p job alone a a x y left kept
     behind_none a x y left kept keeps =
-        let (more, of) = text_from left kept in
-        let Tells = TellsFrom p job (around_of job) a a.selected in
-        record { text = kept ++ more; of = of; begins = begins_nothing Tells (lines_by alone job.style.ending (kept ++ more)) x y [] (nothing_told (around_of job) a) (keeps_nil x y keeps) }
+        let (more, of) = text_from _ _ in
+        record { text = kept ++ more; of = of; begins = begins_nothing _ (lines_by alone job.style.ending (kept ++ more)) _ _ [] (nothing_told _ _) (keeps_nil _ _ keeps) }
 
     -- whole lines that are there were begun
     behind_lines : (a b : State) (x y left : Option (List ℕ)) (kept searched rest : List ℕ) → kept ≡ searched ++ rest → EndsLine job.style.ending searched → TextIf alone searched
@@ -93,8 +88,7 @@ module _ (p : Patterns) (job : Job) where
     pub behind_end : (a b : State) (x y left : Option (List ℕ)) (kept : List ℕ) → IsAtEnd left → TextIf alone kept → BeginsSearched p job a b.selected x y (lines job.style.ending kept)
         → BeginsBehind p job alone a b x y left kept
     behind_end a b x y left kept end text begins =
-        let Tells = TellsFrom p job (around_of job) a b.selected in
-        record { text = kept; of = at_end left end; begins = subst (λ (ls : List (List ℕ)). BeginsOf Tells ls x y) (sym (by_same alone job.style.ending kept text)) begins }
+        record { text = kept; of = at_end left end; begins = subst (λ (ls : List (List ℕ)). BeginsOf (TellsFrom p job (around_of job) a b.selected) ls x y) (sym (by_same alone job.style.ending kept text)) begins }
       where
         at_end : (left : Option (List ℕ)) → IsAtEnd left → IfSome left (λ (bytes : List ℕ). kept ≡ kept ++ bytes)
         at_end None end = tt
@@ -128,8 +122,7 @@ module _ (p : Patterns) (job : Job) where
     behind_front a b c x y z left searched kept whole goes text one begins = record {
       text = searched ++ begins.text;
       of = of_front left begins.of;
-      begins = subst (λ (ls : List (List ℕ)). BeginsOf (TellsFrom p job (around_of job) a c.selected) ls x z) (sym (by_behind alone job.style.ending searched begins.text whole text))
-          (after_in (around_of job) a b c.selected x y z searched (lines_by alone job.style.ending begins.text) whole goes one begins.begins);
+      begins = rw (by_behind alone job.style.ending searched begins.text whole text) (after_in (around_of job) a b c.selected x y z searched (lines_by alone job.style.ending begins.text) whole goes one begins.begins);
     }
       where
         of_front : (left : Option (List ℕ)) → IfSome left (λ (bytes : List ℕ). begins.text ≡ kept ++ bytes) → IfSome left (λ (bytes : List ℕ). searched ++ begins.text ≡ (searched ++ kept) ++ bytes)
@@ -140,32 +133,27 @@ module _ (p : Patterns) (job : Job) where
     pub behind_reads : (a b c : State) (x y z left left' : Option (List ℕ)) (first kept : List ℕ) (ended : Bool) → (some : ReadsSome p job (course a b x y left left') first kept ended) → (IsSettled job b → ⊥)
         → TextIf alone some.searched → BeginsBehind p job alone b c y z left' kept → BeginsBehind p job alone a c x z left first
     behind_reads a b c x y z left left' first kept ended some goes text begins =
-        behind_read a c x z left left' first some.came some.consumed (subst (BeginsBehind p job alone a c x z left') (sym some.cut)
-        (behind_front a b c x y z left' some.searched kept some.whole goes text some.searches begins))
+        behind_read a c x z left left' first some.came some.consumed (rw some.cut (behind_front a b c x y z left' some.searched kept some.whole goes text some.searches begins))
 
     -- nothing more is searched
     pub behind_stop : (a b : State) (x y left left' : Option (List ℕ)) (first kept : List ℕ) (ended : Bool) → (some : ReadsSome p job (course a b x y left left') first kept ended)
         → TextIf alone some.searched → BeginsBehind p job alone a b x y left first
-    behind_stop a b x y left left' first kept ended some text =
-        behind_read a b x y left left' first some.came some.consumed
-        (behind_lines a b x y left' (first ++ some.came) some.searched kept some.cut some.whole text (whole_in (around_of job) a b x y some.searched some.searches))
+    behind_stop a b x y left left' first kept ended some text = behind_read _ _ _ _ _ _ _ _ some.consumed
+        (behind_lines _ _ _ _ _ _ _ _ some.cut some.whole text (whole_in _ _ _ _ _ _ some.searches))
 
     -- what was searched is a beginning too
     pub behind_searched : (a b : State) (x y left left' : Option (List ℕ)) (kept : List ℕ) → (all : SearchesBehind p job (course a b x y left left') kept) → TextIf alone all.searched
         → BeginsBehind p job alone a b x y left kept
     behind_searched a b x y left left' kept all text =
         let begins = whole_in (around_of job) a b x y all.searched all.searches in
-        behind_read a b x y left left' kept all.came all.consumed
-        (elim all.ends [
+        behind_read a b x y left left' kept all.came all.consumed (elim all.ends [
           | inl (empty, end) ↦
-              subst (BeginsBehind p job alone a b x y left') (sym (all.cut ∙ ap (λ (l : List ℕ). all.searched ++ l) empty ∙ append-nil all.searched))
-              (behind_end a b x y left' all.searched end text begins)
+              rw (all.cut ∙ ap (λ (l : List ℕ). all.searched ++ l) empty ∙ append-nil all.searched) (behind_end a b x y left' all.searched end text begins)
           | inr (whole, settled) ↦ behind_lines a b x y left' (kept ++ all.came) all.searched all.rest all.cut whole text begins
         ])
 
   -- whatever follows
   pub whole_begins : (a b : State) (x y : Option (List ℕ)) (bytes : List ℕ) (whole : ℕ) → whole ≤ length bytes → (0 < whole → IsEnding job.style.ending bytes (whole - 1))
       → BeginsSearched p job a b.selected x y (lines job.style.ending (take whole bytes)) → BeginsWhole p job a b x y bytes
-  whole_begins a b x y bytes whole within newline begins = λ alone text left.
-      behind_whole alone a b x y left bytes whole within newline
-      (λ is. text_front (take whole bytes) (drop whole bytes) (subst (λ (l : List ℕ). is_text l ≡ true) (sym (take-append-drop whole bytes)) (text is))) begins
+  whole_begins a b x y bytes whole within newline begins = λ alone text left. behind_whole alone a b x y left bytes whole within newline
+      (λ is. text_front (take whole bytes) (drop whole bytes) (rw (take-append-drop whole bytes) (text is))) begins

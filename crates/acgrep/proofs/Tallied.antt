@@ -1,20 +1,14 @@
 -- Lines that are counted, some after others, and what is told of their counts.
-use Rattle.std.proofs.Common.{◌≡◌, ℕ, suc, zero, ◌+◌, ◌-◌, ◌<◌, ◌^◌, min, Bool, true, false, List, [], ◌∷◌, ◌++◌, length, refl, sym, ◌∙◌, ap, subst, arith, append-nil, append_assoc}
-use Rattle.std.specs.Prelude.{filter, if◌then◌else◌, slice_index}
+use Rattle.std.proofs.Common.{◌++◌, ◌+◌, ◌-◌, ◌<◌, ◌^◌, ◌∙◌, ◌∷◌, ◌≡◌, List, [], ap, append-nil, append_assoc, arith, length, min, refl, subst, suc, sym, ℕ}
+use Rattle.std.proofs.lemmas.Grind.{common_steps}
 use Rattle.std.proofs.lemmas.List.{length-map}
+use Rattle.std.specs.Prelude.{if◌then◌else◌, slice_index}
 use Rattle.acgrep.specs.Lines.{lines}
-use Rattle.acgrep.specs.Tallies.{CountsLines, count_of, counts_table, rows_counted, rows_from, writes, zeros_of}
+use Rattle.acgrep.specs.Tallies.{CountsLines, count_of, counts_table, rows_counted, rows_from, zeros_of}
 
 -- the lines of two lists, one after the other
 count-both : (number : ℕ) (some more : List (List ℕ)) → count_of number (some ++ more) ≡ count_of number some + count_of number more
-count-both number [] more = let none : count_of number [] ≡ 0 = refl in omega (arith, none)
-count-both number (x ∷ some) more = by_test (writes number x) (count-both number some more)
-  where
-    by_test : (b : Bool) → length (filter (λ (line : List ℕ). writes number line) (some ++ more)) ≡ length (filter (λ (line : List ℕ). writes number line) some) + count_of number more
-        → length (if b then x ∷ filter (λ (line : List ℕ). writes number line) (some ++ more) else filter (λ (line : List ℕ). writes number line) (some ++ more))
-        ≡ length (if b then x ∷ filter (λ (line : List ℕ). writes number line) some else filter (λ (line : List ℕ). writes number line) some) + count_of number more
-    by_test true same = omega (arith, same)
-    by_test false same = same
+count-both number some more = grind (arith, common_steps)
 
 -- none is counted
 pub lines-none : (counts : List ℕ) → CountsLines [] counts counts
@@ -47,8 +41,7 @@ counted-step ending numbers left rest line one two three first so_far more = rec
 
 pub counted-end : (ending : ℕ) (numbers left one two : List ℕ) → left ≡ [] → Counted ending numbers left one two → CountsLines (lines ending numbers) one two
 counted-end ending numbers left one two none so_far =
-    let all : so_far.before ≡ lines ending numbers = sym (append-nil so_far.before) ∙ ap (λ (l : List ℕ). so_far.before ++ lines ending l) (sym none) ∙ so_far.cut in
-    subst (λ (l : List (List ℕ)). CountsLines l one two) all so_far.are
+    subst (λ (l : List (List ℕ)). CountsLines l one two) (sym (append-nil so_far.before) ∙ ap (λ (l : List ℕ). so_far.before ++ lines ending l) (sym none) ∙ so_far.cut) so_far.are
 
 -- what is told of counts
 rows-same : (number : ℕ) (patterns found : List (List ℕ)) (counts : List ℕ) → length counts ≡ length patterns
@@ -64,9 +57,8 @@ rows-same number (pattern ∷ patterns) found (count ∷ counts) as_many are =
     rw first (rw more refl)
 
 zero-at : (patterns : List (List ℕ)) (i : ℕ) → slice_index (zeros_of patterns) i ≡ 0
-zero-at [] i = refl
-zero-at (pattern ∷ patterns) zero = refl
 zero-at (pattern ∷ patterns) (suc i) = zero-at patterns i
+zero-at _ _ = refl
 
 -- where the lines of a text were counted from 0 on
 pub table-told : (ending : ℕ) (patterns : List (List ℕ)) (numbers counts : List ℕ) → CountsLines (lines ending numbers) (zeros_of patterns) counts → rows_counted 0 patterns counts ≡ counts_table ending patterns numbers
@@ -80,6 +72,5 @@ table-told ending patterns numbers counts are =
 
 -- of no count nothing is
 pub rows-end : (number : ℕ) (patterns : List (List ℕ)) (counts : List ℕ) → length counts ≡ 0 → rows_counted number patterns counts ≡ []
-rows-end number [] counts none = refl
-rows-end number (pattern ∷ patterns) [] none = refl
 rows-end number (pattern ∷ patterns) (count ∷ counts) none = absurd (omega (arith, none))
+rows-end number _ _ none = refl

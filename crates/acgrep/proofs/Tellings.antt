@@ -1,29 +1,29 @@
 -- What is told of lines, put together from parts.
-use Rattle.std.proofs.Common.{◌≡◌, inl, inr, ℕ, ◌+◌, ◌-◌, ◌%◌, ◌^◌, ◌≤◌, ◌<◌, ◌==◌, Bool, true, false, List, [], ◌∷◌, ◌++◌, Option, None, Some, length, drop, refl, sym, ◌∙◌, ap, subst, arith, append_assoc, append-nil}
-use Rattle.std.specs.Prelude.{MatchBool, if◌then◌else◌, nat_le, nat_lt, not, ◌&&◌}
-use Rattle.std.specs.Io.KnownBytes.{Appends}
+use Rattle.std.proofs.Common.{◌%◌, ◌++◌, ◌+◌, ◌-◌, ◌<◌, ◌==◌, ◌^◌, ◌∙◌, ◌∷◌, ◌≡◌, ◌≤◌, Bool, List, None, Option, Some, [], ap, append-nil, append_assoc, arith, drop, false, inl, inr, length, refl, subst, sym, true, ℕ}
 use Rattle.std.proofs.KnownBytes.{Appends-nil, Appends-trans}
 use Rattle.std.proofs.lemmas.Bool.{and_parts, cases_Bool, cases_lt, ltb-true, true≢false}
-use Rattle.std.proofs.lemmas.List.{drop_all, drop-drop, length-drop}
-use Rattle.aho_core.specs.Patterns.{Patterns}
+use Rattle.std.proofs.lemmas.Grind.{common_steps}
+use Rattle.std.proofs.lemmas.List.{drop-drop, drop_all, length-drop}
+use Rattle.std.specs.Io.KnownBytes.{Appends}
+use Rattle.std.specs.Prelude.{◌&&◌, MatchBool, if◌then◌else◌, nat_le, nat_lt, not}
 use Rattle.aho_core.specs.Occurrence.{Occurrence}
-use Rattle.acgrep.proofs.Bools.{where_false, where_true}
-use Rattle.acgrep.proofs.LineLists.{ends_drop}
+use Rattle.aho_core.specs.Patterns.{Patterns}
 use Rattle.acgrep.specs.Alone.{asks_alone}
 use Rattle.acgrep.specs.Lines.{EndsLine, lines}
 use Rattle.acgrep.specs.Matches.{WritesColored, WritesMatches}
 use Rattle.acgrep.specs.Objects.{objects_by}
-use Rattle.acgrep.specs.Printed.{colored_from, colored_line_by, head_of, match_by, matches_by, line_number_at, match_code, offset_at, painted, part_of}
-use Rattle.acgrep.specs.Written.{EachLine, HasNone, IsMatched, IsPassedOver, IsSelected, IsSettled, LineOf, DoesMatch, DoesNotMatch, SamePlace, SearchesTo, ShowsBy, ShowsLine, TellsOfLines, TellsLines, WritesLine, WritesNext, after_line, after_lines, is_full, is_numbered, next_count, one_more, place_behind, selects}
+use Rattle.acgrep.specs.Printed.{colored_from, colored_line_by, head_of, line_number_at, matches_by}
+use Rattle.acgrep.specs.Written.{DoesMatch, DoesNotMatch, EachLine, HasNone, IsMatched, IsPassedOver, IsSelected, IsSettled, LineOf, SamePlace, SearchesTo, ShowsBy, ShowsLine, TellsLines, TellsOfLines, WritesLine, WritesNext, after_line, after_lines, is_full, is_numbered, next_count, one_more, place_behind, selects}
 use Rattle.acgrep.specs.declared.matches.Shape.TheVariants.{AsFields, OnLines}
 use Rattle.acgrep.specs.declared.options.Fit.{Fit}
-use Rattle.acgrep.specs.declared.options.Fit.TheVariants.{AnyPart, WholeWord, WholeLine}
 use Rattle.acgrep.specs.declared.options.Shown.{Shown}
-use Rattle.acgrep.specs.declared.options.Shown.TheVariants.{Lines, Matches, Objects, Count, Names, Lacking, Nothing}
+use Rattle.acgrep.specs.declared.options.Shown.TheVariants.{Lines, Matches, Objects}
 use Rattle.acgrep.specs.declared.print.Place.{Place}
 use Rattle.acgrep.specs.declared.print.Style.{Style}
-use Rattle.acgrep.specs.declared.select.Job.{Job}
-use Rattle.acgrep.specs.declared.select.State.{State}
+use Rattle.acgrep.specs.declared.job.Job.{Job}
+use Rattle.acgrep.specs.declared.job.State.{State}
+use Rattle.acgrep.proofs.Bools.{where_false, where_true}
+use Rattle.acgrep.proofs.LineLists.{ends_drop}
 
 -- what follows a place follows one in the text
 drop_within : (n : ℕ) (text : List ℕ) → (at : ℕ) × (at ≤ length text) × (drop n text ≡ drop at text)
@@ -55,69 +55,48 @@ after_append (line ∷ rest) ms place = after_append rest ms (after_line place l
 
 -- where the numbers of lines are asked for they are written
 asked_numbered : (shown : Shown) (asked : Bool) → asked ≡ true → is_numbered shown asked ≡ true
-asked_numbered Lines asked is = is
-asked_numbered Matches asked is = is
 asked_numbered Objects asked is = refl
-asked_numbered Count asked is = is
-asked_numbered Names asked is = is
-asked_numbered Lacking asked is = is
-asked_numbered Nothing asked is = is
+asked_numbered _ asked is = is
 
 -- a coloured line is what is written of a line where that is asked for
 pub colored_shows : (p : Patterns) (job : Job) (place : Place) (old new : Option (List ℕ)) (line : List ℕ) → job.shown ≡ Lines → (job.style.color && not job.invert) ≡ true
     → WritesColored old new p (asks_alone job.fit) job.style place line → WritesLine p job place old new line
-colored_shows p job place old new line whole colored writes =
-    let bytes = colored_line_by job.style place line writes.matches in (
-      bytes,
-      subst (λ (shown : Shown). ShowsBy p shown (asks_alone job.fit) job.invert job.style place line bytes) (sym whole)
-          (subst (λ (b : Bool). LineOf p (asks_alone job.fit) b job.style place line bytes) (sym colored) (writes.matches, writes.found, refl)),
-      writes.written,
-    )
+colored_shows p job place old new line whole colored writes = (
+  (colored_line_by job.style place line writes.matches),
+  rw whole (rw colored (writes.matches, writes.found, refl)),
+  writes.written,
+)
 
 -- the matches are what is written of a line where they are asked for
 pub matches_shows : (p : Patterns) (job : Job) (place : Place) (old new : Option (List ℕ)) (line : List ℕ) → job.shown ≡ Matches → job.invert ≡ false
     → WritesMatches old new p OnLines (asks_alone job.fit) job.style place line → WritesLine p job place old new line
-matches_shows p job place old new line whole plain writes =
-    let bytes = matches_by job.style place line writes.matches in (
-      bytes,
-      subst (λ (shown : Shown). ShowsBy p shown (asks_alone job.fit) job.invert job.style place line bytes) (sym whole)
-          (where_false _ job.invert plain (writes.matches, writes.found, refl)),
-      writes.written,
-    )
+matches_shows p job place old new line whole plain writes = (
+  (matches_by job.style place line writes.matches),
+  rw whole (where_false _ job.invert plain (writes.matches, writes.found, refl)),
+  writes.written,
+)
 
 -- the same of objects
 pub objects_shows : (p : Patterns) (job : Job) (place : Place) (old new : Option (List ℕ)) (line : List ℕ) → job.shown ≡ Objects → job.invert ≡ false
     → WritesMatches old new p AsFields (asks_alone job.fit) job.style place line → WritesLine p job place old new line
-objects_shows p job place old new line whole plain writes =
-    let bytes = objects_by job.style place line writes.matches in (
-      bytes,
-      subst (λ (shown : Shown). ShowsBy p shown (asks_alone job.fit) job.invert job.style place line bytes) (sym whole)
-          (where_false _ job.invert plain (writes.matches, writes.found, refl)),
-      writes.written,
-    )
+objects_shows p job place old new line whole plain writes = (
+  (objects_by job.style place line writes.matches),
+  rw whole (where_false _ job.invert plain (writes.matches, writes.found, refl)),
+  writes.written,
+)
 
 -- where lines are turned round no match is written
 pub nothing_of_matches : (p : Patterns) (job : Job) (place : Place) (line : List ℕ) → job.shown ≡ Matches → job.invert ≡ true → ShowsLine p job place line []
-nothing_of_matches p job place line whole turned =
-    subst (λ (shown : Shown). ShowsBy p shown (asks_alone job.fit) job.invert job.style place line []) (sym whole)
-    (where_true _ job.invert turned refl)
+nothing_of_matches p job place line whole turned = rw whole (where_true _ job.invert turned refl)
 
 -- and no object
 pub nothing_of_objects : (p : Patterns) (job : Job) (place : Place) (line : List ℕ) → job.shown ≡ Objects → job.invert ≡ true → ShowsLine p job place line []
-nothing_of_objects p job place line whole turned =
-    subst (λ (shown : Shown). ShowsBy p shown (asks_alone job.fit) job.invert job.style place line []) (sym whole)
-    (where_true _ job.invert turned refl)
+nothing_of_objects p job place line whole turned = rw whole (where_true _ job.invert turned refl)
 
 -- where neither lines nor matches nor objects are asked for nothing is written
 pub nothing_else : (p : Patterns) (shown : Shown) (alone invert : Bool) (style : Style) (place : Place) (line : List ℕ) → (shown ≡ Lines → ⊥) → (shown ≡ Matches → ⊥)
     → (shown ≡ Objects → ⊥) → ShowsBy p shown alone invert style place line []
-nothing_else p Lines alone invert style place line whole matches objects = absurd (whole refl)
-nothing_else p Matches alone invert style place line whole matches objects = absurd (matches refl)
-nothing_else p Objects alone invert style place line whole matches objects = absurd (objects refl)
-nothing_else p Count alone invert style place line whole matches objects = refl
-nothing_else p Names alone invert style place line whole matches objects = refl
-nothing_else p Lacking alone invert style place line whole matches objects = refl
-nothing_else p Nothing alone invert style place line whole matches objects = refl
+nothing_else p shown alone invert style place line whole matches objects = grind (arith, common_steps)
 
 -- what stands before a line is the same
 same_head : (job : Job) (a b : Place) (offset : ℕ) (bytes : List ℕ) → SamePlace job a b → head_of job.style (line_number_at a) offset bytes ≡ head_of job.style (line_number_at b) offset bytes
@@ -127,18 +106,8 @@ same_head job a b offset bytes same =
       | inr not ↦ rw not refl
     ]
 
-match_same : (job : Job) (a b : Place) (line : List ℕ) (m : Occurrence) → SamePlace job a b → match_by job.style a line m ≡ match_by job.style b line m
-match_same job a b line m same =
-    let bytes = part_of line m.start m.end in
-    let heads : head_of job.style (line_number_at a) (offset_at a m.start) bytes ≡ head_of job.style (line_number_at b) (offset_at b m.start) bytes =
-    same_head job a b (offset_at a m.start) bytes same ∙ ap (λ (n : ℕ). head_of job.style (line_number_at b) ((n + m.start) % 2 ^ 64) bytes) same.bytes in
-    ap (λ (head : List ℕ). if m.start == m.end then [] else head ++ (painted job.style (match_code job.style) (part_of line m.start m.end) ++ (job.style.ending ∷ []))) heads
-
 matches_same : (job : Job) (a b : Place) (line : List ℕ) (ms : List Occurrence) → SamePlace job a b → matches_by job.style a line ms ≡ matches_by job.style b line ms
-matches_same job a b line [] same = refl
-matches_same job a b line (m ∷ ms) same =
-    ap (λ (l : List ℕ). l ++ matches_by job.style a line ms) (match_same job a b line m same)
-    ∙ ap (λ (l : List ℕ). match_by job.style b line m ++ l) (matches_same job a b line ms same)
+matches_same job a b line ms same = grind (arith, common_steps)
 
 place_same : (a b : Place) → a.lines ≡ b.lines → a.bytes ≡ b.bytes → a ≡ b
 place_same a b counts bytes = ap (λ (n : ℕ). place_behind n a.bytes) counts ∙ ap (place_behind b.lines) bytes
@@ -155,15 +124,10 @@ pub by_same : (p : Patterns) (shown : Shown) (alone invert : Bool) (job : Job) (
     → (is_numbered shown job.style.number ≡ true → a.lines ≡ b.lines) → SamePlace job a b
     → ShowsBy p shown alone invert job.style a line bytes → ShowsBy p shown alone invert job.style b line bytes
 by_same p Lines alone invert job a b line bytes counted same shows = line_same p alone (job.style.color && not invert) job a b line bytes same shows
-by_same p Matches alone true job a b line bytes counted same shows = shows
 by_same p Matches alone false job a b line bytes counted same (ms, finds, is) = (ms, finds, is ∙ matches_same job a b line ms same)
-by_same p Objects alone true job a b line bytes counted same shows = shows
 by_same p Objects alone false job a b line bytes counted same (ms, finds, is) =
     (ms, finds, is ∙ ap (λ (place : Place). objects_by job.style place line ms) (place_same a b (counted refl) same.bytes))
-by_same p Count alone invert job a b line bytes counted same shows = shows
-by_same p Names alone invert job a b line bytes counted same shows = shows
-by_same p Lacking alone invert job a b line bytes counted same shows = shows
-by_same p Nothing alone invert job a b line bytes counted same shows = shows
+by_same p _ alone _ job a b line bytes counted same shows = shows
 
 -- lines tell the same from places that are the same
 pub tells_same : (p : Patterns) (job : Job) (ls : List (List ℕ)) (a b : Place) (count : ℕ) (bytes : List ℕ) (total : ℕ) → SamePlace job a b
@@ -210,25 +174,23 @@ settled_some job state (inr (full, past)) = full_some job.most state.selected fu
 -- lines and those behind them
 pub tells_append : (p : Patterns) (job : Job) (ls ms : List (List ℕ)) (place : Place) (count mid total : ℕ) (bytes more : List ℕ)
     → TellsOfLines p job place count ls bytes mid → TellsOfLines p job (after_lines place ls) mid ms more total → TellsOfLines p job place count (ls ++ ms) (bytes ++ more) total
-tells_append p job [] ms place count mid total bytes more (none, same) behind =
-    subst (λ (l : List ℕ). TellsOfLines p job place count ms (l ++ more) total) (sym none) (subst (λ (n : ℕ). TellsOfLines p job place n ms more total) same behind)
+tells_append p job [] ms place count mid total bytes more (none, same) behind = rw none (rw same at behind)
 tells_append p job (line ∷ rest) ms place count mid total bytes more (inl (full, none, same)) behind =
-    let (empty, ends) = full_none p job ms (after_lines place (line ∷ rest)) mid more total (subst (λ (n : ℕ). is_full job.most n ≡ true) (sym same) full) behind in
+    let (empty, ends) = full_none p job ms (after_lines place (line ∷ rest)) mid more total (rw same full) behind in
     inl (full, ap (λ (l : List ℕ). l ++ more) none ∙ empty, ends ∙ same)
-tells_append p job (line ∷ rest) ms place count mid total bytes more (inr (goes, inl (selected, (shown, others, shows, told, is)))) behind =
-    inr (
-      goes,
-      inl (
-        selected,
-        (
-          shown,
-          others ++ more,
-          shows,
-          tells_append p job rest ms (after_line place line) (one_more count) mid total others more told behind,
-          ap (λ (l : List ℕ). l ++ more) is ∙ append_assoc shown others more,
-        ),
-      ),
-    )
+tells_append p job (line ∷ rest) ms place count mid total bytes more (inr (goes, inl (selected, (shown, others, shows, told, is)))) behind = inr (
+  goes,
+  inl (
+    selected,
+    (
+      shown,
+      others ++ more,
+      shows,
+      tells_append p job rest ms (after_line place line) (one_more count) mid total others more told behind,
+      ap (λ (l : List ℕ). l ++ more) is ∙ append_assoc shown others more,
+    ),
+  ),
+)
 tells_append p job (line ∷ rest) ms place count mid total bytes more (inr (goes, inr (passed, told))) behind =
     inr (goes, inr (passed, tells_append p job rest ms (after_line place line) count mid total bytes more told behind))
 
@@ -236,27 +198,18 @@ tells_append p job (line ∷ rest) ms place count mid total bytes more (inr (goe
 pub tells_full : (p : Patterns) (job : Job) (ls ms : List (List ℕ)) (place : Place) (count total : ℕ) (bytes : List ℕ) → is_full job.most total ≡ true
     → TellsOfLines p job place count ls bytes total → TellsOfLines p job place count (ls ++ ms) bytes total
 tells_full p job ls ms place count total bytes full told =
-    subst (λ (l : List ℕ). TellsOfLines p job place count (ls ++ ms) l total) (append-nil bytes)
-    (tells_append p job ls ms place count total total bytes [] told (full_tells p job ms (after_lines place ls) total full))
+    rw (append-nil bytes) at (tells_append p job ls ms place count total total bytes [] told (full_tells p job ms (after_lines place ls) total full))
 
 -- where no pattern occurs none stands alone either, nor is the whole line
 pub none_matches : (p : Patterns) (fit : Fit) (line : List ℕ) → HasNone p line → DoesNotMatch p fit line
-none_matches p AnyPart line none = none
-none_matches p WholeWord line none = λ m alone. none m alone.occurs
-none_matches p WholeLine line none = λ m occurs start end. none m occurs
+none_matches p fit line none = grind (arith, common_steps)
 
 -- a line is selected by whether it matches
 pub selected_by : (p : Patterns) (fit : Fit) (invert matched : Bool) (line : List ℕ) → IsMatched p fit line matched → selects matched invert ≡ true → IsSelected p fit invert line
-selected_by p fit false true line is selects = is
-selected_by p fit false false line is selects = absurd (cc)
-selected_by p fit true true line is selects = absurd (cc)
-selected_by p fit true false line is selects = is
+selected_by p fit invert matched line is selects = grind (arith, common_steps)
 
 pub passed_by : (p : Patterns) (fit : Fit) (invert matched : Bool) (line : List ℕ) → IsMatched p fit line matched → selects matched invert ≡ false → IsPassedOver p fit invert line
-passed_by p fit false true line is passes = absurd (cc)
-passed_by p fit false false line is passes = is
-passed_by p fit true true line is passes = is
-passed_by p fit true false line is passes = absurd (cc)
+passed_by p fit invert matched line is passes = grind (arith, common_steps)
 
 -- where no pattern occurs in any line, and such lines are not selected, nothing is written
 tells_passed : (p : Patterns) (job : Job) (ls : List (List ℕ)) (place : Place) (count : ℕ) → job.invert ≡ false → EachLine (HasNone p) ls → TellsOfLines p job place count ls [] count
@@ -277,19 +230,13 @@ module _ (p : Patterns) (job : Job) where
   one_selected before after old new line selected counted writes =
       elim (cases_Bool (is_full job.most before.selected)) [
         | inl full ↦
-            let same : new ≡ old = subst (λ (b : Bool). MatchBool b (new ≡ old) (WritesLine p job before.place old new line)) full writes in
             let count : after.selected ≡ before.selected = counted ∙ ap (λ (b : Bool). if b then before.selected else one_more before.selected) full in
-            record {
-              bytes = [];
-              told = inl (full, refl, count);
-              written = subst (λ (held : Option (List ℕ)). Appends old held []) (sym same) (Appends-nil old);
-            }
+            record { bytes = []; told = inl (full, refl, count); written = rw (rw full at writes) (Appends-nil old) }
         | inr goes ↦
-            let (bytes, shows, written) = subst (λ (b : Bool). MatchBool b (new ≡ old) (WritesLine p job before.place old new line)) goes writes in
-            let count : after.selected ≡ one_more before.selected = counted ∙ ap (λ (b : Bool). if b then before.selected else one_more before.selected) goes in
+            let (bytes, shows, written) = rw goes at writes in
             record {
               bytes = bytes;
-              told = inr (goes, inl (selected, (bytes, [], shows, (refl, count), sym (append-nil bytes))));
+              told = inr (goes, inl (selected, (bytes, [], shows, (refl, (counted ∙ ap (λ (b : Bool). if b then before.selected else one_more before.selected) goes)), sym (append-nil bytes))));
               written = written;
             }
       ]
@@ -343,14 +290,11 @@ module _ (p : Patterns) (job : Job) where
     searched = one.searched ++ other.searched;
     cut = one.cut ∙ ap (λ (l : List (List ℕ)). one.searched ++ l) other.cut ∙ sym (append_assoc one.searched other.searched (lines job.style.ending left));
     tells = tells_join a b c x y z one.searched other.searched one.tells (one.placed (inl some)) other.tells;
-    placed = λ h. subst (λ (place : Place). SamePlace job c.place place) (sym (after_append one.searched other.searched a.place))
-        (same_trans job c.place (after_lines b.place other.searched) (after_lines (after_lines a.place one.searched) other.searched)
-        (other.placed (elim h [ inl more ↦ inl more | inr ends ↦ inr (subst (EndsLine job.style.ending) (sym one.rest) (ends_drop job.style.ending text one.at ends)) ]))
+    placed = λ h. rw (after_append one.searched other.searched a.place) (same_trans job c.place (after_lines b.place other.searched) (after_lines (after_lines a.place one.searched) other.searched)
+        (other.placed (elim h [ inl more ↦ inl more | inr ends ↦ inr (rw one.rest (ends_drop job.style.ending text one.at ends)) ]))
         (same_lines job other.searched b.place (after_lines a.place one.searched) (one.placed (inl some))));
     at = one.at + other.at;
-    within =
-        let long : length mid ≡ length text - one.at = ap length one.rest ∙ length-drop one.at text in
-        omega (arith, one.within, other.within, long);
+    within = omega (arith, one.within, other.within, (ap length one.rest ∙ length-drop one.at text));
     rest = other.rest ∙ ap (drop other.at) one.rest ∙ drop-drop other.at one.at text;
   }
 
@@ -365,9 +309,7 @@ module _ (p : Patterns) (job : Job) where
         searched = lines job.style.ending front ++ (line ∷ []);
         cut = cut ∙ sym (append_assoc (lines job.style.ending front) (line ∷ []) (lines job.style.ending left));
         tells = tells_join a b c x y z (lines job.style.ending front) (line ∷ []) one same other;
-        placed = λ h. subst (λ (place : Place). SamePlace job c.place place) (sym (after_append (lines job.style.ending front) (line ∷ []) a.place))
-            (subst (λ (place : Place). SamePlace job place (after_line (after_lines a.place (lines job.style.ending front)) line)) (sym placed)
-            (same_line job b.place (after_lines a.place (lines job.style.ending front)) line same));
+        placed = λ h. rw (after_append (lines job.style.ending front) (line ∷ []) a.place) (rw placed (same_line job b.place (after_lines a.place (lines job.style.ending front)) line same));
         at = from;
         within = within;
         rest = rest ∙ same_rest;
@@ -413,5 +355,4 @@ passing_step p job a b c x y z text rest line left invert first placed counted w
 -- none is left
 pub passing_end : (p : Patterns) (job : Job) (a b : State) (x y : Option (List ℕ)) (text rest : List ℕ) → rest ≡ [] → Passing p job a b x y text rest → TellsLines p job a b x y (lines job.style.ending text)
 passing_end p job a b x y text rest none so_far =
-    let all : lines job.style.ending text ≡ so_far.searched = so_far.cut ∙ ap (λ (l : List ℕ). so_far.searched ++ lines job.style.ending l) none ∙ append-nil so_far.searched in
-    subst (TellsLines p job a b x y) (sym all) so_far.tells
+    subst (TellsLines p job a b x y) (sym (so_far.cut ∙ ap (λ (l : List ℕ). so_far.searched ++ lines job.style.ending l) none ∙ append-nil so_far.searched)) so_far.tells

@@ -1,7 +1,7 @@
 -- What is told of a reader whose lines are searched, or those before the first that holds a zero byte alone.
-use Rattle.std.proofs.Common.{◌≡◌, inl, inr, ℕ, ◌==◌, Bool, true, false, List, [], ◌++◌, Option, sym, ◌∙◌, ap, subst, append_assoc, append-nil}
-use Rattle.std.specs.Prelude.{not, ◌&&◌}
+use Rattle.std.proofs.Common.{◌++◌, ◌==◌, ◌∙◌, ◌≡◌, Bool, List, Option, [], ap, append-nil, append_assoc, false, inl, inr, subst, sym, true, ℕ}
 use Rattle.std.proofs.lemmas.Bool.{and_parts, not-true}
+use Rattle.std.specs.Prelude.{◌&&◌, not}
 use Rattle.aho_core.specs.Patterns.{Patterns}
 use Rattle.acgrep.specs.Binary.{is_guarded, is_text, lines_by, lines_sought, takes_text}
 use Rattle.acgrep.specs.Contexts.{IsBegin, around_of}
@@ -10,8 +10,8 @@ use Rattle.acgrep.specs.Guarded.{BeginsBinary, EndsFront, SearchesFront, Searche
 use Rattle.acgrep.specs.Lines.{EndsLine, lines}
 use Rattle.acgrep.specs.Streamed.{BeginsBehind, TextIf, course}
 use Rattle.acgrep.specs.Written.{SomeLine}
-use Rattle.acgrep.specs.declared.select.Job.{Job}
-use Rattle.acgrep.specs.declared.select.State.{State}
+use Rattle.acgrep.specs.declared.job.Job.{Job}
+use Rattle.acgrep.specs.declared.job.State.{State}
 use Rattle.acgrep.proofs.BinaryLines.{first_some, first_text}
 use Rattle.acgrep.proofs.BinaryTold.{lines_cut, some_behind}
 use Rattle.acgrep.proofs.FileTellings.{file_of, left_none, lines_told, settled_read, text_behind as text_read, text_told}
@@ -27,8 +27,7 @@ module _ (p : Patterns) (job : Job) (alone : Bool) (is_alone : takes_text job �
       ∙ ap (lines_by alone job.style.ending) (append_assoc searched rest more) ∙ by_behind alone job.style.ending searched (rest ++ more) whole text
 
   sought_same : (text searched : List ℕ) → text ≡ searched → TextIf alone searched → lines_sought job text ≡ lines job.style.ending searched
-  sought_same text searched same is =
-      ap (λ (b : Bool). lines_by b job.style.ending text) is_alone ∙ ap (lines_by alone job.style.ending) same ∙ by_same alone job.style.ending searched is
+  sought_same text searched same is = ap (λ (b : Bool). lines_by b job.style.ending text) is_alone ∙ ap (lines_by alone job.style.ending) same ∙ by_same _ _ _ is
 
   -- no line with a zero byte came, or none that is to be told of
   past_searched : (before state : State) (left left' held meanwhile held' : Option (List ℕ)) → IsBegin job before → SearchesPast p job alone (course before state held meanwhile left left') [] → (any : Bool)

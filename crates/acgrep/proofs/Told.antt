@@ -1,38 +1,34 @@
 -- What a message tells is one that may be told.
-use Rattle.std.proofs.Common.{◌≡◌, inl, inr, ◌⊎◌, ℕ, ◌-◌, ◌<◌, ◌≤◌, take, drop, Bool, true, false, List, [], ◌∷◌, ◌++◌, Option, Some, None, refl, sym, ap, subst, ◌∙◌, arith, codes}
-use Prim.Native.Nat.{zero, suc}
-use Rattle.std.specs.Prelude.{IfSome, MatchBool, map, length, nat_lt, slice_index_or, if◌then◌else◌}
-use Rattle.std.specs.Borrow.{Bor}
-use Rattle.std.specs.Str.{is_utf8}
+use Rattle.std.proofs.Common.{◌++◌, ◌-◌, ◌<◌, ◌∙◌, ◌∷◌, ◌≡◌, ◌≤◌, ◌⊎◌, Bool, Bor, List, None, Option, Some, [], ap, arith, codes, drop, false, inl, inr, length, refl, subst, sym, take, true, ℕ}
 use Rattle.std.proofs.Math.ListN.{get_or}
+use Rattle.std.proofs.lemmas.Bool.{cases_Bool, cases_lt}
 use Rattle.std.proofs.lemmas.Grind.{common_steps}
 use Rattle.std.proofs.lemmas.List.{take_all}
-use Rattle.std.proofs.lemmas.Bool.{cases_Bool, cases_lt}
-use Rattle.aho_core.specs.Texts.{build_error_text, match_error_text}
-use Rattle.aho_core.specs.declared.error.BuildError.{BuildError}
-use Rattle.aho_core.specs.declared.error.MatchErrorKind.{MatchErrorKind}
+use Rattle.std.specs.Prelude.{IfSome, MatchBool, if◌then◌else◌, map, nat_lt, slice_index_or}
+use Rattle.std.specs.Str.{is_utf8}
 use Rattle.aho_devices.specs.declared.device.Sink.{Ghosts as SinkGhosts}
-use Rattle.tool_parts.specs.Messages.{Message, message_by, reason_text}
+use Rattle.tool_parts.proofs.Lines.{some-one, some-tells, some-then, some-weaker, tells-none, tells-weaker, then-some}
+use Rattle.tool_parts.specs.Messages.{message_of, reason_text}
 use Rattle.tool_parts.specs.Names.{IsOneOf}
 use Rattle.tool_parts.specs.Telling.{Tells, TellsBytes, TellsSome}
 use Rattle.tool_parts.specs.declared.errors.Errors.{Errors}
 use Rattle.tool_parts.specs.declared.reason.Reason.{Reason}
-use Rattle.tool_parts.proofs.Lines.{some-one, some-tells, some-then, some-weaker, tells-none, tells-weaker, then-some}
 use Rattle.acgrep.specs.Arguments.{Said, origin_of}
 use Rattle.acgrep.specs.Files.{IsNamed, shown_name}
 use Rattle.acgrep.specs.Folders.{Known}
+use Rattle.acgrep.specs.InTurn.{is_enough, seen_after, status_by}
 use Rattle.acgrep.specs.Runs.{origins_of}
-use Rattle.acgrep.specs.Told.{IsMessage, IsToldCause, IsUnopened, MayName, MaySaid, MayTell, TellsIf, TellsOfOutcome, TellsOutcome, TellsStatus, files_told, loop_text, no_text_text, output_text, names_said, shown_names, source_names, unopened_line, unusable_text, zero_text}
+use Rattle.acgrep.specs.Told.{IsMessage, IsToldCause, IsUnopened, MayName, MaySaid, MayTell, TellsIf, TellsOfOutcome, TellsOutcome, TellsStatus, files_told, names_said, no_text_text, shown_names, source_names, unopened_line}
 use Rattle.acgrep.specs.declared.arguments.Source.{Source}
 use Rattle.acgrep.specs.declared.arguments.Source.TheVariants.{File}
+use Rattle.acgrep.specs.declared.files.Outcome.{Outcome}
+use Rattle.acgrep.specs.declared.files.Outcome.TheVariants.{Searched, Stopped, Unread}
 use Rattle.acgrep.specs.declared.files.Seen.{Seen}
 use Rattle.acgrep.specs.declared.options.Shown.{Shown}
-use Rattle.acgrep.specs.declared.select.Job.{Job}
-use Rattle.acgrep.specs.declared.options.Shown.TheVariants.{Lines, Matches, Objects, Count, Names, Lacking, Nothing}
+use Rattle.acgrep.specs.declared.options.Shown.TheVariants.{Count, Lacking, Lines, Matches, Names, Nothing, Objects}
+use Rattle.acgrep.specs.declared.job.Job.{Job}
 use Rattle.acgrep.proofs.InTurn.{enough_only}
-use Rattle.acgrep.specs.declared.files.Outcome.{Outcome}
-use Rattle.acgrep.specs.InTurn.{is_enough, seen_after, status_by}
-use Rattle.acgrep.specs.declared.files.Outcome.TheVariants.{Searched, Unread, Stopped}
+use Prim.Native.Nat.{zero, suc}
 
 -- a name is among more names
 pub among-first : (name : List ℕ) (names more : List (List ℕ)) → IsOneOf name names → IsOneOf name (names ++ more)
@@ -63,76 +59,19 @@ message-more names all more line m = record {
 
 module _ {E : Type 0} (K : SinkGhosts E) (names : List (List ℕ)) where
   -- a message that may be told is one line
-  tells-message : (old new : Errors E) (m : Message) → IfSome m.name (MayName names) → (IsToldCause m.cause ⊎ IsUnopened m.name m.cause) → TellsBytes K old new (message_by (codes "acgrep") m) → TellsSome K (IsMessage names) old new
-  tells-message old new m named caused told =
-      some-one K (IsMessage names) old new (message_by (codes "acgrep") m) (record { message = m; name = named; cause = caused; is = refl }) told
-
-  -- one without a name, or of a name, whose cause is why the system failed
-  pub tells-memory : (old new : Errors E) (reason : Reason) → TellsBytes K old new (message_by (codes "acgrep") (record { name = None; line = None; cause = reason_text reason }))
-      → TellsSome K (IsMessage names) old new
-  tells-memory old new reason told =
-      let m : Message = record { name = None; line = None; cause = reason_text reason } in
-      tells-message old new m tt (inl (inl (reason, refl))) told
-
-  pub tells-fault : (old new : Errors E) (name : List ℕ) (reason : Reason) → MayName names name
-      → TellsBytes K old new (message_by (codes "acgrep") (record { name = Some name; line = None; cause = reason_text reason })) → TellsSome K (IsMessage names) old new
-  tells-fault old new name reason may told =
-      let m : Message = record { name = Some name; line = None; cause = reason_text reason } in
-      tells-message old new m may (inl (inl (reason, refl))) told
-
-  -- one of a folder that stands in itself
-  pub tells-loop : (old new : Errors E) (name : List ℕ) → MayName names name
-      → TellsBytes K old new (message_by (codes "acgrep") (record { name = Some name; line = None; cause = loop_text })) → TellsSome K (IsMessage names) old new
-  tells-loop old new name may told =
-      let m : Message = record { name = Some name; line = None; cause = loop_text } in
-      tells-message old new m may (inl (inr (inr (inr (inl refl))))) told
-
-  -- one of a file to which the output goes
-  pub tells-output : (old new : Errors E) (name : List ℕ) → MayName names name
-      → TellsBytes K old new (message_by (codes "acgrep") (record { name = Some name; line = None; cause = output_text })) → TellsSome K (IsMessage names) old new
-  tells-output old new name may told =
-      let m : Message = record { name = Some name; line = None; cause = output_text } in
-      tells-message old new m may (inl (inr (inr (inr (inr (inl refl)))))) told
-
-  -- one of a pattern that holds a zero byte
-  pub tells-zero : (old new : Errors E) (name : List ℕ) (line : Option ℕ) → MayName names name
-      → TellsBytes K old new (message_by (codes "acgrep") (record { name = Some name; line = line; cause = zero_text })) → TellsSome K (IsMessage names) old new
-  tells-zero old new name line may told =
-      let m : Message = record { name = Some name; line = line; cause = zero_text } in
-      tells-message old new m may (inl (inr (inr (inr (inr (inr (inl refl))))))) told
-
-  -- one of standard input that cannot be used
-  pub tells-unusable : (old new : Errors E) (name : List ℕ) → MayName names name
-      → TellsBytes K old new (message_by (codes "acgrep") (record { name = Some name; line = None; cause = unusable_text })) → TellsSome K (IsMessage names) old new
-  tells-unusable old new name may told =
-      let m : Message = record { name = Some name; line = None; cause = unusable_text } in
-      tells-message old new m may (inl (inr (inr (inr (inr (inr (inr refl))))))) told
+  pub tells-cause : (old new : Errors E) (name : Option (List ℕ)) (line : Option ℕ) (cause : List ℕ) → IfSome name (MayName names) → (IsToldCause cause ⊎ IsUnopened name cause)
+      → TellsBytes K old new (message_of (codes "acgrep") name line cause) → TellsSome K (IsMessage names) old new
+  tells-cause old new name line cause named caused told =
+      some-one K (IsMessage names) old new (message_of (codes "acgrep") name line cause) (record { message = record { name = name; line = line; cause = cause }; name = named; cause = caused; is = refl }) told
 
   -- one of a file that cannot be opened: its name is why where it is not UTF-8
-  pub tells-unopened : (old new : Errors E) (name : List ℕ) (reason : Reason) → MayName names name → TellsBytes K old new (unopened_line name reason)
-      → TellsSome K (IsMessage names) old new
+  pub tells-unopened : (old new : Errors E) (name : List ℕ) (reason : Reason) → MayName names name → TellsBytes K old new (unopened_line name reason) → TellsSome K (IsMessage names) old new
   tells-unopened old new name reason may told =
-      let Line : Bool → Type 0 = λ (b : Bool). TellsBytes K old new (message_by (codes "acgrep") (record { name = Some name; line = None; cause = if b then reason_text reason else no_text_text })) in
+      let Line : Bool → Type 0 = λ (b : Bool). TellsBytes K old new (message_of (codes "acgrep") (Some name) None (if b then reason_text reason else no_text_text)) in
       elim (cases_Bool (is_utf8 name)) [
-        | inl is ↦ tells-fault old new name reason may (subst Line is told)
-        | inr other ↦
-            let m : Message = record { name = Some name; line = None; cause = no_text_text } in
-            tells-message old new m may (inr (other, refl)) (subst Line other told)
+        | inl is ↦ tells-cause old new (Some name) None (reason_text reason) may (inl (inl (reason, refl))) (subst Line is told)
+        | inr other ↦ tells-cause old new (Some name) None no_text_text may (inr (other, refl)) (subst Line other told)
       ]
-
-  -- why the patterns are refused
-  pub tells-build : (old new : Errors E) (name : List ℕ) (line : Option ℕ) (error : BuildError) → MayName names name
-      → TellsBytes K old new (message_by (codes "acgrep") (record { name = Some name; line = line; cause = build_error_text error })) → TellsSome K (IsMessage names) old new
-  tells-build old new name line error may told =
-      let m : Message = record { name = Some name; line = line; cause = build_error_text error } in
-      tells-message old new m may (inl (inr (inl (error, refl)))) told
-
-  -- why the search is
-  pub tells-search : (old new : Errors E) (error : MatchErrorKind)
-      → TellsBytes K old new (message_by (codes "acgrep") (record { name = Some (codes "search"); line = None; cause = match_error_text error })) → TellsSome K (IsMessage names) old new
-  tells-search old new error told =
-      let m : Message = record { name = Some (codes "search"); line = None; cause = match_error_text error } in
-      tells-message old new m (inl (inr (inl refl))) (inl (inr (inr (inl (error, refl))))) told
 
 -- an element of a list is among the names of all
 pub among-at : {X : Type 0} (f : X → List ℕ) (xs : List X) (i : ℕ) (d : X) → i < length xs → IsOneOf (f (get_or xs i d)) (map f xs)
@@ -170,9 +109,8 @@ module _ {E : Type 0} (K : SinkGhosts E) (P : List ℕ → Type 0) where
       → TellsIf K P hushed (seen_after shown seen outcome).failed old new
   if-more hushed old mid new (Searched any) shown seen before now = subst (λ (e : Errors E). TellsIf K P hushed seen.failed old e) (sym now) before
   if-more true old mid new Unread shown seen before now = subst (Tells K P old) (sym now) (if-tells true seen.failed old mid before)
-  if-more false old mid new Unread shown seen before now = then-some K P old mid new (if-tells false seen.failed old mid before) now
   if-more true old mid new Stopped shown seen before now = some-tells K P old new (then-some K P old mid new (if-tells true seen.failed old mid before) now)
-  if-more false old mid new Stopped shown seen before now = then-some K P old mid new (if-tells false seen.failed old mid before) now
+  if-more false old mid new _ shown seen before now = then-some K P old mid new (if-tells false seen.failed old mid before) now
 
   -- nothing is told, and the status tells of no error
   pub status-none : (hushed : Bool) (shown : Shown) (status : ℕ) (e : Errors E) → status < 2 → TellsStatus K P hushed shown status e e
@@ -259,13 +197,7 @@ within-cut first rest names all cut within =
 pub not-quiet : (quiet names lacking count json only : Bool)
     → (if quiet then Nothing else if names then Names else if lacking then Lacking else if count then Count else if json then Objects else if only then Matches else Lines) ≡ Nothing
     → quiet ≡ false → ⊥
-not-quiet true names lacking count json only is loud = absurd (cc)
-not-quiet false true lacking count json only is loud = absurd (cc)
-not-quiet false false true count json only is loud = absurd (cc)
-not-quiet false false false true json only is loud = absurd (cc)
-not-quiet false false false false true only is loud = absurd (cc)
-not-quiet false false false false false true is loud = absurd (cc)
-not-quiet false false false false false false is loud = absurd (cc)
+not-quiet quiet names lacking count json only is loud = grind (arith, common_steps)
 
 module _ {E : Type 0} (K : SinkGhosts E) (names : List (List ℕ)) (P : List ℕ → Type 0) (may : (line : List ℕ) → IsMessage names line → P line) where
   -- what was told before a last flush, and of it
@@ -299,9 +231,7 @@ pub sources-cut : (sources : List Source) (other : Source) (all : List (List ℕ
     → IsOneOf (origin_of (get_or sources 0 other)).bytes all × AreWithin (source_names (origins_of (take (length sources - 1) (drop 1 sources)))) all
 sources-cut [] other all some within = absurd (omega (arith, some))
 sources-cut (source ∷ sources) other all some within =
-    let rest : take (length (source ∷ sources) - 1) sources ≡ sources = take_all (length (source ∷ sources) - 1) sources (omega arith) in
-    within-cut (origin_of source).bytes (source_names (origins_of (take (length (source ∷ sources) - 1) sources))) (source_names (origins_of (source ∷ sources))) all
-    (ap (λ (l : List Source). (origin_of source).bytes ∷ source_names (origins_of l)) (sym rest)) within
+    within-cut _ _ _ _ (ap (λ (l : List Source). (origin_of source).bytes ∷ source_names (origins_of l)) (sym (take_all (length (source ∷ sources) - 1) sources (omega arith)))) within
 
 -- what may be told of a call may be where its arguments say this
 pub told-said : (known : Known) (left : Option (List ℕ)) (given : Option Said) (line : List ℕ) → MayTell (names_said given) line → MaySaid known left given line

@@ -1,5 +1,5 @@
 -- Options that do not go together.
-use Rattle.std.proofs.Common.{◌≡◌, ℕ, List, Option, None, Some, subst}
+use Rattle.std.proofs.Common.{◌≡◌, List, None, Option, Some, subst, ℕ}
 use Rattle.std.specs.Prelude.{IfSome}
 use Rattle.acgrep.specs.Beside.{unfit_line}
 use Rattle.acgrep.specs.declared.beside.Unfit.{Unfit}

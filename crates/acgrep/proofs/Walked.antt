@@ -1,25 +1,25 @@
 -- Walks from line to line, one behind another.
-use Rattle.std.proofs.Common.{◌≡◌, inl, inr, ℕ, Bool, true, false, List, [], ◌∷◌, ◌++◌, Option, refl, sym, ◌∙◌, ap, subst, append_assoc, append-nil}
-use Rattle.std.specs.Prelude.{nat_lt}
-use Rattle.std.specs.Io.KnownBytes.{Appends}
+use Rattle.std.proofs.Common.{◌++◌, ◌∙◌, ◌∷◌, ◌≡◌, Bool, List, Option, [], ap, append-nil, append_assoc, arith, false, inl, inr, refl, subst, sym, true, ℕ}
 use Rattle.std.proofs.KnownBytes.{Appends-trans}
 use Rattle.std.proofs.lemmas.Bool.{cases_Bool, true≢false}
+use Rattle.std.proofs.lemmas.Grind.{common_steps}
+use Rattle.std.specs.Io.KnownBytes.{Appends}
+use Rattle.std.specs.Prelude.{nat_lt}
 use Rattle.aho_core.specs.Patterns.{Patterns}
-use Rattle.acgrep.specs.Contexts.{PassesBy, PassesLine, Steps, Walk, WalksBegun, WalksLines, WalksSome, WalksOver, WalksText, behind_chosen, behind_passed, walk_of}
+use Rattle.acgrep.specs.Contexts.{PassesBy, PassesLine, Steps, Walk, WalksBegun, WalksLines, WalksOver, WalksText, behind_chosen, behind_passed, walk_of}
 use Rattle.acgrep.specs.Lines.{EndsLine, lines}
 use Rattle.acgrep.specs.Written.{IsPassedOver, IsSettled, TellsOfLines, after_line, is_full}
 use Rattle.acgrep.specs.declared.options.Context.{Context}
 use Rattle.acgrep.specs.declared.print.Place.{Place}
-use Rattle.acgrep.specs.declared.select.Job.{Job}
-use Rattle.acgrep.specs.declared.select.State.{State}
+use Rattle.acgrep.specs.declared.job.Job.{Job}
+use Rattle.acgrep.specs.declared.job.State.{State}
 use Rattle.acgrep.proofs.Begun.{begins_behind}
 use Rattle.acgrep.proofs.LineLists.{lines_append}
 
 module _ (p : Patterns) (job : Job) (context : Context) where
   pub walks_append : (ls ms : List (List ℕ)) (w w' w'' : Walk) (bytes more : List ℕ) → WalksOver p job context w ls bytes w' → WalksOver p job context w' ms more w''
       → WalksOver p job context w (ls ++ ms) (bytes ++ more) w''
-  walks_append [] ms w w' w'' bytes more (none, same) behind =
-      subst (λ (l : List ℕ). WalksOver p job context w ms (l ++ more) w'') (sym none) (subst (λ (v : Walk). WalksOver p job context v ms more w'') same behind)
+  walks_append [] ms w w' w'' bytes more (none, same) behind = rw none (rw same at behind)
   walks_append (line ∷ rest) ms w w' w'' bytes more (shown, others, between, step, walks, is) behind =
       (shown, others ++ more, between, step, walks_append rest ms between w' w'' others more walks behind, ap (λ (l : List ℕ). l ++ more) is ∙ append_assoc shown others more)
 
@@ -55,21 +55,16 @@ module _ (p : Patterns) (job : Job) (context : Context) where
   walks_full (line ∷ rest) w full past =
       let next = behind_passed context w line in
       let (w', walks, is) = walks_full rest next full past in
-      let not : nat_lt 0 w.due ≡ false = ap (nat_lt 0) past in
-      let step : Steps p job context w line [] next = inr (record { passed = inl full; passes = subst (PassesBy p job context w line [] next) (sym not) (refl, refl) }) in
-      (w', ([], [], next, step, walks, refl), is)
+      (w', ([], [], next, (inr (record { passed = inl full; passes = subst (PassesBy p job context w line [] next) (sym (ap (nat_lt 0) past)) (refl, refl) })), walks, refl), is)
 
   -- a beginning of what is told, behind lines of which all is
   pub begun_behind : (w w' : Walk) (x y z : Option (List ℕ)) (ls ms : List (List ℕ)) → WalksLines p job context w w' x y ls → WalksBegun p job context w' y z ms
       → WalksBegun p job context w x z (ls ++ ms)
-  begun_behind w w' x y z ls ms one begins =
-      begins_behind (WalksSome p job context w') (WalksSome p job context w) ls ms x y z one.bytes
-      (λ first all (end, walks). (end, walks_append ls first w w' end one.bytes all one.walks walks)) one.written begins
+  begun_behind w w' x y z ls ms one begins = begins_behind _ _ _ _ _ _ _ one.bytes
+      (λ first all (end, walks). (end, walks_append _ first _ _ end one.bytes all one.walks walks)) one.written begins
 
   pub text_lines : (a b : State) (x y : Option (List ℕ)) (text : List ℕ) (one : WalksText p job context a b x y text) → (IsSettled job b → ⊥) → lines job.style.ending text ≡ one.searched
-  text_lines a b x y text one goes =
-      let none : one.left ≡ [] = elim one.ends [ inl none ↦ none | inr settled ↦ absurd (goes settled) ] in
-      one.cut ∙ ap (λ (l : List ℕ). one.searched ++ lines job.style.ending l) none ∙ append-nil one.searched
+  text_lines a b x y text one goes = grind (arith, common_steps)
 
   -- a text and one behind it
   pub text_join : (a b c : State) (x y z : Option (List ℕ)) (front back : List ℕ) → EndsLine job.style.ending front → (IsSettled job b → ⊥)

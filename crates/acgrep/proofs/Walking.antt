@@ -1,19 +1,19 @@
 -- What a walk through folders finds.
-use Rattle.std.proofs.Common.{◌≡◌, inl, inr, ℕ, ◌+◌, ◌-◌, ◌<◌, Bool, true, false, List, [], ◌∷◌, ◌++◌, length, take, drop, refl, sym, ◌∙◌, ap, subst, arith}
-use Rattle.std.specs.Prelude.{MatchBool, Option, Some, None, IfSome, codes, map}
-use Rattle.std.specs.Borrow.{Bor}
-use Rattle.tool_parts.specs.Names.{name_bytes}
-use Rattle.std.specs.List.Sorted.{IsPermutation, IsSorted, IsSortedBy}
-use Rattle.std.specs.Cmp.Lexicographic.{slice_cmp}
-use Rattle.std.specs.Ordering.{nat_cmp}
+use Rattle.std.proofs.Common.{◌++◌, ◌+◌, ◌-◌, ◌<◌, ◌∙◌, ◌∷◌, ◌≡◌, Bool, Bor, List, None, Option, Some, [], ap, arith, codes, drop, false, inl, inr, length, refl, subst, sym, take, true, ℕ}
 use Rattle.std.proofs.Math.ListN.{get_or}
-use Rattle.std.proofs.lemmas.List.{append-nil, append_assoc, get_or-map, length-map, map-append, take_all}
+use Rattle.std.proofs.lemmas.Grind.{common_steps}
+use Rattle.std.proofs.lemmas.List.{append-nil, append_assoc, get_or-map, length-map, map-append}
 use Rattle.std.proofs.lemmas.List.Sorted.{IsPermutation-trans}
-use Rattle.acgrep.specs.Folders.{AreBelow, AreFiles, Begins, Enters, FindsFiles, HoldsNames, IsKind, IsLost, Loses, PutsInside, Spot, Tree, files_by, inside, is_folder, is_lost_left, is_spot_left, is_standard, missed_of, none, input, missed, lost, left, looked, unlisted, entered, operand}
+use Rattle.std.specs.Cmp.Lexicographic.{slice_cmp}
+use Rattle.std.specs.List.Sorted.{IsPermutation, IsSorted, IsSortedBy}
+use Rattle.std.specs.Ordering.{nat_cmp}
+use Rattle.std.specs.Prelude.{IfSome, MatchBool, map}
+use Rattle.tool_parts.specs.Names.{name_bytes}
+use Rattle.acgrep.specs.Folders.{AreBelow, AreFiles, Begins, Enters, FindsFiles, HoldsNames, IsKind, IsLost, Loses, PutsInside, Spot, Tree, entered, files_by, input, inside, is_folder, is_lost_left, is_spot_left, is_standard, left, looked, lost, missed, missed_of, none, operand, unlisted}
 use Rattle.acgrep.specs.Listed.{listed_bytes}
 use Rattle.acgrep.specs.Rules.{RuleSaid}
 use Rattle.acgrep.specs.declared.folders.Kind.{Kind}
-use Rattle.acgrep.specs.declared.folders.Kind.TheVariants.{File, Folder, Link, Device}
+use Rattle.acgrep.specs.declared.folders.Kind.TheVariants.{Folder}
 use Rattle.acgrep.specs.declared.walk.Found.{Found}
 use Rattle.acgrep.specs.declared.walk.Ways.{Ways}
 
@@ -51,22 +51,17 @@ module _ (tree : Tree) (rules : List RuleSaid) (ways : Ways) (operands : List (L
         let all = so_far.leads (step.files ++ files) (step.unread ++ unread) (step.leads files unread are) in
         let names : listed_bytes old.names.items ++ (step.files ++ files) ≡ listed_bytes new.names.items ++ files = sym (append_assoc (listed_bytes old.names.items) step.files files) ∙ ap (λ l. l ++ files) (sym step.names) in
         let others : missed_of old.unread.items ++ (step.unread ++ unread) ≡ missed_of new.unread.items ++ unread = sym (append_assoc (missed_of old.unread.items) step.unread unread) ∙ ap (λ l. l ++ unread) (sym step.missed) in
-        subst (λ (l : List (List ℕ)). AreBelow tree rules ways operands (listed_bytes new.names.items ++ files) l) others
-        (subst (λ (l : List (List ℕ)). AreBelow tree rules ways operands l (missed_of old.unread.items ++ (step.unread ++ unread))) names all);
+        rw others at (rw names at all);
   }
 
   -- and ends where nothing is left
   pub begins-end : (found : Found) → Begins tree rules ways operands [] found → AreBelow tree rules ways operands (listed_bytes found.names.items) (missed_of found.unread.items)
-  begins-end found so_far =
-      subst (λ (l : List (List ℕ)). AreBelow tree rules ways operands (listed_bytes found.names.items) l) (append-nil (missed_of found.unread.items))
-      (subst (λ (l : List (List ℕ)). AreBelow tree rules ways operands l (missed_of found.unread.items ++ [])) (append-nil (listed_bytes found.names.items)) (so_far.leads [] [] none))
+  begins-end found so_far = rw (append-nil (missed_of found.unread.items)) at (rw (append-nil (listed_bytes found.names.items)) at (so_far.leads [] [] none))
 
   -- it begins at operands, if there are some
   pub begins-given : (found : Found) → 0 < length operands → listed_bytes found.names.items ≡ [] → missed_of found.unread.items ≡ [] → Begins tree rules ways operands (map operand operands) found
   begins-given found some clean empty = record {
-    leads = λ files unread are.
-        subst (λ (l : List (List ℕ)). AreBelow tree rules ways operands (l ++ files) (missed_of found.unread.items ++ unread)) (sym clean)
-        (subst (λ (l : List (List ℕ)). AreBelow tree rules ways operands files (l ++ unread)) (sym empty) (given operands some files unread are));
+    leads = λ files unread are. rw clean (rw empty (given operands some files unread are));
   }
     where
       given : (names : List (List ℕ)) → 0 < length names → (files unread : List (List ℕ)) → AreFiles tree rules ways (map operand names) files unread → AreBelow tree rules ways names files unread
@@ -79,9 +74,7 @@ module _ (tree : Tree) (rules : List RuleSaid) (ways : Ways) (found : Found) whe
       → listed_bytes found.names.items ≡ [] → missed_of found.unread.items ≡ [] → Begins tree rules ways [] spots found
   begins-here names spots listed puts clean empty = record {
     leads = λ files unread are.
-        let all : AreFiles tree rules ways (map (inside []) puts.ordered) files unread = subst (λ (l : List Spot). AreFiles tree rules ways l files unread) (puts.put ∙ append-nil (map (inside []) puts.ordered)) are in
-        subst (λ (l : List (List ℕ)). AreBelow tree rules ways [] (l ++ files) (missed_of found.unread.items ++ unread)) (sym clean)
-        (subst (λ (l : List (List ℕ)). AreBelow tree rules ways [] files (l ++ unread)) (sym empty) (inl (puts.ordered, holds-put tree (codes ".") names puts.ordered listed puts.permuted puts.sorted, all)));
+        rw clean (rw empty (inl (puts.ordered, holds-put tree (codes ".") names puts.ordered listed puts.permuted puts.sorted, (rw (puts.put ∙ append-nil (map (inside []) puts.ordered)) at are))));
   }
 
   -- which may be unreadable
@@ -173,20 +166,10 @@ listed-as tree given folder names same listed = subst (λ (name : List ℕ). IfS
 
 -- what is a folder is that kind
 pub folder-alone : (tree : Tree) (ways : Ways) (spot : Spot) (kind : Kind) → is_folder kind ≡ true → IsKind tree ways spot kind → IsKind tree ways spot Folder
-folder-alone tree ways spot File is known = absurd (cc)
 folder-alone tree ways spot Folder is known = known
-folder-alone tree ways spot Link is known = absurd (cc)
-folder-alone tree ways spot Device is known = absurd (cc)
+folder-alone tree ways spot _ is known = absurd (cc)
 
 -- an operand more is put down
 pub put-more : (spots : List Spot) (rest : List (Bor (List ℕ))) (d : Bor (List ℕ)) → 0 < length rest
     → (spots ++ (operand (get_or rest 0 d).now ∷ [])) ++ map operand (name_bytes (take (length rest - 1) (drop 1 rest))) ≡ spots ++ map operand (name_bytes rest)
-put-more spots [] d some = absurd (omega (arith, some))
-put-more spots (name ∷ names) d some =
-    append_assoc spots (operand name.now ∷ []) (map operand (name_bytes (take (length (name ∷ names) - 1) names)))
-    ∙ ap (λ (l : List (Bor (List ℕ))). spots ++ (operand name.now ∷ map operand (name_bytes l))) (take_all (length (name ∷ names) - 1) names (omega arith))
-
--- where a list has no length it is empty
-pub all-gone : {X : Type 0} (xs : List X) → length xs ≡ 0 → xs ≡ []
-all-gone [] e = refl
-all-gone (x ∷ xs) e = absurd (omega (arith, e))
+put-more spots rest d some = grind (arith, common_steps)

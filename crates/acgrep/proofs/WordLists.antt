@@ -1,15 +1,16 @@
 -- The patterns of sources, one after another, as the lines of one text.
-use Rattle.std.proofs.Common.{◌≡◌, inl, inr, ℕ, suc, ◌-◌, ◌≤◌, ◌<◌, ◌==◌, true, false, List, [], ◌∷◌, ◌++◌, Option, None, Some, length, take, drop, refl, sym, ◌∙◌, ap, subst, arith, append-nil, append_assoc}
-use Rattle.std.specs.Prelude.{IfSome, codes}
-use Rattle.std.specs.Io.{StartsWith}
-use Rattle.std.specs.Io.KnownBytes.{Consumes, IsAtEnd, Keeps}
+use Rattle.std.proofs.Common.{◌++◌, ◌-◌, ◌<◌, ◌==◌, ◌∙◌, ◌∷◌, ◌≡◌, ◌≤◌, List, Option, [], ap, append-nil, append_assoc, arith, codes, drop, false, inl, inr, length, refl, subst, suc, sym, take, true, ℕ}
 use Rattle.std.proofs.KnownBytes.{starts_with_rest}
 use Rattle.std.proofs.Math.ListN.{get_or}
 use Rattle.std.proofs.lemmas.Bool.{cases_Bool}
+use Rattle.std.proofs.lemmas.Grind.{common_steps}
 use Rattle.std.proofs.lemmas.List.{take_all}
+use Rattle.std.specs.Io.{StartsWith}
+use Rattle.std.specs.Io.KnownBytes.{Consumes, IsAtEnd, Keeps}
+use Rattle.std.specs.Prelude.{IfSome}
 use Rattle.memchr.specs.Find.{Nowhere}
-use Rattle.acgrep.specs.Arguments.{Origin, origin_of}
 use Rattle.tool_parts.specs.Names.{is_input}
+use Rattle.acgrep.specs.Arguments.{Origin, origin_of}
 use Rattle.acgrep.specs.Lines.{EndsLine, IsEnding, joined_to, lines}
 use Rattle.acgrep.specs.Loading.{AddsText, AddsWords}
 use Rattle.acgrep.specs.Runs.{AreWords, origins_of}
@@ -43,11 +44,7 @@ lines_ended text start some none = lines_closed text (omega (arith, some)) (none
 module _ (holds : List ℕ → Option (List ℕ)) where
   -- all that a reader has of a file that is known
   text_kept : (known left left' : Option (List ℕ)) (text : List ℕ) → Keeps known left → Consumes left left' text → IsAtEnd left' → IfSome known (λ (bytes : List ℕ). text ≡ bytes)
-  text_kept None left left' text kept read end = tt
-  text_kept (Some bytes) None left' text kept read end = absurd kept
-  text_kept (Some bytes) (Some all) None text kept read end = absurd read
-  text_kept (Some bytes) (Some all) (Some rest) text kept read end =
-      sym (append-nil text) ∙ ap (λ (l : List ℕ). text ++ l) (sym end) ∙ sym read ∙ kept
+  text_kept known left left' text kept read end = grind (arith, common_steps)
 
   -- what was read of the input stands behind the bytes before
   pub input_added : (name old new : List ℕ) (left left' : Option (List ℕ)) → is_input name ≡ true → StartsWith new old → Consumes left left' (drop (length old) new) → IsAtEnd left'
@@ -102,8 +99,7 @@ module _ (holds : List ℕ → Option (List ℕ)) where
     words_next [] other left left' old new some before added = absurd (omega (arith, some))
     words_next (source ∷ []) other left left' old new some before added = words_more (origin_of source) [] left left' old new before added
     words_next (source ∷ next ∷ sources) other left left' old new some before added =
-        subst (λ (l : List Source). AreWordsWith (origins_of l) left' new) (sym (take_all (length (source ∷ next ∷ sources) - 1) (next ∷ sources) (omega arith)))
-        (words_more (origin_of source) (origins_of (next ∷ sources)) left left' old new before added)
+        rw (take_all (length (source ∷ next ∷ sources) - 1) (next ∷ sources) (omega arith)) (words_more (origin_of source) (origins_of (next ∷ sources)) left left' old new before added)
 
     pub words_end : (sources : List Source) (left : Option (List ℕ)) (words : List (List ℕ)) → length sources ≡ 0 → AreWordsWith (origins_of sources) left words → AreWords holds all begin left words
     words_end [] left words none before = subst (AreWords holds all begin left) (append-nil words) (before left [] (refl, refl))

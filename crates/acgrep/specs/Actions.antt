@@ -1,13 +1,13 @@
 -- What the arguments of `--color`, `-d`, `-D` and `--binary-files` name.
-use Rattle.std.specs.Prelude.{ℕ, ◌||◌, Bool, List, [], ◌∷◌, Option, None, Some, codes, if◌then◌else◌}
+use Rattle.std.specs.Prelude.{◌||◌, ◌∷◌, Bool, List, None, Option, Some, [], codes, if◌then◌else◌, ℕ}
 use Rattle.std.specs.Result.{result_ok}
 use Rattle.std.specs.Str.{bytes_eq, str_eq_ignore_ascii_case}
 use Rattle.tool_parts.specs.OptionNames.{Named, found_among, meant, named}
 use Rattle.tool_parts.specs.declared.options.found.Found.TheVariants.{Unknown}
 use Rattle.acgrep.specs.declared.options.Color.{Color}
-use Rattle.acgrep.specs.declared.options.Color.TheVariants.{Auto, Always, Never}
-use Rattle.acgrep.specs.declared.options.Switch.{Switch}
-use Rattle.acgrep.specs.declared.options.Switch.TheVariants.{Recursive, ReadFolders, SkipFolders, ReadDevices, SkipDevices, Text, TextAlone, Binary}
+use Rattle.acgrep.specs.declared.options.Color.TheVariants.{Always, Auto, Never}
+use Rattle.acgrep.specs.declared.all_options.Switch.{Switch}
+use Rattle.acgrep.specs.declared.all_options.Switch.TheVariants.{Binary, ReadDevices, ReadFolders, Recursive, SkipDevices, SkipFolders, Text, TextAlone}
 
 -- one of three names, in whichever case
 abbrev pub is_one_of : (first second third : List ℕ) → List ℕ → Bool

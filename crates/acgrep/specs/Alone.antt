@@ -1,6 +1,6 @@
 -- What stands alone in a line: no letter, digit or `_` is beside it.
-use Rattle.std.specs.Prelude.{◌≡◌, ℕ, ◌+◌, ◌-◌, ◌==◌, ◌<◌, ◌≤◌, ◌⊎◌, ◌&&◌, ◌||◌, max, nat_lt, Bool, MatchBool, true, false, not, List, [], ◌∷◌, Option, Some, None, length, slice_index}
 use Rattle.std.specs.Char.{is_ascii_alphanumeric}
+use Rattle.std.specs.Prelude.{◌&&◌, ◌+◌, ◌-◌, ◌<◌, ◌==◌, ◌||◌, ◌∷◌, ◌≡◌, ◌≤◌, ◌⊎◌, Bool, List, MatchBool, None, Option, Some, [], false, length, max, nat_lt, not, slice_index, true, ℕ}
 use Rattle.aho_core.specs.Best.{IsBestOrNone}
 use Rattle.aho_core.specs.Iteration.{AreFinds}
 use Rattle.aho_core.specs.Occurrence.{Occurrence}
@@ -10,7 +10,7 @@ use Rattle.aho_core.specs.Patterns.{Patterns}
 use Rattle.aho_core.specs.Search.{plain_search}
 use Rattle.aho_core.specs.declared.search.MatchKind.TheVariants.{LeftmostLongest}
 use Rattle.acgrep.specs.declared.options.Fit.{Fit}
-use Rattle.acgrep.specs.declared.options.Fit.TheVariants.{AnyPart, WholeWord, WholeLine}
+use Rattle.acgrep.specs.declared.options.Fit.TheVariants.{WholeWord}
 
 -- a letter of ASCII, a digit or `_`
 abbrev pub is_word_constituent : ℕ → Bool
@@ -46,9 +46,8 @@ AreAloneFrom p line at (m ∷ ms) = IsNextAlone p line at (Some m) × AreAloneFr
 
 -- whether a match has to stand alone
 abbrev pub asks_alone : Fit → Bool
-asks_alone AnyPart = false
 asks_alone WholeWord = true
-asks_alone WholeLine = false
+asks_alone _ = false
 
 -- the matches of a line that are written: those that stand alone where that is asked for, and else those that iteration finds
 abbrev pub AreShownOf : Patterns → Bool → List ℕ → List Occurrence → Type 0

@@ -1,40 +1,40 @@
 -- What the arguments, those after the program's name, say.
-use Rattle.tool_parts.specs.Arguments.{kind_by}
-use Rattle.std.specs.Prelude.{◌≡◌, ℕ, ◌==◌, ◌^◌, ◌||◌, ◌&&◌, ◌<◌, nat_lt, slice_index, Bool, true, false, List, [], ◌∷◌, ◌++◌, Option, Some, None, codes, is_some, not, unwrap_or, length, map, Result, IfErr, IfOk, OnOk, option_and_then, option_map, if◌then◌else◌}
 use Rattle.std.specs.Char.{is_ascii_digit}
+use Rattle.std.specs.Prelude.{◌&&◌, ◌++◌, ◌<◌, ◌==◌, ◌^◌, ◌||◌, ◌∷◌, ◌≡◌, Bool, IfErr, IfOk, List, None, OnOk, Option, Result, Some, [], codes, false, if◌then◌else◌, is_some, length, map, nat_lt, not, option_and_then, option_map, slice_index, true, unwrap_or, ℕ}
 use Rattle.std.specs.Str.{all_ascii_digits}
 use Rattle.std.specs.Str.Parse.{digits_value}
 use Rattle.aho_core.specs.declared.search.MatchKind.TheVariants.{LeftmostLongest}
 use Rattle.tool_parts.specs.ArgumentForms.{Form, argument_form, joined_letters, long_name, long_with, no_more, no_option}
-use Rattle.acgrep.specs.declared.arguments.Given.{Given}
+use Rattle.tool_parts.specs.Arguments.{kind_by}
 use Rattle.acgrep.specs.Actions.{binary_named, color_named, devices_named, folders_named}
 use Rattle.acgrep.specs.Formats.{format_pieces}
 use Rattle.acgrep.specs.Long.{option_by}
 use Rattle.acgrep.specs.Rules.{RuleSaid, rules_said, without_slashes}
-use Rattle.acgrep.specs.declared.rules.Sense.{Sense}
-use Rattle.acgrep.specs.declared.rules.Sense.TheVariants.{Include, Exclude, ExcludeFrom, ExcludeFolder}
+use Rattle.acgrep.specs.declared.arguments.Awaited.{Awaited}
+use Rattle.acgrep.specs.declared.arguments.Awaited.TheVariants.{Argument, Fresh, Operands}
+use Rattle.acgrep.specs.declared.arguments.Given.{Given}
+use Rattle.acgrep.specs.declared.wrong.Refusal.{Refusal}
+use Rattle.acgrep.specs.declared.wrong.Refusal.TheVariants.{OutOfMemory, Wrong}
+use Rattle.acgrep.specs.declared.arguments.Source.{Source}
+use Rattle.acgrep.specs.declared.arguments.Source.TheVariants.{File, Text}
 use Rattle.acgrep.specs.declared.format.Piece.{Piece}
 use Rattle.acgrep.specs.declared.long.Long.{Long}
 use Rattle.acgrep.specs.declared.long.Long.TheVariants.{Plain, Takes, When}
-use Rattle.acgrep.specs.declared.long.Valued.{Valued}
-use Rattle.acgrep.specs.declared.long.Valued.TheVariants.{Regexp, PatternFile, Kind, Offset, FirstLine, MaxCount, After, Before, Around, Separator, Label, Format, Included, Excluded, ExcludedFrom, ExcludedFolder, Folders, Devices, BinaryFiles, RuleFile, LineLimit}
+use Rattle.acgrep.specs.declared.all_options.Valued.{Valued}
+use Rattle.acgrep.specs.declared.all_options.Valued.TheVariants.{After, Around, Before, BinaryFiles, Devices, Excluded, ExcludedFolder, ExcludedFrom, FirstLine, Folders, Format, Included, Kind, Label, LineLimit, MaxCount, Offset, PatternFile, Regexp, RuleFile, Separator}
 use Rattle.acgrep.specs.declared.options.Color.{Color}
-use Rattle.acgrep.specs.declared.options.Context.{Context}
-use Rattle.acgrep.specs.declared.options.Switch.{Switch}
-use Rattle.acgrep.specs.declared.options.Switch.TheVariants.{IgnoreCase, MatchCase, Invert, WholeWords, WholeLines, Counts, Tallies, Numbers, OnlyMatching, Offsets, OnlyNames, OnlyLacking, Recursive, Follow, NullNames, NullData, Quiet, NoSeparator, InitialTab, Json, NoName, WithName, NoMatchOk, NoMessages, Help, Version, Text, TextAlone, Binary, ReadFolders, SkipFolders, ReadDevices, SkipDevices, Same}
-use Rattle.acgrep.specs.declared.arguments.Awaited.{Awaited}
-use Rattle.acgrep.specs.declared.arguments.Awaited.TheVariants.{Fresh, Argument, Operands}
-use Rattle.acgrep.specs.declared.arguments.Refusal.{Refusal}
-use Rattle.acgrep.specs.declared.arguments.Refusal.TheVariants.{Wrong, OutOfMemory}
-use Rattle.acgrep.specs.declared.arguments.Source.{Source}
-use Rattle.acgrep.specs.declared.arguments.Source.TheVariants.{Text, File}
 use Rattle.acgrep.specs.declared.options.Color.TheVariants.{Auto, Never}
+use Rattle.acgrep.specs.declared.options.Context.{Context}
 use Rattle.acgrep.specs.declared.options.Fit.{Fit}
-use Rattle.acgrep.specs.declared.options.Fit.TheVariants.{AnyPart, WholeWord, WholeLine}
+use Rattle.acgrep.specs.declared.options.Fit.TheVariants.{AnyPart, WholeLine, WholeWord}
 use Rattle.acgrep.specs.declared.options.Flags.{Flags}
 use Rattle.acgrep.specs.declared.options.Shown.{Shown}
+use Rattle.acgrep.specs.declared.options.Shown.TheVariants.{Count, Lacking, Lines, Matches, Names, Nothing, Objects}
+use Rattle.acgrep.specs.declared.all_options.Switch.{Switch}
+use Rattle.acgrep.specs.declared.all_options.Switch.TheVariants.{Binary, Counts, Follow, Help, IgnoreCase, InitialTab, Invert, Json, MatchCase, NoMatchOk, NoMessages, NoName, NoSeparator, NullData, NullNames, Numbers, Offsets, OnlyLacking, OnlyMatching, OnlyNames, Quiet, ReadDevices, ReadFolders, Recursive, Same, SkipDevices, SkipFolders, Tallies, Text, TextAlone, Version, WholeLines, WholeWords, WithName}
+use Rattle.acgrep.specs.declared.rules.Sense.{Sense}
+use Rattle.acgrep.specs.declared.rules.Sense.TheVariants.{Exclude, ExcludeFolder, ExcludeFrom, Include}
 use Rattle.acgrep.specs.declared.walk.Ways.{Ways}
-use Rattle.acgrep.specs.declared.options.Shown.TheVariants.{Lines, Matches, Objects, Count, Names, Lacking, Nothing}
 
 -- where patterns come from: a text, or the file of a name
 pub record Origin : Type 0 where
@@ -176,27 +176,14 @@ taken_by is_file (first ∷ rest) s = said_so (with_source is_file (first ∷ re
 
 -- what an option with a number changes
 abbrev pub numbered_in : Valued → ℕ → Flags → Flags
-numbered_in Regexp number flags = flags
-numbered_in PatternFile number flags = flags
-numbered_in Kind number flags = flags
 numbered_in Offset number flags = record flags { first = number }
 numbered_in FirstLine number flags = record flags { first_line = number }
 numbered_in MaxCount number flags = record flags { most = Some number }
 numbered_in After number flags = record flags { after = Some number }
 numbered_in Before number flags = record flags { before = Some number }
 numbered_in Around number flags = record flags { context = Some number }
-numbered_in Separator number flags = flags
-numbered_in Label number flags = flags
-numbered_in Format number flags = flags
-numbered_in Included number flags = flags
-numbered_in Excluded number flags = flags
-numbered_in ExcludedFrom number flags = flags
-numbered_in ExcludedFolder number flags = flags
-numbered_in Folders number flags = flags
-numbered_in Devices number flags = flags
-numbered_in BinaryFiles number flags = flags
-numbered_in RuleFile number flags = flags
 numbered_in LineLimit number flags = record flags { longest = Some number }
+numbered_in _ number flags = flags
 
 abbrev pub with_number : Valued → ℕ → Said → Said
 with_number valued number s = record s { flags = numbered_in valued number s.flags }
@@ -270,8 +257,8 @@ valued_letter letter =
 
 -- that argument stands behind its letter too
 abbrev pub behind_by : Valued → List ℕ → Said → Option ReadSoFar
-behind_by valued [] s = Some (record { awaits = Argument valued; said = s })
 behind_by valued (first ∷ rest) s = value_by valued (first ∷ rest) s
+behind_by valued [] s = Some (record { awaits = Argument valued; said = s })
 
 -- so many digits stand at the front of letters, and then none
 pub record AreDigits (letters : List ℕ) (count : ℕ) : Type 0 where
@@ -349,9 +336,8 @@ argument_by Operands argument s = Some (record { awaits = Operands; said = with_
 
 -- no option may wait for its argument at the end
 abbrev pub ended_by : Awaited → Said → Option Said
-ended_by Fresh s = Some s
 ended_by (Argument valued) s = None
-ended_by Operands s = Some s
+ended_by _ s = Some s
 
 -- one argument after another
 abbrev pub arguments_by : Awaited → List (List ℕ) → Said → Option Said

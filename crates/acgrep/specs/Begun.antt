@@ -1,6 +1,6 @@
 -- A beginning of what is told of lines.
-use Rattle.std.specs.Prelude.{◌≡◌, ℕ, List, ◌++◌, Option}
 use Rattle.std.specs.Io.KnownBytes.{Appends}
+use Rattle.std.specs.Prelude.{◌++◌, ◌≡◌, List, Option, ℕ}
 
 -- of some first ones of these lines a beginning of what is told is written, and nothing else; `Tells first all` says what that is
 pub record BeginsOf (Tells : List (List ℕ) → List ℕ → Type 0) (ls : List (List ℕ)) (old new : Option (List ℕ)) : Type 0 where

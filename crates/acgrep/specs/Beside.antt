@@ -1,13 +1,13 @@
 -- Which options do not go with rules.
-use Rattle.std.specs.Prelude.{ℕ, ◌==◌, not, Bool, true, false, List, [], ◌∷◌, ◌++◌, Option, None, Some, codes, is_some, if◌then◌else◌}
+use Rattle.std.specs.Prelude.{◌++◌, ◌==◌, ◌∷◌, Bool, List, None, Option, Some, [], codes, false, if◌then◌else◌, is_some, not, true, ℕ}
 use Rattle.std.specs.Str.{bytes_eq}
 use Rattle.aho_core.specs.declared.search.MatchKind.{MatchKind}
-use Rattle.aho_core.specs.declared.search.MatchKind.TheVariants.{Standard, LeftmostFirst, LeftmostLongest}
+use Rattle.aho_core.specs.declared.search.MatchKind.TheVariants.{LeftmostLongest}
 use Rattle.acgrep.specs.Arguments.{Origin, Said}
 use Rattle.acgrep.specs.declared.beside.Unfit.{Unfit}
-use Rattle.acgrep.specs.declared.beside.Unfit.TheVariants.{Beside, Alone}
+use Rattle.acgrep.specs.declared.beside.Unfit.TheVariants.{Alone, Beside}
 use Rattle.acgrep.specs.declared.options.Color.{Color}
-use Rattle.acgrep.specs.declared.options.Color.TheVariants.{Auto, Always, Never}
+use Rattle.acgrep.specs.declared.options.Color.TheVariants.{Never}
 use Rattle.acgrep.specs.declared.options.Flags.{Flags}
 
 -- the option that gives patterns, if one does
@@ -17,9 +17,8 @@ source_beside (source ∷ sources) = Some (if source.is_file then codes "-f" els
 
 -- one that says how patterns are searched for
 abbrev pub kind_beside : MatchKind → Option (List ℕ)
-kind_beside Standard = Some (codes "--kind")
-kind_beside LeftmostFirst = Some (codes "--kind")
 kind_beside LeftmostLongest = None
+kind_beside _ = Some (codes "--kind")
 
 abbrev pub pattern_beside : Flags → Option (List ℕ)
 pattern_beside flags =
@@ -44,9 +43,8 @@ output_beside given =
 
 -- one that says how lines are coloured, or what is done with those that hold a zero byte
 abbrev pub is_color : Color → Bool
-is_color Auto = true
-is_color Always = true
 is_color Never = false
+is_color _ = true
 
 abbrev pub last_beside : Said → Option (List ℕ)
 last_beside given =

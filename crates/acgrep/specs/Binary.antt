@@ -1,13 +1,13 @@
 -- Lines that hold a zero byte: from the first of them on a file's lines are kept from a terminal, or not searched.
-use Rattle.std.specs.Prelude.{◌≡◌, ℕ, ◌==◌, ◌&&◌, ◌||◌, not, Bool, MatchBool, true, false, List, [], ◌∷◌, ◌++◌, codes, if◌then◌else◌}
+use Rattle.std.specs.Prelude.{◌&&◌, ◌++◌, ◌==◌, ◌||◌, ◌∷◌, ◌≡◌, Bool, List, MatchBool, [], codes, false, if◌then◌else◌, not, true, ℕ}
 use Rattle.aho_core.specs.Patterns.{Patterns}
 use Rattle.acgrep.specs.Contexts.{TellsFile}
 use Rattle.acgrep.specs.Lines.{lines}
 use Rattle.acgrep.specs.Written.{IsAny, IsSelected, SomeLine, is_full}
 use Rattle.acgrep.specs.declared.options.Shown.{Shown}
-use Rattle.acgrep.specs.declared.options.Shown.TheVariants.{Lines, Matches, Objects, Count, Names, Lacking, Nothing}
+use Rattle.acgrep.specs.declared.options.Shown.TheVariants.{Lines, Matches, Nothing}
 use Rattle.acgrep.specs.declared.print.Style.{Style}
-use Rattle.acgrep.specs.declared.select.Job.{Job}
+use Rattle.acgrep.specs.declared.job.Job.{Job}
 
 -- whether bytes hold no zero byte
 abbrev pub is_text : List ℕ → Bool
@@ -32,11 +32,7 @@ binary_by style = codes "acgrep: " ++ (style.name.now ++ codes ": binary file ma
 abbrev pub writes_lines : Shown → Bool
 writes_lines Lines = true
 writes_lines Matches = true
-writes_lines Objects = false
-writes_lines Count = false
-writes_lines Names = false
-writes_lines Lacking = false
-writes_lines Nothing = false
+writes_lines _ = false
 
 -- then they are kept from the output where that is asked for, and a zero byte does not end a line
 abbrev pub is_guarded : Job → Bool

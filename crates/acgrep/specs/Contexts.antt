@@ -1,30 +1,26 @@
 -- The lines around selected ones: which are written, and what stands between them.
-use Rattle.std.specs.Prelude.{◌≡◌, ◌⊎◌, ℕ, ◌+◌, ◌-◌, ◌<◌, ◌≤◌, ◌==◌, nat_le, nat_lt, Bool, MatchBool, true, false, not, ◌&&◌, List, [], ◌∷◌, ◌++◌, Option, Some, None, length, slice_index_or, if◌then◌else◌}
 use Rattle.std.specs.Io.KnownBytes.{Appends}
+use Rattle.std.specs.Prelude.{◌&&◌, ◌++◌, ◌+◌, ◌-◌, ◌<◌, ◌==◌, ◌∷◌, ◌≡◌, ◌≤◌, ◌⊎◌, Bool, List, MatchBool, None, Option, Some, [], false, if◌then◌else◌, length, nat_le, nat_lt, not, slice_index_or, true, ℕ}
 use Rattle.aho_core.specs.Patterns.{Patterns}
 use Rattle.acgrep.specs.Begun.{BeginsOf}
 use Rattle.acgrep.specs.Filled.{held_lines}
 use Rattle.acgrep.specs.Lines.{lines}
 use Rattle.acgrep.specs.Printed.{separator_by}
 use Rattle.acgrep.specs.Written.{IsPassedOver, IsSelected, IsSettled, SearchesPlain, ShowsLine, TellsOfLines, after_line, is_full, one_more}
-use Rattle.acgrep.specs.declared.trail.Trail.{Trail}
 use Rattle.acgrep.specs.declared.options.Context.{Context}
 use Rattle.acgrep.specs.declared.options.Shown.{Shown}
-use Rattle.acgrep.specs.declared.options.Shown.TheVariants.{Lines, Matches, Objects, Count, Names, Lacking, Nothing}
+use Rattle.acgrep.specs.declared.options.Shown.TheVariants.{Lines, Matches}
 use Rattle.acgrep.specs.declared.print.Place.{Place}
 use Rattle.acgrep.specs.declared.print.Style.{Style}
-use Rattle.acgrep.specs.declared.select.Job.{Job}
-use Rattle.acgrep.specs.declared.select.State.{State}
+use Rattle.acgrep.specs.declared.job.Job.{Job}
+use Rattle.acgrep.specs.declared.job.State.{State}
+use Rattle.acgrep.specs.declared.trail.Trail.{Trail}
 
 -- lines around selected ones are written where lines or matches are
 abbrev pub around_by : Shown → Option Context → Option Context
 around_by Lines context = context
 around_by Matches context = context
-around_by Objects context = None
-around_by Count context = None
-around_by Names context = None
-around_by Lacking context = None
-around_by Nothing context = None
+around_by _ context = None
 
 abbrev pub around_of : Job → Option Context
 around_of job = around_by job.shown job.context

@@ -1,6 +1,6 @@
 -- What is counted and written of the files that operands name.
-use Rattle.std.specs.Prelude.{ℕ, ◌<◌, List}
 use Rattle.std.specs.Borrow.{Bor}
+use Rattle.std.specs.Prelude.{◌<◌, List, ℕ}
 use Rattle.std.specs.declared.io.traits.Read.{Ghosts as Readers}
 use Rattle.aho_core.specs.Replacement.{pieces_of}
 use Rattle.aho_devices.specs.declared.device.Sink.{Ghosts as SinkGhosts}

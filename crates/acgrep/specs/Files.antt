@@ -1,9 +1,9 @@
 -- What is written of files, one after another.
-use Rattle.tool_parts.specs.Names.{is_input}
-use Rattle.std.specs.Prelude.{◌≡◌, ◌⊎◌, ℕ, ◌||◌, nat_lt, Bool, true, false, List, [], ◌++◌, Option, IfSome, MatchBool, if◌then◌else◌}
 use Rattle.std.specs.Borrow.{Bor}
 use Rattle.std.specs.Io.KnownBytes.{Appends, Consumes, IsAtEnd}
+use Rattle.std.specs.Prelude.{◌++◌, ◌||◌, ◌≡◌, ◌⊎◌, Bool, IfSome, List, MatchBool, Option, [], false, if◌then◌else◌, nat_lt, true, ℕ}
 use Rattle.aho_core.specs.Patterns.{Patterns}
+use Rattle.tool_parts.specs.Names.{is_input}
 use Rattle.acgrep.specs.Begun.{BeginsOf}
 use Rattle.acgrep.specs.Binary.{TellsBinary, TellsGuarded, binary_by, is_guarded, is_text, lines_by, lines_sought, takes_text}
 use Rattle.acgrep.specs.Contexts.{TellsFile}
@@ -13,29 +13,21 @@ use Rattle.acgrep.specs.Lines.{lines}
 use Rattle.acgrep.specs.Printed.{count_by, file_line}
 use Rattle.acgrep.specs.Written.{IsAny, IsSelected, SomeLine, TellsOfLines, is_full, needs_one}
 use Rattle.acgrep.specs.declared.options.Shown.{Shown}
-use Rattle.acgrep.specs.declared.options.Shown.TheVariants.{Lines, Matches, Objects, Count, Names, Lacking, Nothing}
+use Rattle.acgrep.specs.declared.options.Shown.TheVariants.{Count, Lacking, Names, Nothing}
 use Rattle.acgrep.specs.declared.print.Style.{Style}
-use Rattle.acgrep.specs.declared.select.Job.{Job}
+use Rattle.acgrep.specs.declared.job.Job.{Job}
 
 -- behind the lines of a file stands their count where it is asked for
 abbrev pub count_if : Shown → Style → ℕ → List ℕ
-count_if Lines style count = []
-count_if Matches style count = []
-count_if Objects style count = []
 count_if Count style count = count_by style count
-count_if Names style count = []
-count_if Lacking style count = []
-count_if Nothing style count = []
+count_if _ style count = []
 
 -- or its name where a line is selected, or where none is
 abbrev pub total_if : Shown → Style → ℕ → List ℕ
-total_if Lines style count = []
-total_if Matches style count = []
-total_if Objects style count = []
 total_if Count style count = count_by style count
 total_if Names style count = if nat_lt 0 count then file_line style else []
 total_if Lacking style count = if nat_lt 0 count then [] else file_line style
-total_if Nothing style count = []
+total_if _ style count = []
 
 -- what is told of each of these lines, the first ones of their file, and the count of selected lines
 abbrev pub TellsEach : Patterns → Job → List (List ℕ) → List ℕ → Type 0
@@ -44,13 +36,10 @@ TellsEach p job ls bytes =
 
 -- what is written of a file of which these lines are searched: of them, its name where one is selected, or where none is, or nothing
 abbrev pub TellsBy : Patterns → Job → Shown → List (List ℕ) → Bool → List ℕ → Type 0
-TellsBy p job Lines ls any bytes = TellsEach p job ls bytes
-TellsBy p job Matches ls any bytes = TellsEach p job ls bytes
-TellsBy p job Objects ls any bytes = TellsEach p job ls bytes
-TellsBy p job Count ls any bytes = TellsEach p job ls bytes
 TellsBy p job Names ls any bytes = bytes ≡ (if any then file_line job.style else [])
 TellsBy p job Lacking ls any bytes = bytes ≡ (if any then [] else file_line job.style)
 TellsBy p job Nothing ls any bytes = bytes ≡ []
+TellsBy p job _ ls any bytes = TellsEach p job ls bytes
 
 -- and whether a line of it is selected
 abbrev pub TellsSearched : Patterns → Job → List (List ℕ) → Bool → List ℕ → Type 0

@@ -1,16 +1,16 @@
 -- Which files the operands of a recursive search name.
-use Rattle.std.specs.Prelude.{◌≡◌, ◌⊎◌, ℕ, ◌&&◌, ◌||◌, nat_eq, Bool, MatchBool, true, false, List, [], ◌∷◌, ◌++◌, Option, None, IfSome, codes, map, not, unwrap_or, if◌then◌else◌}
-use Rattle.std.specs.List.{ends_with}
-use Rattle.std.specs.Str.{IsUtf8, bytes_eq}
-use Rattle.std.specs.List.Sorted.{IsPermutation, IsSorted}
 use Rattle.std.specs.Cmp.Lexicographic.{slice_cmp}
+use Rattle.std.specs.List.{ends_with}
+use Rattle.std.specs.List.Sorted.{IsPermutation, IsSorted}
 use Rattle.std.specs.Ordering.{nat_cmp}
+use Rattle.std.specs.Prelude.{◌&&◌, ◌++◌, ◌||◌, ◌∷◌, ◌≡◌, ◌⊎◌, Bool, IfSome, List, MatchBool, None, Option, [], codes, false, if◌then◌else◌, map, nat_eq, not, true, unwrap_or, ℕ}
+use Rattle.std.specs.Str.{IsUtf8, bytes_eq}
 use Rattle.tool_parts.specs.Names.{is_input}
 use Rattle.acgrep.specs.Listed.{listed_bytes}
 use Rattle.acgrep.specs.Rules.{RuleSaid, is_left_out, without_slashes}
 use Rattle.acgrep.specs.declared.folders.Folders.{Ghosts as FolderGhosts}
 use Rattle.acgrep.specs.declared.folders.Kind.{Kind}
-use Rattle.acgrep.specs.declared.folders.Kind.TheVariants.{File, Folder, Link, Device}
+use Rattle.acgrep.specs.declared.folders.Kind.TheVariants.{Device, File, Folder}
 use Rattle.acgrep.specs.declared.open.Open.{Ghosts as Openers}
 use Rattle.acgrep.specs.declared.walk.Found.{Found}
 use Rattle.acgrep.specs.declared.walk.Pending.{Pending}
@@ -72,10 +72,8 @@ abbrev pub IsKind : Tree → Ways → Spot → Kind → Type 0
 IsKind tree ways spot kind = IfSome (tree.kinds (is_followed ways spot) spot.name) (λ known. kind ≡ known)
 
 abbrev pub is_folder : Kind → Bool
-is_folder File = false
 is_folder Folder = true
-is_folder Link = false
-is_folder Device = false
+is_folder _ = false
 
 -- devices are read where that is said, and where nothing is said of it those where a link would be followed
 abbrev pub reads_devices : Ways → Spot → Bool
@@ -84,9 +82,8 @@ reads_devices ways spot = unwrap_or ways.devices (is_followed ways spot)
 -- whether it is searched: a file is, and a device where those are read
 abbrev pub is_searched : Kind → Bool → Bool
 is_searched File devices = true
-is_searched Folder devices = false
-is_searched Link devices = false
 is_searched Device devices = devices
+is_searched _ devices = false
 
 abbrev pub files_by : Ways → Kind → Spot → List (List ℕ)
 files_by ways kind spot = if is_searched kind (reads_devices ways spot) then spot.name ∷ [] else []
@@ -193,10 +190,9 @@ Loses rules spot old new =
 
 -- an operand of this kind is passed over
 abbrev pub is_passed : Ways → Kind → Bool
-is_passed ways File = false
 is_passed ways Folder = ways.skips_folders
-is_passed ways Link = false
 is_passed ways Device = not (unwrap_or ways.devices true)
+is_passed ways _ = false
 
 -- operands of some kind are
 abbrev pub passes : Ways → Bool

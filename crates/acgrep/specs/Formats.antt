@@ -1,9 +1,9 @@
 -- The format by which a match is written: bytes, and fields in braces.
-use Rattle.std.specs.Prelude.{ℕ, zero, suc, ◌-◌, ◌==◌, ◌||◌, nat_eq, List, [], ◌∷◌, Option, Some, None, codes, if◌then◌else◌, option_and_then, option_map}
 use Rattle.std.specs.List.{flat_map, starts_with}
+use Rattle.std.specs.Prelude.{◌-◌, ◌==◌, ◌||◌, ◌∷◌, List, None, Option, Some, [], codes, if◌then◌else◌, nat_eq, option_and_then, option_map, suc, zero, ℕ}
 use Rattle.acgrep.specs.declared.format.Front.{Front}
 use Rattle.acgrep.specs.declared.format.Piece.{Piece}
-use Rattle.acgrep.specs.declared.format.Piece.TheVariants.{Byte, Path, LineNumber, Start, End, PatternNumber, Found}
+use Rattle.acgrep.specs.declared.format.Piece.TheVariants.{Byte, End, Found, LineNumber, Path, PatternNumber, Start}
 
 -- a piece, and how many bytes of a format it takes
 abbrev pub front_at : Piece → ℕ → Option Front

@@ -1,7 +1,7 @@
 -- Which names a glob fits, by words: a glob is parts, one after another. A star stands for any bytes, and each other part for one.
-use Rattle.std.specs.Prelude.{◌≡◌, ℕ, zero, suc, ◌+◌, ◌<◌, ◌≤◌, ◌==◌, ◌&&◌, ◌||◌, nat_le, length, Bool, true, false, not, List, [], ◌∷◌, Option, Some, None, drop, is_some, if◌then◌else◌}
+use Rattle.std.specs.Prelude.{◌&&◌, ◌+◌, ◌<◌, ◌==◌, ◌||◌, ◌∷◌, ◌≡◌, ◌≤◌, Bool, List, None, Option, Some, [], drop, false, if◌then◌else◌, is_some, length, nat_le, not, suc, true, zero, ℕ}
 use Rattle.acgrep.specs.declared.globs.Front.{Front}
-use Rattle.acgrep.specs.declared.globs.Front.TheVariants.{Whole, No, Star}
+use Rattle.acgrep.specs.declared.globs.Front.TheVariants.{No, Star, Whole}
 
 -- a backslash takes the byte behind it
 abbrev pub own_len : ℕ → List ℕ → ℕ

@@ -1,14 +1,14 @@
 -- How lines are searched up to the first that holds a zero byte, and then those from it on.
-use Rattle.std.specs.Prelude.{◌≡◌, ◌⊎◌, ◌==◌, ℕ, Bool, MatchBool, true, false, List, [], ◌∷◌, ◌++◌, Option, None, Some, drop, take}
 use Rattle.std.specs.Io.KnownBytes.{Appends, Consumes, IsAtEnd}
+use Rattle.std.specs.Prelude.{◌++◌, ◌==◌, ◌∷◌, ◌≡◌, ◌⊎◌, Bool, List, MatchBool, None, Option, Some, [], drop, false, take, true, ℕ}
 use Rattle.aho_core.specs.Patterns.{Patterns}
 use Rattle.acgrep.specs.Binary.{is_text}
 use Rattle.acgrep.specs.Lines.{lines}
 use Rattle.acgrep.specs.Streamed.{Course, ReadsSome, SearchesBehind, TextIf}
 use Rattle.acgrep.specs.Written.{IsAny}
+use Rattle.acgrep.specs.declared.job.Job.{Job}
 use Rattle.acgrep.specs.declared.stream.Came.{Came}
-use Rattle.acgrep.specs.declared.stream.Came.TheVariants.{Text, Binary, End}
-use Rattle.acgrep.specs.declared.select.Job.{Job}
+use Rattle.acgrep.specs.declared.stream.Came.TheVariants.{Binary, End}
 
 -- the first of some lines holds a zero byte
 abbrev pub IsFirstBinary : List (List ℕ) → Type 0
@@ -26,15 +26,13 @@ IsZeroLine ending bytes (Some start) = (is_text (take start bytes) ≡ true) × 
 
 -- nothing came
 abbrev pub is_end : Came → Bool
-is_end Text = false
-is_end Binary = false
 is_end End = true
+is_end _ = false
 
 -- what is kept of bytes behind those that are searched
 abbrev pub IsKept : (alone : Bool) → Came → (ending : ℕ) → List ℕ → Type 0
-IsKept alone Text ending kept = TextIf alone kept
 IsKept alone Binary ending kept = (alone ≡ true) × BeginsBinary ending kept
-IsKept alone End ending kept = TextIf alone kept
+IsKept alone _ ending kept = TextIf alone kept
 
 -- bytes come behind those that are kept, and the whole lines of both are searched, or those up to the first that holds a zero byte alone
 pub record ReadsFront (p : Patterns) (job : Job) (alone : Bool) (c : Course) (kept_before kept_after : List ℕ) (came : Came) : Type 0 where

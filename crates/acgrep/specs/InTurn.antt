@@ -1,22 +1,17 @@
 -- Files that are searched one after another, whatever is searched for in them.
-use Rattle.tool_parts.specs.Answers.{status_of}
-use Rattle.std.specs.Prelude.{◌≡◌, ◌⊎◌, ℕ, ◌||◌, Bool, true, false, List, [], ◌∷◌, Option, MatchBool, if◌then◌else◌}
 use Rattle.std.specs.Io.KnownBytes.{Keeps}
+use Rattle.std.specs.Prelude.{◌||◌, ◌∷◌, ◌≡◌, ◌⊎◌, Bool, List, MatchBool, Option, [], false, if◌then◌else◌, true, ℕ}
+use Rattle.tool_parts.specs.Answers.{status_of}
 use Rattle.acgrep.specs.declared.files.Outcome.{Outcome}
-use Rattle.acgrep.specs.declared.files.Outcome.TheVariants.{Searched, Unread, Stopped}
+use Rattle.acgrep.specs.declared.files.Outcome.TheVariants.{Searched, Stopped, Unread}
 use Rattle.acgrep.specs.declared.files.Seen.{Seen}
 use Rattle.acgrep.specs.declared.options.Shown.{Shown}
-use Rattle.acgrep.specs.declared.options.Shown.TheVariants.{Lines, Matches, Objects, Count, Names, Lacking, Nothing}
+use Rattle.acgrep.specs.declared.options.Shown.TheVariants.{Nothing}
 
 -- under `-q` one selected line of any file is enough
 abbrev pub is_enough : Shown → Bool → Bool
-is_enough Lines any = false
-is_enough Matches any = false
-is_enough Objects any = false
-is_enough Count any = false
-is_enough Names any = false
-is_enough Lacking any = false
 is_enough Nothing any = any
+is_enough _ any = false
 
 -- before any file was searched
 abbrev pub nothing_seen : Seen
@@ -36,14 +31,12 @@ status_by shown seen =
 -- what is so where a file was searched
 abbrev pub IfSearched : Outcome → (Bool → Type 0) → Type 0
 IfSearched (Searched any) P = P any
-IfSearched Unread P = Unit {0}
-IfSearched Stopped P = Unit {0}
+IfSearched _ P = Unit {0}
 
 -- what is so where a file was not searched
 abbrev pub IfBroken : Outcome → Type 0 → Type 0
 IfBroken (Searched any) P = Unit {0}
-IfBroken Unread P = P
-IfBroken Stopped P = P
+IfBroken _ P = P
 
 -- what is done of the file of a name, from what is left of standard input to what is left then, and from what the output holds to what
 -- it holds then: all that is asked, where the second `Bool` says whether a line is selected and the first whether one of a file before

@@ -1,7 +1,6 @@
 pub mod Actions
 pub mod Alone
 pub mod Arguments
-pub mod Base64
 pub mod Begun
 pub mod Beside
 pub mod Binary

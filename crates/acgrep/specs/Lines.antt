@@ -1,5 +1,5 @@
 -- The lines of a text. One byte ends a line: a newline, or under `-z` a zero byte.
-use Rattle.std.specs.Prelude.{ℕ, ◌<◌, ◌-◌, length, slice_index_or, List, [], ◌∷◌, ◌==◌, if◌then◌else◌}
+use Rattle.std.specs.Prelude.{◌-◌, ◌<◌, ◌==◌, ◌∷◌, List, [], if◌then◌else◌, length, slice_index_or, ℕ}
 use Rattle.memchr.specs.Find.{Nowhere, Passes, is_byte}
 
 -- the byte at a place ends a line

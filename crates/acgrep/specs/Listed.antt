@@ -1,5 +1,5 @@
 -- The bytes of names that are held as vectors.
-use Rattle.std.specs.Prelude.{ℕ, List, Vec, map}
+use Rattle.std.specs.Prelude.{List, Vec, map, ℕ}
 
 -- the bytes of each name
 abbrev pub listed_bytes : {Z : Type 0} → List (Vec ℕ Z) → List (List ℕ)

@@ -1,15 +1,15 @@
 -- What a source adds to the patterns that were read before.
-use Rattle.std.specs.Prelude.{◌≡◌, ℕ, MatchBool, true, List, [], ◌∷◌, ◌++◌, Option, Vec}
+use Rattle.std.specs.Prelude.{◌++◌, ◌∷◌, ◌≡◌, List, MatchBool, Option, Vec, [], true, ℕ}
 use Rattle.std.specs.declared.io.traits.Read.{Ghosts as Readers}
 use Rattle.acgrep.specs.Arguments.{Origin}
 use Rattle.acgrep.specs.Lines.{lines}
+use Rattle.acgrep.specs.Listed.{listed_bytes}
 use Rattle.acgrep.specs.Rules.{RuleSaid, is_from_file, rule_said, rules_said}
 use Rattle.acgrep.specs.Runs.{AreOf, AreWords, IsTextOf, origins_of}
 use Rattle.acgrep.specs.declared.arguments.Source.{Source}
 use Rattle.acgrep.specs.declared.open.Open.{Ghosts as Openers}
 use Rattle.acgrep.specs.declared.patterns.Keys.{Keys}
 use Rattle.acgrep.specs.declared.rules.Rule.{Rule}
-use Rattle.acgrep.specs.Listed.{listed_bytes}
 
 -- the text of a file is added to bytes
 pub record AddsText (holds : List ℕ → Option (List ℕ)) (name : List ℕ) (left left' : Option (List ℕ)) (old new : List ℕ) : Type 0 where

@@ -1,13 +1,13 @@
 -- The long names of options, and what they mean.
-use Rattle.std.specs.Prelude.{ℕ, List, [], ◌∷◌, Option, codes}
+use Rattle.std.specs.Prelude.{◌∷◌, List, Option, [], codes, ℕ}
 use Rattle.std.specs.Result.{result_ok}
 use Rattle.tool_parts.specs.OptionNames.{Named, found_among, meant, named, named_either}
 use Rattle.tool_parts.specs.declared.options.found.Found.{Found}
-use Rattle.tool_parts.specs.declared.options.found.Found.TheVariants.{Unknown, Begun, Several, Whole}
+use Rattle.tool_parts.specs.declared.options.found.Found.TheVariants.{Begun, Several, Unknown, Whole}
 use Rattle.acgrep.specs.declared.long.Long.{Long}
 use Rattle.acgrep.specs.declared.long.Long.TheVariants.{Plain, Takes, When}
-use Rattle.acgrep.specs.declared.long.Valued.TheVariants.{Regexp, PatternFile, Kind, Offset, FirstLine, MaxCount, After, Before, Around, Separator, Label, Format, Included, Excluded, ExcludedFrom, ExcludedFolder, Folders, Devices, BinaryFiles, RuleFile, LineLimit}
-use Rattle.acgrep.specs.declared.options.Switch.TheVariants.{IgnoreCase, MatchCase, Invert, WholeWords, WholeLines, Counts, Tallies, Numbers, OnlyMatching, Offsets, OnlyNames, OnlyLacking, NullNames, NullData, Recursive, Follow, Quiet, NoSeparator, InitialTab, Json, NoName, WithName, NoMatchOk, NoMessages, Help, Version, Text, Same}
+use Rattle.acgrep.specs.declared.all_options.Valued.TheVariants.{After, Around, Before, BinaryFiles, Devices, Excluded, ExcludedFolder, ExcludedFrom, FirstLine, Folders, Format, Included, Kind, Label, LineLimit, MaxCount, Offset, PatternFile, Regexp, RuleFile, Separator}
+use Rattle.acgrep.specs.declared.all_options.Switch.TheVariants.{Counts, Follow, Help, IgnoreCase, InitialTab, Invert, Json, MatchCase, NoMatchOk, NoMessages, NoName, NoSeparator, NullData, NullNames, Numbers, Offsets, OnlyLacking, OnlyMatching, OnlyNames, Quiet, Recursive, Same, Tallies, Text, Version, WholeLines, WholeWords, WithName}
 
 -- the options that grep has too: those that say what is searched for
 abbrev pub pattern_options : List (Named Long)

@@ -1,8 +1,8 @@
 -- What is written of a line that rules mark.
-use Rattle.std.specs.Prelude.{◌≡◌, ◌⊎◌, ℕ, ◌+◌, ◌%◌, ◌^◌, ◌==◌, ◌&&◌, ◌||◌, not, Bool, true, false, List, [], ◌∷◌, ◌++◌, Option, None, Some, codes, if◌then◌else◌, length, slice_get, string_bytes}
 use Rattle.std.specs.Borrow.{MutBor}
 use Rattle.std.specs.Io.KnownBytes.{Appends}
 use Rattle.std.specs.List.{flat_map}
+use Rattle.std.specs.Prelude.{◌%◌, ◌&&◌, ◌++◌, ◌+◌, ◌==◌, ◌^◌, ◌||◌, ◌∷◌, ◌≡◌, ◌⊎◌, Bool, List, None, Option, Some, [], codes, false, if◌then◌else◌, length, not, slice_get, string_bytes, true, ℕ}
 use Rattle.aho_core.specs.Occurrence.{Occurrence}
 use Rattle.aho_devices.specs.Counts.{AppendsBeginning}
 use Rattle.aho_devices.specs.declared.device.Sink.{Ghosts as SinkGhosts}
@@ -13,7 +13,7 @@ use Rattle.acgrep.specs.Written.{needs_one, one_more}
 use Rattle.acgrep.specs.declared.marked.Pass.{Pass}
 use Rattle.acgrep.specs.declared.marked.Task.{Task}
 use Rattle.acgrep.specs.declared.options.Shown.{Shown}
-use Rattle.acgrep.specs.declared.options.Shown.TheVariants.{Lines, Matches, Objects, Count, Names, Lacking, Nothing}
+use Rattle.acgrep.specs.declared.options.Shown.TheVariants.{Lines, Matches, Objects}
 use Rattle.acgrep.specs.declared.print.Place.{Place}
 use Rattle.acgrep.specs.declared.print.Style.{Style}
 
@@ -47,10 +47,7 @@ abbrev pub marked_shown : Shown → Style → List Rule → Place → List ℕ �
 marked_shown Lines style rules place line runs = line_by style place line
 marked_shown Matches style rules place line runs = matches_by style place line runs
 marked_shown Objects style rules place line runs = ruled_objects style rules place line runs
-marked_shown Count style rules place line runs = []
-marked_shown Names style rules place line runs = []
-marked_shown Lacking style rules place line runs = []
-marked_shown Nothing style rules place line runs = []
+marked_shown _ style rules place line runs = []
 
 -- whether a line is selected: rules mark something in it, or it is too long, and then it comes without its bytes and as one run
 abbrev pub is_marked : List Occurrence → Bool

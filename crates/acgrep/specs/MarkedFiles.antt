@@ -1,13 +1,12 @@
 -- What is written of files whose lines rules mark, one after another.
-use Rattle.tool_parts.specs.Names.{is_input}
-use Rattle.std.specs.Prelude.{◌≡◌, ◌⊎◌, ℕ, ◌&&◌, ◌||◌, nat_lt, Bool, MatchBool, true, false, List, [], ◌++◌, Option, IfSome, OnOk, Result, map}
-use Rattle.std.specs.Io.KnownBytes.{Appends}
 use Rattle.std.specs.Io.{StartsWith}
+use Rattle.std.specs.Io.KnownBytes.{Appends}
+use Rattle.std.specs.Prelude.{◌&&◌, ◌++◌, ◌||◌, ◌≡◌, ◌⊎◌, Bool, IfSome, List, MatchBool, OnOk, Option, Result, [], false, map, nat_lt, true, ℕ}
+use Rattle.aho_automaton.specs.declared.automaton.Automaton.{Ghosts as Automata}
 use Rattle.aho_core.specs.Occurrence.{Occurrence}
 use Rattle.aho_devices.specs.declared.device.Sink.{Ghosts as SinkGhosts}
 use Rattle.aho_devices.specs.declared.device.Source.{Ghosts as SourceGhosts}
 use Rattle.aho_stream.specs.Replacing.{MayBe, SourceGave}
-use Rattle.aho_automaton.specs.declared.automaton.Automaton.{Ghosts as Automata}
 use Rattle.secret_rules.specs.Covering.{AreLineRuns, Covering, covering_by, seen_line}
 use Rattle.secret_rules.specs.LineCovers.{AreSearchedFor}
 use Rattle.secret_rules.specs.Lines.{Line, stream_lines}
@@ -16,6 +15,7 @@ use Rattle.secret_rules.specs.Visits.{AreFirstLines}
 use Rattle.secret_rules.specs.declared.error.LineError.{LineError}
 use Rattle.secret_rules.specs.declared.line_cover.LineCover.{LineCover}
 use Rattle.secret_rules.specs.declared.rule.Rule.{Rule}
+use Rattle.tool_parts.specs.Names.{is_input}
 use Rattle.acgrep.specs.Files.{BeginsTotal, EndsFile, IsNamed, known_of, shown_name, total_if}
 use Rattle.acgrep.specs.InTurn.{AreBegun, AreDoneOr, FileWork, IfBroken, IfSearched}
 use Rattle.acgrep.specs.Marked.{FileAsked, marked_lines, pass_after}
@@ -25,7 +25,7 @@ use Rattle.acgrep.specs.declared.marked.Pass.{Pass}
 use Rattle.acgrep.specs.declared.marked_files.Marking.{Marking}
 use Rattle.acgrep.specs.declared.options.Shown.{Shown}
 use Rattle.acgrep.specs.declared.print.Place.{Place}
-use Rattle.acgrep.specs.declared.select.Job.{Job}
+use Rattle.acgrep.specs.declared.job.Job.{Job}
 
 -- what is asked of the lines of a file, by these rules
 abbrev pub file_asked : Job → List Rule → FileAsked

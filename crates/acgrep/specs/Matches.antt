@@ -1,6 +1,6 @@
 -- The matches of a line as they are written: in the line in colour, each on a line of its own, or each with its fields.
-use Rattle.std.specs.Prelude.{ℕ, Bool, List, [], Option, Result, OnOk, length}
 use Rattle.std.specs.Io.KnownBytes.{Appends}
+use Rattle.std.specs.Prelude.{Bool, List, OnOk, Option, Result, [], length, ℕ}
 use Rattle.std.specs.declared.io.traits.Write.{Ghosts as Writers}
 use Rattle.aho_core.specs.Occurrence.{Occurrence}
 use Rattle.aho_core.specs.Patterns.{Patterns}
@@ -9,7 +9,7 @@ use Rattle.acgrep.specs.Alone.{AreShownOf}
 use Rattle.acgrep.specs.Objects.{object_by, objects_by}
 use Rattle.acgrep.specs.Printed.{behind_match, colored_by, colored_from, colored_line_by, match_by, matches_by, part_of}
 use Rattle.acgrep.specs.declared.matches.Shape.{Shape}
-use Rattle.acgrep.specs.declared.matches.Shape.TheVariants.{Colored, OnLines, AsFields}
+use Rattle.acgrep.specs.declared.matches.Shape.TheVariants.{AsFields, Colored, OnLines}
 use Rattle.acgrep.specs.declared.print.Place.{Place}
 use Rattle.acgrep.specs.declared.print.Style.{Style}
 
@@ -22,14 +22,12 @@ found_by AsFields style place line at m = object_by style place line m
 -- up to where it then is
 abbrev pub behind_by : Shape → ℕ → Occurrence → ℕ
 behind_by Colored at m = behind_match at m
-behind_by OnLines at m = at
-behind_by AsFields at m = at
+behind_by _ at m = at
 
 -- what stands behind the last
 abbrev pub rest_behind : Shape → List ℕ → ℕ → List ℕ
 rest_behind Colored line at = part_of line at (length line)
-rest_behind OnLines line at = []
-rest_behind AsFields line at = []
+rest_behind _ line at = []
 
 -- one match after another, from a place of the line on
 abbrev pub shown_from : Shape → Style → Place → List ℕ → ℕ → List Occurrence → List ℕ

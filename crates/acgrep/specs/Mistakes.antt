@@ -1,33 +1,31 @@
 -- Which mistake is told of wrong arguments: the first one, in order.
+use Rattle.std.specs.Char.{is_ascii_digit}
+use Rattle.std.specs.List.{concat}
+use Rattle.std.specs.Prelude.{◌++◌, ◌==◌, ◌||◌, ◌∷◌, ◌≡◌, ◌⊎◌, Err, IfErr, List, None, Ok, Option, Result, Some, [], codes, if◌then◌else◌, ℕ}
+use Rattle.aho_devices.specs.declared.device.Sink.{Ghosts as SinkGhosts}
+use Rattle.tool_parts.specs.ArgumentForms.{Form, argument_form, joined_letters, long_name, long_with}
 use Rattle.tool_parts.specs.Messages.{message_by, reason_text}
+use Rattle.tool_parts.specs.OptionNames.{meant}
 use Rattle.tool_parts.specs.Telling.{TellsBytes}
 use Rattle.tool_parts.specs.declared.errors.Errors.{Errors}
-use Rattle.tool_parts.specs.declared.reason.Reason.TheVariants.{OutOfMemory as NoMemory}
-use Rattle.aho_devices.specs.declared.device.Sink.{Ghosts as SinkGhosts}
-use Rattle.std.specs.Prelude.{◌≡◌, ◌⊎◌, ℕ, ◌==◌, ◌||◌, List, [], ◌∷◌, ◌++◌, Option, Some, None, Result, Ok, Err, IfErr, codes, if◌then◌else◌}
-use Rattle.std.specs.List.{concat}
-use Rattle.std.specs.Char.{is_ascii_digit}
-use Rattle.tool_parts.specs.ArgumentForms.{Form, argument_form, joined_letters, long_name, long_with, no_more, no_option}
-use Rattle.tool_parts.specs.OptionNames.{meant}
 use Rattle.tool_parts.specs.declared.options.found.NotFound.{NotFound}
-use Rattle.tool_parts.specs.declared.options.misuse.Misuse.TheVariants.{UnknownLetter, NotFound as NoName, NoArgument, TakesNone}
+use Rattle.tool_parts.specs.declared.options.misuse.Misuse.TheVariants.{NoArgument, NotFound as NoName, TakesNone, UnknownLetter}
+use Rattle.tool_parts.specs.declared.reason.Reason.TheVariants.{OutOfMemory as NoMemory}
 use Rattle.acgrep.specs.Arguments.{ReadSoFar, Said, argument_by, nothing_said, number_by, switch_by, valued_letter}
 use Rattle.acgrep.specs.Long.{found_by, option_by}
 use Rattle.acgrep.specs.Told.{TellsWrong, binary_parts, color_parts, devices_parts, folders_parts, format_parts, kind_parts, misuse_parts, number_parts, valued_name, wrong_parts}
 use Rattle.acgrep.specs.declared.arguments.Awaited.{Awaited}
-use Rattle.acgrep.specs.declared.arguments.Awaited.TheVariants.{Fresh, Argument, Operands}
-use Rattle.acgrep.specs.declared.arguments.Refusal.{Refusal}
-use Rattle.acgrep.specs.declared.arguments.Refusal.TheVariants.{Wrong, OutOfMemory}
-use Rattle.acgrep.specs.declared.arguments.Wrong.TheVariants.{NoPattern}
+use Rattle.acgrep.specs.declared.arguments.Awaited.TheVariants.{Argument, Fresh, Operands}
+use Rattle.acgrep.specs.declared.wrong.Refusal.{Refusal}
+use Rattle.acgrep.specs.declared.wrong.Refusal.TheVariants.{OutOfMemory, Wrong}
+use Rattle.acgrep.specs.declared.wrong.Wrong.TheVariants.{NoPattern}
 use Rattle.acgrep.specs.declared.long.Long.{Long}
 use Rattle.acgrep.specs.declared.long.Long.TheVariants.{Plain, Takes, When}
-use Rattle.acgrep.specs.declared.long.Valued.{Valued}
-use Rattle.acgrep.specs.declared.long.Valued.TheVariants.{Regexp, PatternFile, Kind, Offset, FirstLine, MaxCount, After, Before, Around, Separator, Label, Format, Included, Excluded, ExcludedFrom, ExcludedFolder, Folders, Devices, BinaryFiles, RuleFile, LineLimit}
+use Rattle.acgrep.specs.declared.all_options.Valued.{Valued}
+use Rattle.acgrep.specs.declared.all_options.Valued.TheVariants.{After, Around, Before, BinaryFiles, Devices, FirstLine, Folders, Format, Kind, LineLimit, MaxCount, Offset}
 
 -- what is told of an argument that an option cannot have; any is a pattern, a file's name, a separator, a label or a glob
 abbrev pub wrong_value : Valued → List ℕ → List (List ℕ)
-wrong_value Regexp argument = []
-wrong_value PatternFile argument = []
 wrong_value Kind argument = kind_parts argument
 wrong_value Offset argument = number_parts (valued_name Offset) argument
 wrong_value FirstLine argument = number_parts (valued_name FirstLine) argument
@@ -35,18 +33,12 @@ wrong_value MaxCount argument = number_parts (valued_name MaxCount) argument
 wrong_value After argument = number_parts (valued_name After) argument
 wrong_value Before argument = number_parts (valued_name Before) argument
 wrong_value Around argument = number_parts (valued_name Around) argument
-wrong_value Separator argument = []
-wrong_value Label argument = []
 wrong_value Format argument = format_parts argument
-wrong_value Included argument = []
-wrong_value Excluded argument = []
-wrong_value ExcludedFrom argument = []
-wrong_value ExcludedFolder argument = []
 wrong_value Folders argument = folders_parts argument
 wrong_value Devices argument = devices_parts argument
 wrong_value BinaryFiles argument = binary_parts argument
-wrong_value RuleFile argument = []
 wrong_value LineLimit argument = number_parts (valued_name LineLimit) argument
+wrong_value _ argument = []
 
 -- of a long name that means no option
 abbrev pub wrong_found : Result Long NotFound → List ℕ → List (List ℕ)
@@ -104,11 +96,10 @@ wrong_letters letters = wrong_from_digits [] letters
 
 -- of an argument that stands where an option may, by what it is; an operand is never wrong
 abbrev pub wrong_form : Form → List (List ℕ)
-wrong_form no_more = []
 wrong_form (long_name name) = wrong_name name
 wrong_form (long_with name value) = wrong_joined (option_by name) name value
 wrong_form (joined_letters letters) = wrong_letters letters
-wrong_form no_option = []
+wrong_form _ = []
 
 abbrev pub wrong_fresh : List ℕ → List (List ℕ)
 wrong_fresh argument = wrong_form (argument_form argument)
@@ -121,9 +112,8 @@ mistake_at Operands argument = []
 
 -- an option has no argument at the end
 abbrev pub wrong_end : Awaited → Option (List (List ℕ))
-wrong_end Fresh = None
 wrong_end (Argument valued) = Some (misuse_parts NoArgument (valued_name valued))
-wrong_end Operands = None
+wrong_end _ = None
 
 -- what is told of an argument where it is wrong, and else of those behind it
 abbrev pub mistake_or : List (List ℕ) → (ReadSoFar → Option (List (List ℕ))) → Option ReadSoFar → Option (List (List ℕ))

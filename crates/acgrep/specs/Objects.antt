@@ -1,13 +1,14 @@
 -- What is written of a match with its fields: as a JSON object, or by a format.
-use Rattle.std.specs.Prelude.{ℕ, ◌+◌, ◌/◌, ◌%◌, ◌==◌, nat_lt, List, [], ◌∷◌, ◌++◌, codes, decimal, if◌then◌else◌}
 use Rattle.std.specs.List.{flat_map}
+use Rattle.std.specs.Prelude.{◌%◌, ◌++◌, ◌+◌, ◌/◌, ◌==◌, ◌∷◌, List, [], codes, decimal, if◌then◌else◌, nat_lt, ℕ}
 use Rattle.std.specs.Str.{is_utf8}
 use Rattle.aho_core.specs.Occurrence.{Occurrence}
-use Rattle.acgrep.specs.Base64.{base64_of}
+use Rattle.base64.specs.Engines.{standard}
+use Rattle.base64.specs.GeneralPurpose.{encode_of}
 use Rattle.acgrep.specs.Printed.{line_number_at, offset_at, part_of}
 use Rattle.acgrep.specs.declared.fields.Fields.{Fields}
 use Rattle.acgrep.specs.declared.format.Piece.{Piece}
-use Rattle.acgrep.specs.declared.format.Piece.TheVariants.{Byte, Path, LineNumber, Start, End, PatternNumber, Found}
+use Rattle.acgrep.specs.declared.format.Piece.TheVariants.{Byte, End, Found, LineNumber, Path, PatternNumber, Start}
 use Rattle.acgrep.specs.declared.print.Form.{Form}
 use Rattle.acgrep.specs.declared.print.Form.TheVariants.{Json, Pieces}
 use Rattle.acgrep.specs.declared.print.Place.{Place}
@@ -35,7 +36,7 @@ number_named name number = codes ",\"" ++ (name ++ (codes "\":" ++ decimal numbe
 
 -- the bytes of a match: as a string where they are UTF-8, and else in base64
 abbrev pub bytes_named : List ℕ → List ℕ
-bytes_named bytes = if is_utf8 bytes then codes ",\"text\":\"" ++ json_escaped bytes else codes ",\"bytes\":\"" ++ base64_of bytes
+bytes_named bytes = if is_utf8 bytes then codes ",\"text\":\"" ++ json_escaped bytes else codes ",\"bytes\":\"" ++ encode_of standard bytes
 
 -- what is told of a match: the file's name, the line's number, the range in the file, the pattern's number and the bytes
 pub record FieldsTold : Type 0 where

@@ -1,9 +1,9 @@
 -- Where a pattern of a call stands among the sources.
-use Rattle.std.specs.Prelude.{◌≡◌, ℕ, ◌+◌, ◌≤◌, ◌<◌, min, List, Option, Some, None, length, slice_index_or, slice_range}
-use Prim.Native.Nat.{zero, suc}
+use Rattle.std.specs.Prelude.{◌+◌, ◌<◌, ◌≡◌, ◌≤◌, List, None, Option, Some, length, min, slice_index_or, slice_range, ℕ}
 use Rattle.memchr.specs.Find.{is_byte, places}
 use Rattle.acgrep.specs.declared.keys.KeyPlace.{KeyPlace}
 use Rattle.acgrep.specs.declared.patterns.Keys.{Keys}
+use Prim.Native.Nat.{zero, suc}
 
 -- where the patterns of the source of this number begin, in the text of all patterns: behind the last source that is its end
 abbrev pub begin_of : Keys → ℕ → ℕ

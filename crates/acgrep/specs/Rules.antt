@@ -1,11 +1,11 @@
 -- Which files and folders are left out, by the rules of `--include`, `--exclude` and `--exclude-dir`, and those of the files that
 -- `--exclude-from` names.
-use Rattle.std.specs.Prelude.{ℕ, ◌+◌, ◌==◌, ◌&&◌, ◌||◌, Bool, true, false, List, [], ◌∷◌, ◌++◌, map, nat_le, take, if◌then◌else◌}
+use Rattle.std.specs.Prelude.{◌&&◌, ◌++◌, ◌+◌, ◌==◌, ◌||◌, ◌∷◌, Bool, List, [], false, if◌then◌else◌, map, nat_le, take, true, ℕ}
 use Rattle.acgrep.specs.Globs.{base_name, fits, operand_fits}
 use Rattle.acgrep.specs.Lines.{lines}
 use Rattle.acgrep.specs.declared.rules.Rule.{Rule}
 use Rattle.acgrep.specs.declared.rules.Sense.{Sense}
-use Rattle.acgrep.specs.declared.rules.Sense.TheVariants.{Include, Exclude, ExcludeFrom, ExcludeFolder}
+use Rattle.acgrep.specs.declared.rules.Sense.TheVariants.{Exclude, ExcludeFolder, ExcludeFrom, Include}
 
 -- an option, and its glob, or the name of its file of globs
 pub record RuleSaid : Type 0 where
@@ -23,10 +23,8 @@ abbrev pub name_fits : List ℕ → Bool → List ℕ → Bool
 name_fits glob given name = if given then operand_fits glob name else fits 0 glob (base_name name name)
 
 abbrev pub is_of_folders : Sense → Bool
-is_of_folders Include = false
-is_of_folders Exclude = false
-is_of_folders ExcludeFrom = false
 is_of_folders ExcludeFolder = true
+is_of_folders _ = false
 
 -- a folder is left out that one of its rules fits
 abbrev pub leaves_folder : List RuleSaid → Bool → List ℕ → Bool
@@ -37,8 +35,7 @@ leaves_folder (rule ∷ rules) given name = (is_of_folders rule.sense && name_fi
 abbrev pub decided_by : Sense → Bool → Bool → Bool
 decided_by Include fit left = if fit then false else left
 decided_by Exclude fit left = if fit then true else left
-decided_by ExcludeFrom fit left = left
-decided_by ExcludeFolder fit left = left
+decided_by _ fit left = left
 
 abbrev pub after_rule : RuleSaid → Bool → List ℕ → Bool → Bool
 after_rule rule given name left = decided_by rule.sense (name_fits rule.glob given name) left
@@ -52,8 +49,7 @@ leaves_file (rule ∷ rules) given name left = leaves_file rules given name (aft
 abbrev pub begins_so : Sense → Bool → Bool
 begins_so Include others = true
 begins_so Exclude others = false
-begins_so ExcludeFrom others = others
-begins_so ExcludeFolder others = others
+begins_so _ others = others
 
 abbrev pub begins_by_including : List RuleSaid → Bool
 begins_by_including [] = false
@@ -76,10 +72,8 @@ without_slashes (first ∷ rest) = take (kept_len 1 1 rest) (first ∷ rest)
 
 -- whether the globs of a rule stand in a file
 abbrev pub is_from_file : Sense → Bool
-is_from_file Include = false
-is_from_file Exclude = false
 is_from_file ExcludeFrom = true
-is_from_file ExcludeFolder = false
+is_from_file _ = false
 
 -- white space: a tab, a newline, a vertical tab, a form feed, a carriage return or a space
 abbrev pub is_space : ℕ → Bool

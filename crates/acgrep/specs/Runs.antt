@@ -1,16 +1,17 @@
 -- What a call searches for and in which files, by what its arguments say.
-use Rattle.std.specs.Prelude.{◌≡◌, ◌⊎◌, ℕ, ◌+◌, ◌-◌, ◌%◌, ◌^◌, ◌==◌, ◌&&◌, ◌||◌, nat_lt, Bool, MatchBool, true, false, not, List, [], ◌∷◌, ◌++◌, Option, None, Some, IfSome, Vec, codes, length, map, unwrap_or, if◌then◌else◌}
 use Rattle.std.specs.Io.KnownBytes.{Appends, Consumes, IsAtEnd, Keeps}
+use Rattle.std.specs.Prelude.{◌%◌, ◌&&◌, ◌++◌, ◌+◌, ◌-◌, ◌==◌, ◌^◌, ◌||◌, ◌∷◌, ◌≡◌, ◌⊎◌, Bool, IfSome, List, MatchBool, None, Option, Some, Vec, [], codes, false, if◌then◌else◌, length, map, nat_lt, not, true, unwrap_or, ℕ}
 use Rattle.std.specs.Str.{bytes_eq}
 use Rattle.aho_core.specs.Patterns.{Patterns}
-use Rattle.aho_devices.specs.Counts.{AppendsBeginning}
 use Rattle.aho_core.specs.declared.search.MatchKind.{MatchKind}
 use Rattle.aho_core.specs.declared.search.MatchKind.TheVariants.{LeftmostLongest}
-use Rattle.acgrep.specs.Beside.{unfit_said}
-use Rattle.acgrep.specs.Binary.{is_guarded, takes_text, writes_lines}
-use Rattle.acgrep.specs.Arguments.{Origin, Said, asks_counts, context_by, ending_by, fit_by, origin_of, said_by, shown_by, ways_by}
+use Rattle.aho_devices.specs.Counts.{AppendsBeginning}
 use Rattle.tool_parts.specs.Building.{patterns_by_kind}
 use Rattle.tool_parts.specs.Names.{is_input, or_input}
+use Rattle.acgrep.specs.Arguments.{Origin, Said, asks_counts, context_by, ending_by, fit_by, origin_of, said_by, shown_by, ways_by}
+use Rattle.acgrep.specs.Beside.{unfit_said}
+use Rattle.acgrep.specs.Binary.{is_guarded, takes_text, writes_lines}
+use Rattle.acgrep.specs.Colors.{colors_by, palette_of}
 use Rattle.acgrep.specs.Files.{AreFilesBegun, AreSearchedOr}
 use Rattle.acgrep.specs.Folders.{AreBelow, AreChosen, Known, Tree, passes}
 use Rattle.acgrep.specs.Lines.{lines}
@@ -19,21 +20,20 @@ use Rattle.acgrep.specs.Rules.{RuleSaid, is_from_file, rules_in}
 use Rattle.acgrep.specs.Tallies.{counts_table}
 use Rattle.acgrep.specs.Written.{IsPassedOver}
 use Rattle.acgrep.specs.declared.arguments.Source.{Source}
-use Rattle.acgrep.specs.declared.options.Color.{Color}
-use Rattle.acgrep.specs.declared.options.Color.TheVariants.{Auto, Always, Never}
-use Rattle.acgrep.specs.declared.options.Fit.{Fit}
-use Rattle.acgrep.specs.declared.options.Fit.TheVariants.{AnyPart, WholeWord, WholeLine}
-use Rattle.acgrep.specs.declared.options.Flags.{Flags}
-use Rattle.acgrep.specs.declared.options.Shown.{Shown}
-use Rattle.acgrep.specs.declared.options.Shown.TheVariants.{Lines, Matches, Objects, Count, Names, Lacking, Nothing}
-use Rattle.acgrep.specs.Colors.{colors_by, palette_of}
 use Rattle.acgrep.specs.declared.colors.Screen.{Screen}
 use Rattle.acgrep.specs.declared.format.Piece.{Piece}
 use Rattle.acgrep.specs.declared.format.Piece.TheVariants.{PatternNumber}
+use Rattle.acgrep.specs.declared.options.Color.{Color}
+use Rattle.acgrep.specs.declared.options.Color.TheVariants.{Always, Auto, Never}
+use Rattle.acgrep.specs.declared.options.Fit.{Fit}
+use Rattle.acgrep.specs.declared.options.Fit.TheVariants.{AnyPart}
+use Rattle.acgrep.specs.declared.options.Flags.{Flags}
+use Rattle.acgrep.specs.declared.options.Shown.{Shown}
+use Rattle.acgrep.specs.declared.options.Shown.TheVariants.{Lines, Matches, Objects}
 use Rattle.acgrep.specs.declared.print.Form.{Form}
 use Rattle.acgrep.specs.declared.print.Form.TheVariants.{Json, Pieces}
 use Rattle.acgrep.specs.declared.print.Place.{Place}
-use Rattle.acgrep.specs.declared.select.Job.{Job}
+use Rattle.acgrep.specs.declared.job.Job.{Job}
 use Rattle.acgrep.specs.declared.walk.Ways.{Ways}
 
 -- what holds of what the arguments say, where they are right
@@ -139,8 +139,7 @@ are_empty (word ∷ words) = is_none word && are_empty words
 -- whether any match is enough
 abbrev pub takes_any : Fit → Bool
 takes_any AnyPart = true
-takes_any WholeWord = false
-takes_any WholeLine = false
+takes_any _ = false
 
 -- whether no line is selected, whatever it holds: there is no pattern, or under `invert` there are empty ones alone, and they occur in
 -- each line
@@ -175,10 +174,7 @@ abbrev pub shows_finds : Shown → Bool → Bool
 shows_finds Lines colored = colored
 shows_finds Matches colored = true
 shows_finds Objects colored = true
-shows_finds Count colored = false
-shows_finds Names colored = false
-shows_finds Lacking colored = false
-shows_finds Nothing colored = false
+shows_finds _ colored = false
 
 -- whether matches are coloured
 abbrev pub is_colored : Color → Bool → Bool
@@ -286,25 +282,28 @@ abbrev pub status_reached : Flags → List (List ℕ) → ℕ → ℕ
 status_reached flags [] status = status
 status_reached flags (name ∷ names) status = if flags.quiet && (status == 0) then status else 2
 
--- these patterns were searched for in the files that these operands name, as the call says
-pub record SearchesReached (known : Known) (screen : Screen) (given : Said) (p : Patterns) (names : List (List ℕ)) (left left' held held' : Option (List ℕ)) (status : ℕ) : Type 0 where
+-- these are the files that operands name, and of them that was done, as the call says
+pub record Reached (known : Known) (screen : Screen) (given : Said) (names : List (List ℕ)) (Does : Job → (files unread : List (List ℕ)) → Type 0) : Type 0 where
   pub files : List (List ℕ)
   pub unread : List (List ℕ)
   pub reached : AreReached known.tree given names files unread
   pub job : Job
   pub is_job : IsJob given screen (are_several given.flags names files) job
-  pub found : ℕ
-  pub searched : AreSearchedOr p job known.holds files left left' held held' found
-  pub told : status ≡ status_reached given.flags unread found
+  pub does : Does job files unread
 
--- of some first ones of the files that these operands name that is written which is asked, or a beginning of it
-pub record BeginsReached (known : Known) (screen : Screen) (given : Said) (p : Patterns) (names : List (List ℕ)) (left held held' : Option (List ℕ)) : Type 0 where
-  pub files : List (List ℕ)
-  pub unread : List (List ℕ)
-  pub reached : AreReached known.tree given names files unread
-  pub job : Job
-  pub is_job : IsJob given screen (are_several given.flags names files) job
-  pub begun : AreFilesBegun p job known.holds files left held held'
+-- all that is asked was, and the status tells it
+abbrev pub ReachesAll : Known → Screen → Said → List (List ℕ) → (Job → List (List ℕ) → ℕ → Type 0) → ℕ → Type 0
+ReachesAll known screen given names Are status =
+    Reached known screen given names (λ job files unread. (found : ℕ) × Are job files found × (status ≡ status_reached given.flags unread found))
+
+-- these patterns were searched for in the files that these operands name
+abbrev pub SearchesReached : Known → Screen → Said → Patterns → List (List ℕ) → (left left' held held' : Option (List ℕ)) → ℕ → Type 0
+SearchesReached known screen given p names left left' held held' status =
+    ReachesAll known screen given names (λ job files found. AreSearchedOr p job known.holds files left left' held held' found) status
+
+-- of some first ones of them that is written which is asked, or a beginning of it
+abbrev pub BeginsReached : Known → Screen → Said → Patterns → List (List ℕ) → (left held held' : Option (List ℕ)) → Type 0
+BeginsReached known screen given p names left held held' = Reached known screen given names (λ job files unread. AreFilesBegun p job known.holds files left held held')
 
 -- or nothing is
 abbrev pub BeginsOrKeeps : Known → Screen → Said → Patterns → List (List ℕ) → (left held held' : Option (List ℕ)) → Type 0
@@ -364,12 +363,25 @@ AreSought known screen given words names left left' held held' status =
     MatchBool (knows_none given.flags words) (SelectsNoLine (patterns_by_kind (kind_sought given.flags) given.flags.ignore_case words) (fit_by given.flags) (inverts given.flags) left left' held held' status)
     (SearchesReached known screen given (patterns_by_kind (kind_sought given.flags) given.flags.ignore_case words) names left left' held held' status)
 
--- the patterns of these sources were read, and then searched for in the files of these names
-pub record SearchesFor (known : Known) (screen : Screen) (given : Said) (sources : List Origin) (names : List (List ℕ)) (left left' held held' : Option (List ℕ)) (status : ℕ) : Type 0 where
-  pub words : List (List ℕ)
+-- something was read, which left this of the input, and then, by it, that was done
+pub record After {X : Type 0} (Reads Does : X → Option (List ℕ) → Type 0) : Type 0 where
+  pub what : X
   pub between : Option (List ℕ)
-  pub read : AreWords known.holds sources left between words
-  pub searched : OrCounts given.flags words (λ old new. AreSought known screen given (words_sought given.flags words) names between left' old new status) held held'
+  pub read : Reads what between
+  pub does : Does what between
+
+-- the patterns of these sources were
+abbrev pub AfterWords : Known → List Origin → Option (List ℕ) → (List (List ℕ) → Option (List ℕ) → Type 0) → Type 0
+AfterWords known sources left Does = After (λ words between. AreWords known.holds sources left between words) Does
+
+-- or the rules in files
+abbrev pub AfterRules : Known → Said → Option (List ℕ) → (Said → Option (List ℕ) → Type 0) → Type 0
+AfterRules known given left Does = After (λ rules between. AreRules known.holds given.rules left between rules) (λ rules between. Does (ruled given rules) between)
+
+-- the patterns of these sources were read, and then searched for in the files of these names
+abbrev pub SearchesFor : Known → Screen → Said → List Origin → List (List ℕ) → (left left' held held' : Option (List ℕ)) → ℕ → Type 0
+SearchesFor known screen given sources names left left' held held' status = AfterWords known sources left
+    (λ words between. OrCounts given.flags words (λ old new. AreSought known screen given (words_sought given.flags words) names between left' old new status) held held')
 
 -- what was said was searched for
 abbrev pub SearchesSaid : Known → Screen → Said → (left left' held held' : Option (List ℕ)) → ℕ → Type 0
@@ -381,11 +393,8 @@ abbrev pub status_told : Bool → ℕ → ℕ
 status_told no_match_ok status = if no_match_ok && (status == 1) then 0 else status
 
 -- the rules in files were read, and then that was done
-pub record SearchesRuled (known : Known) (screen : Screen) (given : Said) (left left' held held' : Option (List ℕ)) (status : ℕ) : Type 0 where
-  pub rules : List RuleSaid
-  pub between : Option (List ℕ)
-  pub read : AreRules known.holds given.rules left between rules
-  pub searched : SearchesSaid known screen (ruled given rules) between left' held held' status
+abbrev pub SearchesRuled : Known → Screen → Said → (left left' held held' : Option (List ℕ)) → ℕ → Type 0
+SearchesRuled known screen given left left' held held' status = AfterRules known given left (λ ruled between. SearchesSaid known screen ruled between left' held held' status)
 
 -- what was said was done; `left` is what the input has left, and `held` what the output holds
 abbrev pub Searches : Known → Screen → Said → (left left' held held' : Option (List ℕ)) → ℕ → Type 0
@@ -393,29 +402,16 @@ Searches known screen given left left' held held' status =
     (found : ℕ) × SearchesRuled known screen given left left' held held' found × (status ≡ status_told given.flags.no_match_ok found)
 
 -- the patterns of these sources were read, and of some first ones of the files that these operands name that is written which is
--- asked, or a beginning of it
-pub record BeginsWords (known : Known) (screen : Screen) (given : Said) (sources : List Origin) (names : List (List ℕ)) (left held held' : Option (List ℕ)) : Type 0 where
-  pub words : List (List ℕ)
-  pub between : Option (List ℕ)
-  pub read : AreWords known.holds sources left between words
-  pub begun : BeginsOrCounts known screen given (patterns_by_kind (kind_sought given.flags) given.flags.ignore_case (words_sought given.flags words)) words names between held held'
-
--- or nothing is
+-- asked, or a beginning of it, or nothing is
 abbrev pub BeginsFor : Known → Screen → Said → List Origin → List (List ℕ) → (left held held' : Option (List ℕ)) → Type 0
-BeginsFor known screen given sources names left held held' = Keeps held held' ⊎ BeginsWords known screen given sources names left held held'
+BeginsFor known screen given sources names left held held' = Keeps held held' ⊎ AfterWords known sources left
+    (λ words between. BeginsOrCounts known screen given (patterns_by_kind (kind_sought given.flags) given.flags.ignore_case (words_sought given.flags words)) words names between held held')
 
 -- whatever comes of what was said: what is written is a beginning of what is asked
 abbrev pub BeginsSaid : Known → Screen → Said → (left held held' : Option (List ℕ)) → Type 0
 BeginsSaid known screen given left held held' =
     BeginsFor known screen given (sources_by given.sources given.operands) (names_by given.sources given.operands) left held held'
 
--- the rules in files were read, and then that is
-pub record BeginsRuled (known : Known) (screen : Screen) (given : Said) (left held held' : Option (List ℕ)) : Type 0 where
-  pub rules : List RuleSaid
-  pub between : Option (List ℕ)
-  pub read : AreRules known.holds given.rules left between rules
-  pub begun : BeginsSaid known screen (ruled given rules) between held held'
-
--- or nothing is
+-- the rules in files were read, and then that is, or nothing is
 abbrev pub BeginsSearch : Known → Screen → Said → (left held held' : Option (List ℕ)) → Type 0
-BeginsSearch known screen given left held held' = Keeps held held' ⊎ BeginsRuled known screen given left held held'
+BeginsSearch known screen given left held held' = Keeps held held' ⊎ AfterRules known given left (λ ruled between. BeginsSaid known screen ruled between held held')

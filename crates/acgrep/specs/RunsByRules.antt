@@ -1,29 +1,27 @@
 -- What a call does by rules, by what its arguments say.
-use Rattle.std.specs.Prelude.{◌≡◌, ◌⊎◌, ◌<◌, ℕ, ◌==◌, Bool, MatchBool, false, List, [], ◌∷◌, ◌++◌, Option, codes, decimal, if◌then◌else◌, unwrap_or}
 use Rattle.std.specs.Borrow.{Bor}
 use Rattle.std.specs.Io.KnownBytes.{Keeps}
+use Rattle.std.specs.Prelude.{◌++◌, ◌<◌, ◌==◌, ◌∷◌, ◌≡◌, ◌⊎◌, Bool, List, MatchBool, Option, [], codes, decimal, false, if◌then◌else◌, unwrap_or, ℕ}
+use Rattle.std.specs.Str.{bytes_eq}
 use Rattle.std.specs.declared.io.traits.Read.{Ghosts as Readers}
 use Rattle.aho_automaton.specs.declared.automaton.Automaton.{Ghosts as Automata}
-use Rattle.aho_devices.specs.declared.device.Sink.{Ghosts as SinkGhosts}
-use Rattle.tool_parts.specs.Names.{name_bytes}
-use Rattle.acgrep.specs.declared.folders.Folders.{Ghosts as FolderGhosts}
-use Rattle.acgrep.specs.declared.marked_files.Marking.{Marking}
-use Rattle.acgrep.specs.declared.open.Open.{Ghosts as Openers}
-use Rattle.std.specs.Str.{bytes_eq}
 use Rattle.aho_core.specs.Patterns.{Patterns}
 use Rattle.aho_core.specs.declared.search.MatchKind.TheVariants.{Standard}
+use Rattle.aho_devices.specs.declared.device.Sink.{Ghosts as SinkGhosts}
 use Rattle.secret_rules.specs.Covering.{Covering, covering_by}
 use Rattle.secret_rules.specs.Rules.{AreSound}
 use Rattle.secret_rules.specs.Tables.{TellsRules}
 use Rattle.secret_rules.specs.declared.rule.Rule.{Rule}
+use Rattle.tool_parts.specs.Names.{name_bytes}
 use Rattle.acgrep.specs.Arguments.{Said}
 use Rattle.acgrep.specs.Folders.{Known, known_by}
 use Rattle.acgrep.specs.MarkedFiles.{AreMarkedOr, AreMarksBegun, IfMarks}
-use Rattle.acgrep.specs.Rules.{RuleSaid}
-use Rattle.acgrep.specs.Runs.{AreReached, AreRules, IsJob, IsTextOf, are_several, ruled, status_reached, status_told}
+use Rattle.acgrep.specs.Runs.{After, AfterRules, IsTextOf, Reached, ReachesAll, status_told}
 use Rattle.acgrep.specs.declared.colors.Screen.{Screen}
+use Rattle.acgrep.specs.declared.folders.Folders.{Ghosts as FolderGhosts}
+use Rattle.acgrep.specs.declared.marked_files.Marking.{Marking}
+use Rattle.acgrep.specs.declared.open.Open.{Ghosts as Openers}
 use Rattle.acgrep.specs.declared.options.Flags.{Flags}
-use Rattle.acgrep.specs.declared.select.Job.{Job}
 
 -- the name that stands for the rules of the program
 abbrev pub is_own : List ℕ → Bool
@@ -65,29 +63,15 @@ no_patterns = record { words = []; kind = Standard; ignore_case = false }
 abbrev pub marking_by : Flags → List Rule → Covering
 marking_by flags rules = covering_by false rules (most_said flags) no_patterns
 
--- the files that operands name were searched by what marks lines, as the call says
-pub record ReachesMarked (known : Known) (screen : Screen) (given : Said) (covering : Covering) (names : List (List ℕ)) (left held held' : Option (List ℕ)) (status : ℕ) : Type 0 where
-  pub files : List (List ℕ)
-  pub unread : List (List ℕ)
-  pub reached : AreReached known.tree given names files unread
-  pub job : Job
-  pub is_job : IsJob given screen (are_several given.flags names files) job
-  pub found : ℕ
-  pub searched : AreMarkedOr job covering known.holds left files held held' found
-  pub told : status ≡ status_reached given.flags unread found
+-- the files that operands name were searched by what marks lines
+abbrev pub ReachesMarked : Known → Screen → Said → Covering → List (List ℕ) → (left held held' : Option (List ℕ)) → ℕ → Type 0
+ReachesMarked known screen given covering names left held held' status =
+    ReachesAll known screen given names (λ job files found. AreMarkedOr job covering known.holds left files held held' found) status
 
--- of some first ones of them all that is asked was written, or a beginning of it
-pub record BeginsReachedMarks (known : Known) (screen : Screen) (given : Said) (covering : Covering) (names : List (List ℕ)) (left held held' : Option (List ℕ)) : Type 0 where
-  pub files : List (List ℕ)
-  pub unread : List (List ℕ)
-  pub reached : AreReached known.tree given names files unread
-  pub job : Job
-  pub is_job : IsJob given screen (are_several given.flags names files) job
-  pub begun : AreMarksBegun job covering known.holds left files held held'
-
--- or nothing was
+-- of some first ones of them all that is asked was written, or a beginning of it, or nothing was
 abbrev pub MayReachMarked : Known → Screen → Said → Covering → List (List ℕ) → (left held held' : Option (List ℕ)) → Type 0
-MayReachMarked known screen given covering names left held held' = Keeps held held' ⊎ BeginsReachedMarks known screen given covering names left held held'
+MayReachMarked known screen given covering names left held held' =
+    Keeps held held' ⊎ Reached known screen given names (λ job files unread. AreMarksBegun job covering known.holds left files held held')
 
 -- by these rules
 abbrev pub MarksReached : Known → Screen → Said → List Rule → (left held held' : Option (List ℕ)) → ℕ → Type 0
@@ -96,38 +80,23 @@ MarksReached known screen given rules left held held' status = ReachesMarked kno
 abbrev pub MayBeginMarks : Known → Screen → Said → List Rule → (left held held' : Option (List ℕ)) → Type 0
 MayBeginMarks known screen given rules left held held' = MayReachMarked known screen given (marking_by given.flags rules) given.operands left held held'
 
--- the rules were read, and then that was done
-pub record MarksAsked (known : Known) (screen : Screen) (given : Said) (left held held' : Option (List ℕ)) (status : ℕ) : Type 0 where
-  pub rules : List Rule
-  pub between : Option (List ℕ)
-  pub read : AreAllRules known.holds given.rule_files left between rules
-  pub sound : AreSound rules
-  pub searched : MarksReached known screen given rules between held held' status
+-- the rules were read, and then, by them, that was done
+abbrev pub AfterMarks : Known → Said → Option (List ℕ) → (List Rule → Option (List ℕ) → Type 0) → Type 0
+AfterMarks known given left Does = After (λ rules between. AreAllRules known.holds given.rule_files left between rules) Does
 
-pub record BeginsAskedMarks (known : Known) (screen : Screen) (given : Said) (left held held' : Option (List ℕ)) : Type 0 where
-  pub rules : List Rule
-  pub between : Option (List ℕ)
-  pub read : AreAllRules known.holds given.rule_files left between rules
-  pub begun : MayBeginMarks known screen given rules between held held'
+abbrev pub MarksAsked : Known → Screen → Said → (left held held' : Option (List ℕ)) → ℕ → Type 0
+MarksAsked known screen given left held held' status =
+    AfterMarks known given left (λ rules between. AreSound rules × MarksReached known screen given rules between held held' status)
 
 abbrev pub MayBeginAsked : Known → Screen → Said → (left held held' : Option (List ℕ)) → Type 0
-MayBeginAsked known screen given left held held' = Keeps held held' ⊎ BeginsAskedMarks known screen given left held held'
+MayBeginAsked known screen given left held held' = Keeps held held' ⊎ AfterMarks known given left (λ rules between. MayBeginMarks known screen given rules between held held')
 
 -- the globs in files were read before
-pub record MarksRuled (known : Known) (screen : Screen) (given : Said) (left held held' : Option (List ℕ)) (status : ℕ) : Type 0 where
-  pub globs : List RuleSaid
-  pub between : Option (List ℕ)
-  pub read : AreRules known.holds given.rules left between globs
-  pub searched : MarksAsked known screen (ruled given globs) between held held' status
-
-pub record BeginsRuledMarks (known : Known) (screen : Screen) (given : Said) (left held held' : Option (List ℕ)) : Type 0 where
-  pub globs : List RuleSaid
-  pub between : Option (List ℕ)
-  pub read : AreRules known.holds given.rules left between globs
-  pub begun : MayBeginAsked known screen (ruled given globs) between held held'
+abbrev pub MarksRuled : Known → Screen → Said → (left held held' : Option (List ℕ)) → ℕ → Type 0
+MarksRuled known screen given left held held' status = AfterRules known given left (λ ruled between. MarksAsked known screen ruled between held held' status)
 
 abbrev pub BeginsByRules : Known → Screen → Said → (left held held' : Option (List ℕ)) → Type 0
-BeginsByRules known screen given left held held' = Keeps held held' ⊎ BeginsRuledMarks known screen given left held held'
+BeginsByRules known screen given left held held' = Keeps held held' ⊎ AfterRules known given left (λ ruled between. MayBeginAsked known screen ruled between held held')
 
 -- what was said was done by rules; `left` is what the input has left, and `held` what the output holds
 abbrev pub SearchesByRules : Known → Screen → Said → (left held held' : Option (List ℕ)) → ℕ → Type 0

@@ -1,7 +1,7 @@
 -- What searching does, whatever patterns the searcher was built from.
-use Rattle.std.specs.Prelude.{◌≡◌, ℕ, Bool, true, false, List, [], ◌∷◌, Option, Result, IfOk, OnErr, OnOk}
 use Rattle.std.specs.Borrow.{Bor}
 use Rattle.std.specs.Io.KnownBytes.{Appends}
+use Rattle.std.specs.Prelude.{◌∷◌, ◌≡◌, Bool, IfOk, List, OnErr, OnOk, Option, Result, [], ℕ}
 use Rattle.std.specs.declared.io.traits.Read.{Ghosts as Readers}
 use Rattle.std.specs.declared.io.traits.Write.{Ghosts as Writers}
 use Rattle.aho_core.specs.Patterns.{Patterns}
@@ -9,19 +9,19 @@ use Rattle.aho_devices.specs.declared.device.Sink.{Ghosts as SinkGhosts}
 use Rattle.chromesquid.specs.Searcher.{IsBuiltFrom, Searcher}
 use Rattle.acgrep.specs.Contexts.{BeginsLines, BeginsSearched, IsChosenBy, SearchesText, ShowsEach, ShowsGroup, WalksBegun, WalksLines, WalksText, walk_of}
 use Rattle.acgrep.specs.Files.{BeginsFile, SearchesFile, SearchesReader}
-use Rattle.acgrep.specs.InTurn.{IfBroken, IfSearched}
 use Rattle.acgrep.specs.Filled.{bytes_buffered}
 use Rattle.acgrep.specs.Guarded.{FindsSelected}
+use Rattle.acgrep.specs.InTurn.{IfBroken, IfSearched}
 use Rattle.acgrep.specs.Lines.{lines}
 use Rattle.acgrep.specs.Selected.{ForLines}
 use Rattle.acgrep.specs.Streamed.{BeginsBehind}
-use Rattle.acgrep.specs.Written.{EachLine, HasMatch, HasNone, IsMatched, IsSelected, SearchesPlain, SearchesTo, TellsLines, WritesLine, WritesNext}
+use Rattle.acgrep.specs.Written.{EachLine, HasNone, SearchesPlain, SearchesTo, TellsLines, WritesLine, WritesNext}
 use Rattle.acgrep.specs.declared.buffer.Buffer.{Buffer}
 use Rattle.acgrep.specs.declared.files.Outcome.{Outcome}
 use Rattle.acgrep.specs.declared.options.Context.{Context}
 use Rattle.acgrep.specs.declared.print.Place.{Place}
-use Rattle.acgrep.specs.declared.select.Job.{Job}
-use Rattle.acgrep.specs.declared.select.State.{State}
+use Rattle.acgrep.specs.declared.job.Job.{Job}
+use Rattle.acgrep.specs.declared.job.State.{State}
 
 -- what is asked of a selected line is written where a call does not fail
 abbrev pub WritesLineBy : (Patterns → Type 0) → Job → Place → (held held' : Option (List ℕ)) → List ℕ → {T E : Type 0} → Result T E → Type 0
@@ -68,22 +68,13 @@ module _ {W : Type 0} (sinks : SinkGhosts W) (searcher : Searcher) (job : Job) (
   BeginsLineAround context line result = (p : Patterns) → IsBuiltFrom searcher p
       → OnErr result (WalksBegun p job context (walk_of before) (sinks.taken old) (sinks.taken new) (line ∷ []))
 
-  -- that is selected, where more are asked for
-  abbrev pub TakesBy : {T E : Type 0} → Context → List ℕ → Result T E → Type 0
-  TakesBy context line result = (p : Patterns) → IsBuiltFrom searcher p → IsChosenBy p job before.selected line true
+  -- by whether it is selected, where more are asked for
+  abbrev pub WalksWhere : {T E : Type 0} → Bool → Context → List ℕ → Result T E → Type 0
+  WalksWhere chosen context line result = (p : Patterns) → IsBuiltFrom searcher p → IsChosenBy p job before.selected line chosen
       → OnOk result (WalksLines p job context (walk_of before) (walk_of after) (sinks.taken old) (sinks.taken new) (line ∷ []))
 
-  abbrev pub BeginsTakenBy : {T E : Type 0} → Context → List ℕ → Result T E → Type 0
-  BeginsTakenBy context line result = (p : Patterns) → IsBuiltFrom searcher p → IsChosenBy p job before.selected line true
-      → OnErr result (WalksBegun p job context (walk_of before) (sinks.taken old) (sinks.taken new) (line ∷ []))
-
-  -- that is not
-  abbrev pub SkipsBy : {T E : Type 0} → Context → List ℕ → Result T E → Type 0
-  SkipsBy context line result = (p : Patterns) → IsBuiltFrom searcher p → IsChosenBy p job before.selected line false
-      → OnOk result (WalksLines p job context (walk_of before) (walk_of after) (sinks.taken old) (sinks.taken new) (line ∷ []))
-
-  abbrev pub BeginsPassedBy : {T E : Type 0} → Context → List ℕ → Result T E → Type 0
-  BeginsPassedBy context line result = (p : Patterns) → IsBuiltFrom searcher p → IsChosenBy p job before.selected line false
+  abbrev pub BeginsWalkWhere : {T E : Type 0} → Bool → Context → List ℕ → Result T E → Type 0
+  BeginsWalkWhere chosen context line result = (p : Patterns) → IsBuiltFrom searcher p → IsChosenBy p job before.selected line chosen
       → OnErr result (WalksBegun p job context (walk_of before) (sinks.taken old) (sinks.taken new) (line ∷ []))
 
   -- up to those that are answered
@@ -91,28 +82,13 @@ module _ {W : Type 0} (sinks : SinkGhosts W) (searcher : Searcher) (job : Job) (
   SearchesSomeBy text result =
       ForLines job.style.ending (IsBuiltFrom searcher) (λ p. IfOk result (λ left. SearchesTo p job before after (sinks.taken old) (sinks.taken new) text left.now))
 
-  -- of a line of which it is known whether it matches
-  abbrev pub TellsLineBy : {T E : Type 0} → Bool → List ℕ → Result T E → Type 0
-  TellsLineBy matched line result = (p : Patterns) → IsBuiltFrom searcher p → IsMatched p job.fit line matched
-      → OnOk result (TellsLines p job before after (sinks.taken old) (sinks.taken new) (line ∷ []))
+  -- of a line of which that holds
+  abbrev pub TellsWhere : {T E : Type 0} → (Patterns → List ℕ → Type 0) → List ℕ → Result T E → Type 0
+  TellsWhere Holds line result = (p : Patterns) → IsBuiltFrom searcher p → Holds p line → OnOk result (TellsLines p job before after (sinks.taken old) (sinks.taken new) (line ∷ []))
 
-  abbrev pub BeginsOneBy : {T E : Type 0} → Bool → List ℕ → Result T E → Type 0
-  BeginsOneBy matched line result = (p : Patterns) → IsBuiltFrom searcher p → IsMatched p job.fit line matched
-      → OnErr result (BeginsLines p job before after.selected (sinks.taken old) (sinks.taken new) (line ∷ []))
-
-  -- of a line in which a pattern occurs
-  abbrev pub TellsMatchBy : {T E : Type 0} → List ℕ → Result T E → Type 0
-  TellsMatchBy line result = (p : Patterns) → IsBuiltFrom searcher p → HasMatch p line
-      → OnOk result (TellsLines p job before after (sinks.taken old) (sinks.taken new) (line ∷ []))
-
-  abbrev pub BeginsMatchBy : {T E : Type 0} → List ℕ → Result T E → Type 0
-  BeginsMatchBy line result = (p : Patterns) → IsBuiltFrom searcher p → HasMatch p line
-      → OnErr result (BeginsLines p job before after.selected (sinks.taken old) (sinks.taken new) (line ∷ []))
-
-  -- of a line that is selected
-  abbrev pub BeginsSelectedBy : {T E : Type 0} → List ℕ → Result T E → Type 0
-  BeginsSelectedBy line result = (p : Patterns) → IsBuiltFrom searcher p → IsSelected p job.fit job.invert line
-      → OnErr result (BeginsLines p job before after.selected (sinks.taken old) (sinks.taken new) (line ∷ []))
+  abbrev pub BeginsWhere : {T E : Type 0} → (Patterns → List ℕ → Type 0) → List ℕ → Result T E → Type 0
+  BeginsWhere Holds line result =
+      (p : Patterns) → IsBuiltFrom searcher p → Holds p line → OnErr result (BeginsLines p job before after.selected (sinks.taken old) (sinks.taken new) (line ∷ []))
 
   -- of lines without a match
   abbrev pub TellsOthersBy : {T E : Type 0} → List ℕ → Result T E → Type 0
@@ -121,15 +97,6 @@ module _ {W : Type 0} (sinks : SinkGhosts W) (searcher : Searcher) (job : Job) (
 
   abbrev pub BeginsOthersBy : {T E : Type 0} → List ℕ → Result T E → Type 0
   BeginsOthersBy text result = (p : Patterns) → IsBuiltFrom searcher p → EachLine (HasNone p) (lines job.style.ending text)
-      → OnErr result (BeginsLines p job before after.selected (sinks.taken old) (sinks.taken new) (lines job.style.ending text))
-
-  -- of such lines, where they are selected
-  abbrev pub TellsInvertedBy : {T E : Type 0} → List ℕ → Result T E → Type 0
-  TellsInvertedBy text result = (p : Patterns) → IsBuiltFrom searcher p → job.invert ≡ true → EachLine (HasNone p) (lines job.style.ending text)
-      → OnOk result (TellsLines p job before after (sinks.taken old) (sinks.taken new) (lines job.style.ending text))
-
-  abbrev pub BeginsInvertedBy : {T E : Type 0} → List ℕ → Result T E → Type 0
-  BeginsInvertedBy text result = (p : Patterns) → IsBuiltFrom searcher p → job.invert ≡ true → EachLine (HasNone p) (lines job.style.ending text)
       → OnErr result (BeginsLines p job before after.selected (sinks.taken old) (sinks.taken new) (lines job.style.ending text))
 
 -- a file was searched, or a beginning of what is asked of it is written

@@ -1,5 +1,5 @@
 -- Which lines of a text are selected.
-use Rattle.std.specs.Prelude.{◌≡◌, ◌≢◌, ℕ, ◌-◌, ◌<◌, ◌≤◌, false, List, Option, Some, None, length, slice_index}
+use Rattle.std.specs.Prelude.{◌-◌, ◌<◌, ◌≡◌, ◌≢◌, ◌≤◌, List, None, Option, Some, false, length, slice_index, ℕ}
 use Rattle.aho_core.specs.Bytes.{folded}
 use Rattle.aho_core.specs.Occurrence.{Occurrence}
 use Rattle.aho_core.specs.Occurs.{Occurs, OccursIn}
@@ -11,8 +11,8 @@ use Rattle.memchr.specs.Find.{Nowhere}
 use Rattle.acgrep.specs.Lines.{EndsLine, IsEnding, lines}
 use Rattle.acgrep.specs.Written.{HasNone}
 use Rattle.acgrep.specs.declared.options.Fit.TheVariants.{AnyPart}
-use Rattle.acgrep.specs.declared.select.Job.{Job}
-use Rattle.acgrep.specs.declared.select.State.{State}
+use Rattle.acgrep.specs.declared.job.Job.{Job}
+use Rattle.acgrep.specs.declared.job.State.{State}
 
 -- no pattern holds the byte that ends a line, in either case where that makes no difference
 abbrev pub HoldNoEnding : (ending : ℕ) → Patterns → Type 0

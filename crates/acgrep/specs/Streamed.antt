@@ -1,15 +1,15 @@
 -- What is written of all that a reader gives.
-use Rattle.std.specs.Prelude.{◌≡◌, ◌⊎◌, ℕ, Bool, true, List, [], ◌++◌, Option, IfSome}
 use Rattle.std.specs.Io.KnownBytes.{Consumes, IsAtEnd}
+use Rattle.std.specs.Prelude.{◌++◌, ◌≡◌, ◌⊎◌, Bool, IfSome, List, Option, [], true, ℕ}
 use Rattle.std.specs.declared.io.traits.Read.{Ghosts as Readers}
 use Rattle.aho_core.specs.Patterns.{Patterns}
 use Rattle.aho_devices.specs.declared.device.Sink.{Ghosts as SinkGhosts}
 use Rattle.acgrep.specs.Binary.{is_text, lines_by}
-use Rattle.acgrep.specs.Lines.{EndsLine}
 use Rattle.acgrep.specs.Contexts.{BeginsSearched, SearchesText}
+use Rattle.acgrep.specs.Lines.{EndsLine}
 use Rattle.acgrep.specs.Written.{IsSettled}
-use Rattle.acgrep.specs.declared.select.Job.{Job}
-use Rattle.acgrep.specs.declared.select.State.{State}
+use Rattle.acgrep.specs.declared.job.Job.{Job}
+use Rattle.acgrep.specs.declared.job.State.{State}
 
 -- states, what the writer holds and what the reader has left, before and after
 pub record Course : Type 0 where

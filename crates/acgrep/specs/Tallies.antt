@@ -1,5 +1,5 @@
 -- How often each pattern was found, by the numbers of the patterns that were, and how that is told.
-use Rattle.std.specs.Prelude.{◌≡◌, ℕ, ◌+◌, ◌-◌, ◌<◌, ◌^◌, ◌==◌, max, min, Bool, false, List, [], ◌∷◌, ◌++◌, Option, Some, None, Vec, codes, decimal, filter, length, map, slice_index}
+use Rattle.std.specs.Prelude.{◌++◌, ◌+◌, ◌-◌, ◌<◌, ◌==◌, ◌^◌, ◌∷◌, ◌≡◌, Bool, List, None, Option, Some, Vec, [], codes, decimal, false, filter, length, map, max, min, slice_index, ℕ}
 use Rattle.acgrep.specs.Arguments.{number_by}
 use Rattle.acgrep.specs.Lines.{lines}
 

@@ -1,32 +1,32 @@
 -- What is told on standard error.
-use Rattle.std.specs.Prelude.{◌≡◌, ◌⊎◌, ℕ, ◌<◌, Bool, MatchBool, true, false, if◌then◌else◌, List, [], ◌∷◌, ◌++◌, Option, Some, None, IfSome, codes, map}
 use Rattle.std.specs.List.{concat}
+use Rattle.std.specs.Prelude.{◌++◌, ◌<◌, ◌∷◌, ◌≡◌, ◌⊎◌, Bool, IfSome, List, MatchBool, None, Option, Some, [], codes, false, if◌then◌else◌, map, true, ℕ}
 use Rattle.std.specs.Str.{is_utf8}
 use Rattle.aho_core.specs.Texts.{build_error_text, match_error_text}
 use Rattle.aho_core.specs.declared.error.BuildError.{BuildError}
 use Rattle.aho_core.specs.declared.error.MatchErrorKind.{MatchErrorKind}
 use Rattle.aho_devices.specs.declared.device.Sink.{Ghosts as SinkGhosts}
 use Rattle.tool_parts.specs.Messages.{Message, message_by, reason_text}
+use Rattle.tool_parts.specs.Misuses.{text_before, text_behind}
 use Rattle.tool_parts.specs.Names.{IsOneOf, or_input}
 use Rattle.tool_parts.specs.Telling.{Tells, TellsBytes, TellsSome}
 use Rattle.tool_parts.specs.declared.errors.Errors.{Errors}
-use Rattle.tool_parts.specs.declared.reason.Reason.{Reason}
-use Rattle.tool_parts.specs.Misuses.{text_before, text_behind}
 use Rattle.tool_parts.specs.declared.options.misuse.Misuse.{Misuse}
-use Rattle.tool_parts.specs.declared.options.misuse.Misuse.TheVariants.{UnknownLetter as NoLetter, NotFound as NoName, NoArgument as Unargued, TakesNone as Argued}
+use Rattle.tool_parts.specs.declared.options.misuse.Misuse.TheVariants.{NoArgument as Unargued, NotFound as NoName, TakesNone as Argued, UnknownLetter as NoLetter}
+use Rattle.tool_parts.specs.declared.reason.Reason.{Reason}
 use Rattle.acgrep.specs.Arguments.{Origin, Said, shown_by}
 use Rattle.acgrep.specs.Files.{shown_name}
 use Rattle.acgrep.specs.Folders.{Known, Tree}
 use Rattle.acgrep.specs.Formats.{unknown_in}
 use Rattle.acgrep.specs.Rules.{RuleSaid, is_from_file}
-use Rattle.acgrep.specs.Runs.{AreReached, AreRules, IsByPatterns, names_by, origins_of, ruled, sources_by}
+use Rattle.acgrep.specs.Runs.{AfterRules, AreReached, IsByPatterns, names_by, origins_of, sources_by}
 use Rattle.acgrep.specs.declared.arguments.Source.{Source}
-use Rattle.acgrep.specs.declared.arguments.Wrong.{Wrong}
-use Rattle.acgrep.specs.declared.arguments.Wrong.TheVariants.{NoPattern, UnknownLetter, NotFound, NoArgument, TakesNone, UnknownKind, UnknownColor, UnknownFolders, UnknownDevices, UnknownBinary, UnknownField, NoNumber}
+use Rattle.acgrep.specs.declared.wrong.Wrong.{Wrong}
+use Rattle.acgrep.specs.declared.wrong.Wrong.TheVariants.{NoArgument, NoNumber, NoPattern, NotFound, TakesNone, UnknownBinary, UnknownColor, UnknownDevices, UnknownField, UnknownFolders, UnknownKind, UnknownLetter}
 use Rattle.acgrep.specs.declared.files.Outcome.{Outcome}
-use Rattle.acgrep.specs.declared.files.Outcome.TheVariants.{Searched, Unread, Stopped}
-use Rattle.acgrep.specs.declared.long.Valued.{Valued}
-use Rattle.acgrep.specs.declared.long.Valued.TheVariants.{Regexp, PatternFile, Kind, Offset, FirstLine, MaxCount, After, Before, Around, Separator, Label, Format, Included, Excluded, ExcludedFrom, ExcludedFolder, Folders, Devices, BinaryFiles, RuleFile, LineLimit}
+use Rattle.acgrep.specs.declared.files.Outcome.TheVariants.{Searched, Stopped, Unread}
+use Rattle.acgrep.specs.declared.all_options.Valued.{Valued}
+use Rattle.acgrep.specs.declared.all_options.Valued.TheVariants.{After, Around, Before, BinaryFiles, Devices, Excluded, ExcludedFolder, ExcludedFrom, FirstLine, Folders, Format, Included, Kind, Label, LineLimit, MaxCount, Offset, PatternFile, Regexp, RuleFile, Separator}
 use Rattle.acgrep.specs.declared.options.Shown.{Shown}
 use Rattle.acgrep.specs.declared.options.Shown.TheVariants.{Nothing}
 
@@ -237,11 +237,8 @@ MaySay tree given sources names line =
     MayTell (names_told given.flags.no_messages given.label sources names) line ⊎ NamesReached tree given names line
 
 -- the rules in files were read, and a line names what is so reached; `left` is what the input has left
-pub record NamesRuled (known : Known) (left : Option (List ℕ)) (given : Said) (line : List ℕ) : Type 0 where
-  pub rules : List RuleSaid
-  pub between : Option (List ℕ)
-  pub read : AreRules known.holds given.rules left between rules
-  pub named : NamesReached known.tree (ruled given rules) (names_by given.sources given.operands) line
+abbrev pub NamesRuled : Known → (left : Option (List ℕ)) → Said → List ℕ → Type 0
+NamesRuled known left given line = AfterRules known given left (λ ruled between. NamesReached known.tree ruled (names_by given.sources given.operands) line)
 
 abbrev pub MaySaid : Known → (left : Option (List ℕ)) → Option Said → List ℕ → Type 0
 MaySaid known left None line = MayTell [] line

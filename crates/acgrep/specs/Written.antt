@@ -1,6 +1,6 @@
 -- What is written of the lines of a text, one after another.
-use Rattle.std.specs.Prelude.{◌≡◌, ◌⊎◌, ⊤, ℕ, ◌+◌, ◌-◌, ◌%◌, ◌^◌, ◌<◌, ◌≤◌, min, Bool, true, false, not, ◌&&◌, List, [], ◌∷◌, ◌++◌, Option, None, length, drop, MatchBool, Some, nat_le, nat_lt, if◌then◌else◌}
 use Rattle.std.specs.Io.KnownBytes.{Appends}
+use Rattle.std.specs.Prelude.{◌%◌, ◌&&◌, ◌++◌, ◌+◌, ◌-◌, ◌<◌, ◌^◌, ◌∷◌, ◌≡◌, ◌≤◌, ◌⊎◌, Bool, List, MatchBool, None, Option, Some, [], drop, false, if◌then◌else◌, length, min, nat_le, nat_lt, not, true, ℕ, ⊤}
 use Rattle.aho_core.specs.Occurrence.{Occurrence}
 use Rattle.aho_core.specs.Occurs.{OccursIn}
 use Rattle.aho_core.specs.Patterns.{Patterns}
@@ -10,13 +10,13 @@ use Rattle.acgrep.specs.Lines.{EndsLine, lines}
 use Rattle.acgrep.specs.Objects.{objects_by}
 use Rattle.acgrep.specs.Printed.{colored_line_by, line_by, matches_by}
 use Rattle.acgrep.specs.declared.options.Fit.{Fit}
-use Rattle.acgrep.specs.declared.options.Fit.TheVariants.{AnyPart, WholeWord, WholeLine}
+use Rattle.acgrep.specs.declared.options.Fit.TheVariants.{AnyPart, WholeLine, WholeWord}
 use Rattle.acgrep.specs.declared.options.Shown.{Shown}
-use Rattle.acgrep.specs.declared.options.Shown.TheVariants.{Lines, Matches, Objects, Count, Names, Lacking, Nothing}
+use Rattle.acgrep.specs.declared.options.Shown.TheVariants.{Lacking, Lines, Matches, Names, Nothing, Objects}
 use Rattle.acgrep.specs.declared.print.Place.{Place}
 use Rattle.acgrep.specs.declared.print.Style.{Style}
-use Rattle.acgrep.specs.declared.select.Job.{Job}
-use Rattle.acgrep.specs.declared.select.State.{State}
+use Rattle.acgrep.specs.declared.job.Job.{Job}
+use Rattle.acgrep.specs.declared.job.State.{State}
 
 -- a pattern occurs in a line
 abbrev pub HasMatch : Patterns → List ℕ → Type 0
@@ -99,10 +99,7 @@ abbrev pub ShowsBy : Patterns → Shown → (alone invert : Bool) → Style → 
 ShowsBy p Lines alone invert style place line bytes = LineOf p alone (style.color && not invert) style place line bytes
 ShowsBy p Matches alone invert style place line bytes = MatchBool invert (bytes ≡ []) (MatchesOf p alone style place line bytes)
 ShowsBy p Objects alone invert style place line bytes = MatchBool invert (bytes ≡ []) (ObjectsOf p alone style place line bytes)
-ShowsBy p Count alone invert style place line bytes = bytes ≡ []
-ShowsBy p Names alone invert style place line bytes = bytes ≡ []
-ShowsBy p Lacking alone invert style place line bytes = bytes ≡ []
-ShowsBy p Nothing alone invert style place line bytes = bytes ≡ []
+ShowsBy p _ alone invert style place line bytes = bytes ≡ []
 
 abbrev pub ShowsLine : Patterns → Job → Place → List ℕ → List ℕ → Type 0
 ShowsLine p job place line bytes = ShowsBy p job.shown (asks_alone job.fit) job.invert job.style place line bytes
@@ -157,13 +154,8 @@ pub record TellsLines (p : Patterns) (job : Job) (before after : State) (old new
 
 -- whether the numbers of lines are written: where that is asked for, and in objects
 abbrev pub is_numbered : Shown → Bool → Bool
-is_numbered Lines asked = asked
-is_numbered Matches asked = asked
 is_numbered Objects asked = true
-is_numbered Count asked = asked
-is_numbered Names asked = asked
-is_numbered Lacking asked = asked
-is_numbered Nothing asked = asked
+is_numbered _ asked = asked
 
 abbrev pub NumbersLines : Job → Type 0
 NumbersLines job = is_numbered job.shown job.style.number ≡ true
@@ -187,13 +179,10 @@ pub record SearchesTo (p : Patterns) (job : Job) (before after : State) (old new
 
 -- one selected line tells all
 abbrev pub needs_one : Shown → Bool
-needs_one Lines = false
-needs_one Matches = false
-needs_one Objects = false
-needs_one Count = false
 needs_one Names = true
 needs_one Lacking = true
 needs_one Nothing = true
+needs_one _ = false
 
 -- such a line was selected, or so many as are asked for and no line behind the last of them is due
 abbrev pub IsSettled : Job → State → Type 0

@@ -5,7 +5,8 @@ ghost use Rattle.acgrep.specs.Actions.{binary_named, color_named, devices_named,
 ghost use Rattle.tool_parts.specs.OptionNames.{found_among};
 ghost use Rattle.tool_parts.specs.declared.options.found.Found.TheVariants.{Unknown};
 
-use crate::options::{Color, Switch};
+use crate::all_options::Switch;
+use crate::options::Color;
 use tool_parts::options::found::Found;
 
 /// The names of what is done with devices.

@@ -8,21 +8,23 @@ ghost use Rattle.tool_parts.specs.Arguments.{kind_by};
 ghost use Rattle.acgrep.specs.Arguments.{AreDigits, FailsBy, ReadsBy, SaysMore, argument_by, behind_by, color_by, fresh_by, joined_by, letters_by, named_by, nothing_said, number_by, said, said_by, source_option, so_far, taken_by, turned_by, value_by, valued_letter, with_binary, with_devices, with_folders, with_format, with_operand, with_rule, with_rule_file, with_separator, with_source};
 ghost use Rattle.acgrep.specs.Listed.{listed_bytes};
 ghost use Rattle.acgrep.specs.Long.{option_by};
-ghost use Rattle.acgrep.specs.Rules.{without_slashes};
+ghost use Rattle.acgrep.specs.Rules.{rules_said, without_slashes};
+ghost use Rattle.acgrep.specs.Runs.{ruled};
 ghost use Rattle.acgrep.specs.declared.rules.Sense.TheVariants.{ExcludeFolder};
 ghost use Rattle.acgrep.specs.Mistakes.{IsFirstMistake, TellsBy, mistake_at, wrong_behind, wrong_fresh, wrong_joined, wrong_letters, wrong_name, wrong_value};
 ghost use Rattle.acgrep.specs.Told.{binary_parts, color_parts, devices_parts, folders_parts, format_parts, kind_parts, number_parts, valued_name};
 
 use crate::actions::{binary_in, color_in, devices_in, folders_in};
+use crate::all_options::Valued;
 use crate::format::{Piece, read_format};
-use crate::long::{Long, Valued, option_of};
+use crate::long::{Long, option_of};
 use crate::options::{Color, Flags, switch_of};
 use crate::rules::{Rule, Sense, without_slashes};
+use crate::wrong::{Refusal, Wrong};
 use chromesquid::MatchKind;
 use std::alloc::{AllocError, Global};
 use std::str;
 use tool_parts::options::argument::{Argument, argument_of};
-use tool_parts::options::found::NotFound;
 
 /// The names of the match kinds.
 const STANDARD: &[u8] = b"standard";
@@ -38,35 +40,6 @@ pub enum Source<'a> {
     Text(&'a [u8]),
     /// A file of this name: one pattern a line.
     File(&'a [u8]),
-}
-
-/// Why arguments are wrong. Each holds what has to be named.
-#[derive(Clone, Copy)]
-pub enum Wrong<'a> {
-    /// There is no pattern.
-    NoPattern,
-    /// No option has this letter.
-    UnknownLetter(u8),
-    /// This long name means no option.
-    NotFound(NotFound, &'a [u8]),
-    /// This option has no argument.
-    NoArgument(Valued),
-    /// The option of this long name has an argument, and takes none.
-    TakesNone(&'a [u8]),
-    /// The argument of `--kind` is none of its three.
-    UnknownKind(&'a [u8]),
-    /// The argument of `--color` is none of its nine.
-    UnknownColor(&'a [u8]),
-    /// The argument of `-d` is none of its three.
-    UnknownFolders(&'a [u8]),
-    /// The argument of `-D` is none of its two.
-    UnknownDevices(&'a [u8]),
-    /// The argument of `--binary-files` is none of its three.
-    UnknownBinary(&'a [u8]),
-    /// The argument of `--format` has this where a field stands.
-    UnknownField(&'a [u8]),
-    /// The argument of this option is no number below 2^64.
-    NoNumber(Valued, &'a [u8]),
 }
 
 /// What the arguments say.
@@ -108,23 +81,13 @@ impl<'a> Given<'a> {
     }
 }
 
-/// Why there is no `Given`.
-#[derive(Clone, Copy)]
-pub enum Refusal<'a> {
-    /// The arguments are wrong.
-    Wrong(Wrong<'a>),
-    /// Memory runs out.
-    OutOfMemory,
-}
-
-impl<'a> From<AllocError> for Refusal<'a> {
-    ghost use Rattle.acgrep.specs.declared.arguments.Refusal.TheVariants.{OutOfMemory};
-
-    ghost from_gives = { λ _ refusal. refusal ≡ OutOfMemory };
-
-    fn from(_error: AllocError) -> Refusal<'a> {
-        Refusal::OutOfMemory
-    }
+/// What is said, by these rules.
+pub fn with_rules<'a>(given: Given<'a>, rules: Vec<Rule<'a>>) -> Given<'a>
+    ensures ruled { said result ≡ ruled (said given.entry) (rules_said rules.entry.items) }
+{
+    let mut ruled = given;
+    ruled.rules = rules;
+    ruled
 }
 
 /// What an argument waits for.

@@ -8,7 +8,7 @@ ghost use Rattle.acgrep.specs.Rules.{rules_said};
 ghost use Rattle.acgrep.specs.Runs.{chooses};
 
 use crate::folders::{Folders, Kind};
-use crate::keys::is_input;
+use crate::open::is_input;
 use crate::rules::{Rule, is_left_out};
 use crate::walk::{Found, Ways, is_folder, look_at};
 use std::alloc::{AllocError, Global};

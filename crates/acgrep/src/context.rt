@@ -1,27 +1,58 @@
-//! Searching where the lines around selected ones are written too.
+//! Searching a text, also where the lines around selected ones are written.
 
-ghost use Rattle.std.specs.Prelude.{◌≡◌, ◌&&◌, ◌<◌, IfOk};
+ghost use Rattle.std.specs.Prelude.{◌≡◌, ◌&&◌, ◌<◌, IfOk, OnOk, false, true};
 ghost use Rattle.aho_core.specs.Patterns.{Patterns};
 ghost use Rattle.chromesquid.specs.Searcher.{IsBuiltFrom, IsBuiltFromSome};
 ghost use Rattle.acgrep.specs.Contexts.{IsChosenBy, beside, separator_if};
 ghost use Rattle.acgrep.specs.Filled.{held_lines};
 ghost use Rattle.acgrep.specs.Printed.{Puts};
-ghost use Rattle.acgrep.specs.Searched.{BeginsLineAround, BeginsPassedBy, BeginsTakenBy, BegunBy, ShowsEachBy, ShowsGroupBy, SkipsBy, StepsBy, TakesBy, WalksBy};
+ghost use Rattle.acgrep.specs.Searched.{BeginsLineAround, BeginsTextBy, BeginsWalkWhere, BegunBy, ShowsEachBy, ShowsGroupBy, SearchesTextBy, StepsBy, WalksBy, WalksWhere};
+ghost use Rattle.acgrep.specs.Selected.{ForJob, IsNoneSelected};
 ghost use Rattle.acgrep.specs.Written.{IsMatched};
 
 use crate::failure::Stop;
 use crate::held::Held;
+use crate::job::{Job, State};
 use crate::lines::{behind, line_end};
 use crate::options::Context;
-use crate::print::{Place, put_separator};
-use crate::select::{Job, State, behind_line, is_match, put_shown};
+use crate::print::{Place, behind_line, put_separator};
+use crate::select::{is_match, put_shown, search_plain};
 use crate::trail::Trail;
 use chromesquid::{AhoCorasick, Sink, write_whole};
 use std::io;
 use std::io::Write;
 
+/// Searches a text of whole lines, and writes what is asked of those that are selected.
+pub fn search_text<W: Sink>(
+    searcher: &AhoCorasick,
+    job: &Job<'_>,
+    text: &[u8],
+    state: &mut State,
+    page: &mut Vec<u8>,
+    output: &mut W,
+) -> Result<(), Stop>
+    requires of { IsBuiltFromSome searcher.now }
+
+    // Where no line was selected, no pattern occurs.
+    ensures none { ForJob job.now (IsBuiltFrom searcher.now) (λ p.
+        OnOk result (IsNoneSelected p job.now text.now state.new)) }
+
+    // What is told of the lines is written, in order.
+    ensures written { SearchesTextBy W.Sink searcher.now job.now
+        state.old state.new output.old output.new text.now result }
+
+    // Where it fails a beginning of that is.
+    ensures begun { BeginsTextBy W.Sink searcher.now job.now
+        state.old state.new output.old output.new text.now result }
+{
+    match job.around() {
+        Some(context) => search_around(searcher, job, &context, text, state, page, output),
+        None => search_plain(searcher, job, text, state, page, output),
+    }
+}
+
 /// Searches a text of whole lines, and writes what is asked of those that are selected and of those around them.
-pub fn search_around<W: Sink>(
+fn search_around<W: Sink>(
     searcher: &AhoCorasick,
     job: &Job<'_>,
     context: &Context,
@@ -105,10 +136,10 @@ fn pass_chosen<W: Sink>(
     output: &mut W,
 ) -> Result<(), Stop>
     requires of { IsBuiltFromSome searcher.now }
-    ensures walks { TakesBy W.Sink searcher.now job.now
-        state.old state.new output.old output.new context.now line.now result }
-    ensures begun { BeginsTakenBy W.Sink searcher.now job.now
-        state.old state.new output.old output.new context.now line.now result }
+    ensures walks { WalksWhere W.Sink searcher.now job.now
+        state.old state.new output.old output.new true context.now line.now result }
+    ensures begun { BeginsWalkWhere W.Sink searcher.now job.now
+        state.old state.new output.old output.new true context.now line.now result }
 {
     page.clear();
     put_group(searcher, job, context, line, state, page)?;
@@ -190,10 +221,10 @@ fn pass_beside<W: Sink>(
     output: &mut W,
 ) -> Result<(), Stop>
     requires of { IsBuiltFromSome searcher.now }
-    ensures walks { SkipsBy W.Sink searcher.now job.now
-        state.old state.new output.old output.new context.now line.now result }
-    ensures begun { BeginsPassedBy W.Sink searcher.now job.now
-        state.old state.new output.old output.new context.now line.now result }
+    ensures walks { WalksWhere W.Sink searcher.now job.now
+        state.old state.new output.old output.new false context.now line.now result }
+    ensures begun { BeginsWalkWhere W.Sink searcher.now job.now
+        state.old state.new output.old output.new false context.now line.now result }
 {
     if state.trail.due > 0 {
         return pass_due(searcher, job, context, line, state, page, output);
@@ -215,10 +246,10 @@ fn pass_due<W: Sink>(
 ) -> Result<(), Stop>
     requires of { IsBuiltFromSome searcher.now }
     requires due { 0 < state.now.trail.due }
-    ensures walks { SkipsBy W.Sink searcher.now job.now
-        state.old state.new output.old output.new context.now line.now result }
-    ensures begun { BeginsPassedBy W.Sink searcher.now job.now
-        state.old state.new output.old output.new context.now line.now result }
+    ensures walks { WalksWhere W.Sink searcher.now job.now
+        state.old state.new output.old output.new false context.now line.now result }
+    ensures begun { BeginsWalkWhere W.Sink searcher.now job.now
+        state.old state.new output.old output.new false context.now line.now result }
 {
     page.clear();
     put_shown(searcher, &job.beside(), line, state.place, page)?;

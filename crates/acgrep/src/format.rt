@@ -6,7 +6,7 @@ ghost use Rattle.acgrep.specs.Formats.{format_text, front_at, front_by, format_p
 ghost use Rattle.acgrep.specs.Mistakes.{TellsBy};
 ghost use Rattle.acgrep.specs.Told.{format_parts};
 
-use crate::arguments::{Refusal, Wrong};
+use crate::wrong::{Refusal, Wrong};
 use memchr::memchr;
 use std::alloc::AllocError;
 

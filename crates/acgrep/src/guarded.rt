@@ -13,8 +13,8 @@ ghost use Rattle.acgrep.specs.Selected.{ForJob};
 
 use crate::buffer::Buffer;
 use crate::failure::Stop;
+use crate::job::{Job, State};
 use crate::print::Style;
-use crate::select::{Job, State};
 use crate::stream::{search_behind, search_front};
 use chromesquid::{AhoCorasick, Sink, write_whole};
 use std::io;

@@ -5,10 +5,11 @@ ghost use Rattle.std.specs.Str.{is_utf8};
 ghost use Rattle.acgrep.specs.Printed.{Puts};
 ghost use Rattle.acgrep.specs.Objects.{bytes_named, escaped_byte, fields_told, formatted_by, hex_of, json_by, json_escaped, object_by, stands_for};
 
-use crate::base64::put_base64;
 use crate::fields::{Fields, fields_of, put_decimal};
 use crate::format::Piece;
 use crate::print::{Form, Place, Style};
+use base64::display::Base64Display;
+use base64::engine::general_purpose::STANDARD;
 use chromesquid::Match;
 use std::io::Write;
 use std::{io, str};
@@ -61,7 +62,7 @@ pub fn put_bytes<W: Write>(output: &mut W, bytes: &[u8]) -> io::Result<()>
         return put_escaped(output, bytes);
     }
     output.write_all(b",\"bytes\":\"")?;
-    put_base64(output, bytes)
+    write!(output, "{}", Base64Display::new(bytes, &STANDARD))
 }
 
 /// Whether bytes are UTF-8.

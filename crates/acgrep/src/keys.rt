@@ -12,7 +12,7 @@ ghost use Rattle.acgrep.specs.Told.{MayName, TellsOfFile, TellsOfSources, source
 
 use crate::arguments::Source;
 use crate::failure::Unusable;
-use crate::open::Open;
+use crate::open::{Open, is_input};
 use crate::patterns::Keys;
 use crate::tell::{tell_build, tell_input, tell_memory, tell_unopened, tell_zero};
 use chromesquid::{BuildError, Sink};
@@ -22,9 +22,6 @@ use std::io::{ErrorKind, Read};
 use std::{io, str};
 use tool_parts::errors::Errors;
 use tool_parts::reason::Reason;
-
-/// The name of standard input among the arguments.
-pub const INPUT: &[u8] = b"-";
 
 /// The patterns of all sources, or none where one cannot be read, which is told.
 pub fn read_keys<F: Open, R: Read, E: Sink>(
@@ -119,13 +116,6 @@ pub fn read_text<F: Open, R: Read>(
     let mut file = open_named(files, name)?;
     file.read_to_end(text)?;
     Ok(())
-}
-
-/// Whether this is the name of standard input.
-pub fn is_input(name: &[u8]) -> bool
-    ensures { result ≡ is_input name.now }
-{
-    name == INPUT
 }
 
 /// Opens a file by the bytes of its name.

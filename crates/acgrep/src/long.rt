@@ -7,56 +7,9 @@ ghost use Rattle.acgrep.specs.Told.{wrong_parts};
 ghost use Rattle.tool_parts.specs.OptionNames.{found_among};
 ghost use Rattle.tool_parts.specs.declared.options.found.Found.TheVariants.{Unknown};
 
-use crate::arguments::Wrong;
-use crate::options::Switch;
+use crate::all_options::{Switch, Valued};
+use crate::wrong::Wrong;
 use tool_parts::options::found::Found;
-
-/// An option that takes an argument.
-#[derive(Clone, Copy)]
-pub enum Valued {
-    /// `-e`
-    Regexp,
-    /// `-f`
-    PatternFile,
-    /// `--kind`
-    Kind,
-    /// `--offset`
-    Offset,
-    /// `--first-line`
-    FirstLine,
-    /// `-m`
-    MaxCount,
-    /// `-A`
-    After,
-    /// `-B`
-    Before,
-    /// `-C`
-    Around,
-    /// `--group-separator`
-    Separator,
-    /// `--label`
-    Label,
-    /// `--format`
-    Format,
-    /// `--include`
-    Included,
-    /// `--exclude`
-    Excluded,
-    /// `--exclude-from`
-    ExcludedFrom,
-    /// `--exclude-dir`
-    ExcludedFolder,
-    /// `-d`
-    Folders,
-    /// `-D`
-    Devices,
-    /// `--binary-files`
-    BinaryFiles,
-    /// `--rules`
-    RuleFile,
-    /// `--max-line`
-    LineLimit,
-}
 
 /// An option by its long name.
 #[derive(Clone, Copy)]

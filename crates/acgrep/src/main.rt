@@ -5,9 +5,9 @@
 #![tactic(auto)]
 
 mod actions;
+mod all_options;
 mod alone;
 mod arguments;
-mod base64;
 mod below;
 mod beside;
 mod buffer;
@@ -26,6 +26,7 @@ mod globs;
 mod guarded;
 mod held;
 mod help;
+mod job;
 mod json;
 mod keys;
 mod lines;
@@ -51,6 +52,7 @@ mod tell;
 mod trail;
 mod unread;
 mod walk;
+mod wrong;
 
 use bytes::{arguments, variable};
 use chromesquid::FromWrite;

@@ -11,12 +11,12 @@ ghost use Rattle.acgrep.specs.ToldByRules.{IsMarkTold};
 
 use crate::failure::Stop;
 use crate::files::{Outcome, Seen, break_off, end_file, goes_on, job_for, shown_name, writes_into};
-use crate::keys::{is_input, open_named};
+use crate::job::Job;
+use crate::keys::open_named;
 use crate::marked::Task;
 use crate::marked_lines::{End, end_of, mark_source};
 use crate::noting::Noting;
-use crate::open::Open;
-use crate::select::Job;
+use crate::open::{Open, is_input};
 use crate::tell::{PROGRAM, tell_memory};
 use crate::unread::{tell_closed, tell_same, tell_unreadable};
 use chromesquid::{Automaton, FromRead, Sink};

@@ -12,9 +12,9 @@ ghost use Rattle.acgrep.specs.Printed.{Puts, PutsEach};
 
 use crate::alone::{behind_alone, next_alone};
 use crate::failure::Stop;
+use crate::job::Job;
 use crate::json::put_object;
 use crate::print::{Place, Style, part, put_head, put_match, put_up_to};
-use crate::select::Job;
 use chromesquid::{AhoCorasick, Match};
 use std::alloc::Global;
 use std::io;

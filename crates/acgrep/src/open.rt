@@ -1,13 +1,17 @@
 //! What opens the files that a call names.
 
-ghost use Rattle.std.specs.Prelude.{ℕ, List, Option, None, IfOk};
+ghost use Rattle.std.specs.Prelude.{◌≡◌, ℕ, List, Option, None, IfOk};
 ghost use Rattle.std.specs.Io.KnownBytes.{Keeps};
+ghost use Rattle.tool_parts.specs.Names.{is_input};
 
 use crate::failure::Unusable;
 use std::fs::Files;
 use std::io::Read;
 use std::os::unix::fs::MetadataExt;
 use std::{fs, io};
+
+/// The name of standard input among the arguments.
+const INPUT: &[u8] = b"-";
 
 /// What opens files.
 pub trait Open {
@@ -27,6 +31,13 @@ pub trait Open {
 
     /// Why standard input cannot be read at all, if it cannot.
     fn unusable_input(&self) -> Option<Unusable>;
+}
+
+/// Whether this is the name of standard input.
+pub fn is_input(name: &[u8]) -> bool
+    ensures { result ≡ is_input name.now }
+{
+    name == INPUT
 }
 
 /// What tells a file from all others: the number of its device, and its own there.

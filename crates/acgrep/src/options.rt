@@ -3,7 +3,7 @@
 ghost use Rattle.std.specs.Prelude.{◌≡◌};
 ghost use Rattle.acgrep.specs.Arguments.{switch_by};
 
-use crate::long::Valued;
+use crate::all_options::{Switch, Valued};
 use crate::walk::Ways;
 use chromesquid::MatchKind;
 
@@ -57,79 +57,6 @@ pub enum Fit {
     WholeWord,
     /// The whole line.
     WholeLine,
-}
-
-/// An option that takes no argument.
-#[derive(Clone, Copy)]
-pub enum Switch {
-    /// `-i`, `-y`
-    IgnoreCase,
-    /// `--no-ignore-case`
-    MatchCase,
-    /// `-v`
-    Invert,
-    /// `-w`
-    WholeWords,
-    /// `-x`
-    WholeLines,
-    /// `-c`
-    Counts,
-    /// `--counts`
-    Tallies,
-    /// `-n`
-    Numbers,
-    /// `-o`
-    OnlyMatching,
-    /// `-b`
-    Offsets,
-    /// `-l`
-    OnlyNames,
-    /// `-L`
-    OnlyLacking,
-    /// `-r`
-    Recursive,
-    /// `-R`
-    Follow,
-    /// `-Z`
-    NullNames,
-    /// `-z`
-    NullData,
-    /// `-q`
-    Quiet,
-    /// `--no-group-separator`
-    NoSeparator,
-    /// `-T`
-    InitialTab,
-    /// `--json`
-    Json,
-    /// `-h`
-    NoName,
-    /// `-H`
-    WithName,
-    /// `--no-match-ok`
-    NoMatchOk,
-    /// `-s`
-    NoMessages,
-    /// `--help`
-    Help,
-    /// `-V`
-    Version,
-    /// `-a`
-    Text,
-    /// `-I`
-    TextAlone,
-    /// `--binary-files=binary`
-    Binary,
-    /// `-d read`
-    ReadFolders,
-    /// `-d skip`
-    SkipFolders,
-    /// `-D read`
-    ReadDevices,
-    /// `-D skip`
-    SkipDevices,
-    /// `-F`, `-U`, `-u` and `--line-buffered`: what is done without them too.
-    Same,
 }
 
 /// The option of a letter that takes no argument, if there is one.

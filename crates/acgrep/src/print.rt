@@ -2,6 +2,7 @@
 
 ghost use Rattle.std.specs.Prelude.{◌≡◌, ◌≤◌, IfOk, decimal, drop};
 ghost use Rattle.acgrep.specs.Printed.{Puts, behind_match, colored_by, count_by, escape_by, file_line, head_of, line_by, match_by, match_code, name_ended, name_part, number_by, number_if, painted, part_by, part_of, separator_by, tab_before};
+ghost use Rattle.acgrep.specs.Written.{after_line};
 
 use crate::colors::Colors;
 use crate::format::Piece;
@@ -58,6 +59,16 @@ pub struct Place {
     pub lines: u64,
     /// How many bytes do.
     pub bytes: u64,
+}
+
+/// The place behind a line and what ends it.
+pub fn behind_line(place: Place, line: &[u8]) -> Place
+    ensures place { result ≡ after_line place line.now }
+{
+    Place {
+        lines: place.lines.wrapping_add(1),
+        bytes: place.bytes.wrapping_add(line.len() as u64).wrapping_add(1),
+    }
 }
 
 /// Writes what begins a colour of this code, or, where it is empty, what ends each.

@@ -1,6 +1,6 @@
 //! A call over its arguments, files and streams.
 
-ghost use Rattle.std.specs.Prelude.{◌≡◌, ◌≤◌, ◌<◌, ◌⊎◌, [], IfSome, IsTrue, None, Some, false, true, unwrap_or};
+ghost use Rattle.std.specs.Prelude.{◌≡◌, ◌≤◌, ◌<◌, ◌⊎◌, [], IfSome, IsTrue, None, Some, false, true};
 ghost use Rattle.std.specs.Io.KnownBytes.{Appends, Keeps};
 ghost use Rattle.aho_devices.specs.Counts.{AppendsBeginning};
 ghost use Rattle.aho_core.specs.Replacement.{pieces_of};
@@ -13,36 +13,30 @@ ghost use Rattle.acgrep.specs.Told.{MaySaid, MayTell, TellsCause, TellsOfCall, T
 ghost use Rattle.acgrep.specs.ToldByRules.{IsMarkTold, TellsByRules};
 ghost use Rattle.acgrep.specs.Mistakes.{TellsLacking, TellsMistake, TellsNoPattern, TellsRefused, TellsUnfit};
 ghost use Rattle.acgrep.specs.Folders.{known_by, tree_of};
-ghost use Rattle.acgrep.specs.Runs.{AsksAny, AsksByRules, AsksToSearch, BeginsNoMatch, BeginsSaid, BeginsSearch, BeginsFor, GivesNone, IfSaid, IsByPatterns, IsJob, Searches, SearchesFor, SearchesRuled, SearchesSaid, WritesNoMatch, are_empty, asks_none, form_asked, form_said, inverts, is_colored, kind_sought, knows_none, lists_finds, origins_of, ruled, selects_none, status_told, takes_any, words_sought};
-ghost use Rattle.acgrep.specs.Rules.{rules_said};
+ghost use Rattle.acgrep.specs.Runs.{AsksAny, AsksByRules, AsksToSearch, BeginsNoMatch, BeginsSaid, BeginsSearch, BeginsFor, GivesNone, IfSaid, IsByPatterns, Searches, SearchesFor, SearchesRuled, SearchesSaid, WritesNoMatch, are_empty, kind_sought, knows_none, lists_finds, origins_of, selects_none, status_told, takes_any, words_sought};
 ghost use Rattle.acgrep.specs.RunsByRules.{BeginsByRules, SearchesByRules};
 
-use crate::arguments::{Given, Refusal, Source, Wrong, parse};
+use crate::arguments::{Given, Source, parse, with_rules};
 use crate::beside::{tell_unfit, unfit_of};
-use crate::colors::{Screen, read_colors};
+use crate::colors::Screen;
 use crate::counted::{end_counts, search_or_count};
 use crate::excluded::{expanded, read_globs};
 use crate::files::Files;
 use crate::folders::Folders;
-use crate::format::Piece;
 use crate::help::{HELP, VERSION};
+use crate::job::{asks_none, inverts, is_colored};
 use crate::keys::{read_keys, tell_ending, tell_refusal};
 use crate::open::Open;
-use crate::options::{Color, Fit, Flags, Shown};
+use crate::options::{Fit, Flags, Shown};
 use crate::patterns::{first_holding, lines_of};
-use crate::print::{Form, Place, Style};
 use crate::ruled::mark_said;
-use crate::rules::Rule;
-use crate::select::Job;
 use crate::tell::{tell_memory, tell_write, tell_wrong};
+use crate::wrong::{Refusal, Wrong};
 use chromesquid::{MatchKind, Sink, write_whole};
 use std::alloc::Global;
 use std::io::Read;
 use tool_parts::building::searcher_of;
 use tool_parts::errors::Errors;
-
-/// What stands for a match that is counted: the number of its pattern.
-const NUMBER: &[Piece] = &[Piece::PatternNumber];
 
 /// Does what the arguments after the program's name ask for, and answers the exit status: 0 where a line was selected, 1 where
 /// none was, or 0 there too under `--no-match-ok`, and 2 where an error occurred. `screen` says what is known of the output's colours.
@@ -263,15 +257,6 @@ fn search_ruled<F: Open + Folders, R: Read, W: Sink, E: Sink>(
     search_asked(alloc, &ruled, screen, files, input, output, errors)
 }
 
-/// What is said, by these rules.
-pub fn with_rules<'a>(given: Given<'a>, rules: Vec<Rule<'a>>) -> Given<'a>
-    ensures ruled { said result ≡ ruled (said given.entry) (rules_said rules.entry.items) }
-{
-    let mut ruled = given;
-    ruled.rules = rules;
-    ruled
-}
-
 /// Whether neither an option nor an operand gives a pattern.
 fn gives_none(given: &Given<'_>) -> bool
     ensures none { IsTrue result → GivesNone (said given.now) }
@@ -441,16 +426,6 @@ fn sought<'a>(flags: &Flags, patterns: &'a [&'a [u8]]) -> &'a [&'a [u8]]
     }
 }
 
-/// Whether at most no line is asked for.
-fn asks_none(most: Option<u64>) -> bool
-    ensures { result ≡ asks_none most }
-{
-    match most {
-        Some(most) => most == 0,
-        None => false,
-    }
-}
-
 /// The match kind that is searched by. Where not any match is enough, the longest tells whether there is one that is.
 fn kind_sought(flags: &Flags) -> MatchKind
     ensures { result ≡ kind_sought flags.now }
@@ -467,13 +442,6 @@ fn takes_any(fit: Fit) -> bool
     ensures { result ≡ takes_any fit }
 {
     matches!(fit, Fit::AnyPart)
-}
-
-/// Whether the lines without a match are selected.
-fn inverts(flags: &Flags) -> bool
-    ensures { result ≡ inverts flags.now }
-{
-    flags.invert && !asks_none(flags.most)
 }
 
 /// Whether that no line is selected is known without reading a file, and no file is to be named for it. Then none is opened, as with
@@ -516,73 +484,5 @@ fn lists_finds(flags: &Flags, terminal: bool) -> bool
         Shown::Matches | Shown::Objects => true,
         Shown::Lines => is_colored(flags.color, terminal),
         _ => false,
-    }
-}
-
-/// What is written of each file, but for its name. `several` says whether names stand before lines where nothing is said of that.
-pub fn job_of<'a>(
-    alloc: Global,
-    given: &'a Given<'_>,
-    screen: &Screen<'a>,
-    several: bool,
-) -> Job<'a>
-    ensures job { IsJob (said given.now) screen.now several result }
-{
-    let flags = &given.flags;
-    Job {
-        alloc,
-        shown: flags.shown(),
-        invert: inverts(flags),
-        fit: flags.fit(),
-        style: Style {
-            name: b"",
-            with_name: flags.with_name.unwrap_or(several),
-            null: flags.null,
-            number: flags.number,
-            offset: flags.offset,
-            color: is_colored(flags.color, screen.colored),
-            colors: read_colors(screen.colors),
-            hyphen: false,
-            tab: flags.tab,
-            ending: flags.ending(),
-            separator: given.separator,
-            form: form_of(given),
-        },
-        label: given.label,
-        first: Place {
-            lines: flags.first_line.wrapping_sub(1),
-            bytes: flags.first,
-        },
-        most: flags.most,
-        hushed: flags.no_messages,
-        context: flags.context(),
-        follows: false,
-        late: flags.asks_counts(),
-        guards: screen.terminal && !flags.text && !flags.text_alone,
-        text_alone: flags.text_alone,
-    }
-}
-
-/// How a match is written with its fields: `--counts` goes before `--format`, and that before `--json`.
-fn form_of<'a>(given: &'a Given<'_>) -> Form<'a>
-    ensures form { form_said result ≡ form_asked (said given.now) }
-{
-    if given.flags.tallied {
-        Form::Pieces(NUMBER)
-    } else if given.flags.formatted {
-        Form::Pieces(given.format.as_slice())
-    } else {
-        Form::Json
-    }
-}
-
-/// Whether matches are coloured.
-fn is_colored(color: Color, terminal: bool) -> bool
-    ensures { result ≡ is_colored color terminal }
-{
-    match color {
-        Color::Always => true,
-        Color::Auto => terminal,
-        Color::Never => false,
     }
 }

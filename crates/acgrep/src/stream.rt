@@ -12,9 +12,10 @@ ghost use Rattle.acgrep.specs.Selected.{ForJob};
 ghost use Rattle.acgrep.specs.Streamed.{BeginsWhole, SearchesWhole, TextIf, course_of};
 
 use crate::buffer::Buffer;
+use crate::context::search_text;
 use crate::failure::Stop;
+use crate::job::{Job, State};
 use crate::lines::line_start;
-use crate::select::{Job, State, search_text};
 use chromesquid::{AhoCorasick, Sink};
 use memchr::memchr;
 use std::io::Read;

@@ -6,11 +6,11 @@ ghost use Rattle.std.specs.List.{concat};
 ghost use Rattle.tool_parts.specs.Telling.{TellsBytes};
 ghost use Rattle.std.specs.Prelude.{◌≡◌};
 
-use crate::arguments::Wrong;
+use crate::all_options::Valued;
 use crate::failure::Unusable;
 use crate::help::USAGE;
 use crate::json::is_text;
-use crate::long::Valued;
+use crate::wrong::Wrong;
 use chromesquid::{BuildError, MatchError, Sink};
 use tool_parts::errors::Errors;
 use tool_parts::options::misuse::Misuse;

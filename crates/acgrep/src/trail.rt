@@ -4,8 +4,7 @@ ghost use Rattle.std.specs.Prelude.{◌≡◌, ◌<◌, ◌-◌, ◌==◌, ◌^�
 ghost use Rattle.acgrep.specs.Filled.{held_lines};
 
 use crate::held::Held;
-use crate::print::Place;
-use crate::select::behind_line;
+use crate::print::{Place, behind_line};
 use std::alloc::{AllocError, Global};
 
 /// What is known of the lines before the next one.

@@ -4,7 +4,7 @@ ghost use Rattle.std.specs.Prelude.{false};
 ghost use Rattle.acgrep.specs.Told.{TellsCause, TellsOfOutcome, stopped_if};
 
 use crate::failure::{Stop, Unusable};
-use crate::select::Job;
+use crate::job::Job;
 use crate::tell::{
     tell_fault, tell_input, tell_memory, tell_output, tell_search, tell_unopened, tell_write,
 };

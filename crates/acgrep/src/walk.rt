@@ -9,8 +9,7 @@ ghost use Rattle.acgrep.specs.Rules.{RuleSaid, rules_said};
 
 use crate::failure::Stop;
 use crate::folders::{Folders, Kind};
-use crate::keys::is_input;
-use crate::open::Identity;
+use crate::open::{Identity, is_input};
 use crate::rules::{Rule, is_left_out, without_slashes};
 use std::alloc::{AllocError, Global};
 use std::collections::VecDeque;

@@ -1,11 +1,11 @@
 -- No number grows by more than was read.
 use Rattle.std.proofs.Common.{◌≡◌, inl, inr, ℕ, ◌+◌, ◌<◌, ◌≤◌, Bool, List, [], ◌∷◌, ◌++◌, Option, true, false, length, map, refl, sym, ap, subst, ◌∙◌, arith, length-append, le_refl}
-use Rattle.std.specs.Prelude.{None, Some, Ok, Err, Result, MatchBool, nat_eq, not, slice_range, replicate}
+use Rattle.std.specs.Prelude.{None, Some, Ok, Err, Result, MatchBool, nat_eq, not, replicate}
 use Rattle.std.specs.Io.KnownBytes.{Consumes, Keeps}
 use Rattle.std.proofs.lemmas.List.{length-replicate}
 use Rattle.std.proofs.lemmas.List.Filters.{length-filter_both}
 use Rattle.std.specs.Fn.{Mut}
-use Rattle.aho_core.specs.ClosureRun.{CalledOn, ClosureRun}
+use Rattle.aho_core.specs.ClosureRun.{CalledOn}
 use Rattle.aho_core.specs.Occurrence.{Occurrence}
 use Rattle.aho_core.specs.Patterns.{Patterns}
 use Rattle.aho_core.specs.declared.error.stream.StreamError.{StreamError}
@@ -13,7 +13,6 @@ use Rattle.aho_core.specs.declared.error.stream.StreamError.TheVariants.{Memory}
 use Rattle.aho_core.specs.Search.{plain_search}
 use Rattle.aho_automaton.specs.declared.automaton.Automaton.{Ghosts}
 use Rattle.aho_cover.proofs.Chosen.{all-covers, all-made}
-use Rattle.aho_cover.proofs.Counted.{counts_none, counts_then}
 use Rattle.aho_devices.specs.Counts.{counted}
 use Rattle.std.specs.Borrow.{Bor, MutBor}
 use Rattle.std.proofs.KnownBytes.{Consumes-nil}
@@ -26,7 +25,7 @@ use Rattle.aho_cover.specs.Pieces.{PieceRule}
 use Rattle.aho_cover.specs.Words.{all_runs}
 use Rattle.aho_devices.specs.declared.device.Sink.{Ghosts as SinkGhosts}
 use Rattle.aho_devices.specs.declared.device.Source.{Ghosts as SourceGhosts}
-use Rattle.aho_stream.specs.StreamRun.{CallsOn, CanBegin, RefusesAllUntouched, RunsAndLeaves, RunsLent, SinkTakes}
+use Rattle.aho_stream.specs.StreamRun.{CanBegin, RefusesAllUntouched, RunsAndLeaves, RunsLent}
 use Rattle.tool_parts.specs.Names.{is_input}
 use Rattle.acredact.specs.Bounds.{Bounded, GrowAtMost, NumbersGiven, NumbersOfAll, NumbersOfName, NumbersRead, ReadInAll, ReadsSome}
 use Rattle.acredact.specs.Metering.{IsMetered, settled_left}
@@ -34,10 +33,10 @@ use Rattle.acredact.specs.Secrets.{Redactor}
 use Rattle.acredact.specs.Streams.{StartsStream}
 use Rattle.acredact.specs.Volumes.{files_with}
 use Rattle.acredact.specs.declared.summary.Volume.{Volume}
-use Rattle.acredact.proofs.Counted.{no_more}
+use Rattle.acredact.proofs.Counted.{has_counted, no_more}
 use Rattle.acredact.proofs.Covered.{few_from}
 use Rattle.acredact.proofs.Metering.{consumes_settled, metered_added}
-use Rattle.acredact.proofs.OneFile.{known_read, of_folder, of_input}
+use Rattle.acredact.proofs.OneFile.{known_read, name_unread, of_folder}
 use Rattle.acredact.proofs.Redactions.{some_of}
 use Rattle.acredact.proofs.Runs.{sums_few}
 
@@ -93,40 +92,11 @@ pub ungrown : {R W : Type 0} (S : SourceGhosts R) {K : SinkGhosts W} {r : Redact
 ungrown S source source' sink sink' counts begun = record { given = begun.given; ended = begun.ended; gives = begun.gives; counted = grow_none counts (length begun.given) }
 
 -- a run counts no more than it is called on
-module _ {F W : Type 0} (K : SinkGhosts W) (calls : F → Occurrence → List ℕ → W → Result Bool StreamError → F → W → Type 0) (stopped : Bool) (haystack : List ℕ) (name_of : F → ℕ) (counts_of : F → List ℕ)
-    (counts : (f : F) (m : Occurrence) (matched : List ℕ) (old : W) (answer : Result Bool StreamError) (next : F) (new : W) → calls f m matched old answer next new
-    → (name_of next ≡ name_of f) × CountsThese (m ∷ []) (counts_of f) (counts_of next)) where
-  abbrev SomeCounted : List Occurrence → F → F → Type 0
-  SomeCounted ms f last = (first : List Occurrence) × (length first ≤ length ms) × (name_of last ≡ name_of f) × CountsThese first (counts_of f) (counts_of last)
-
-  none_counted : (ms : List Occurrence) (f last : F) → last ≡ f → SomeCounted ms f last
-  none_counted ms f last same = subst (SomeCounted ms f) (sym same) ([], omega arith, refl, counts_none (counts_of f))
-
-  one_counted : (m : Occurrence) (ms : List Occurrence) (f next last : F) → last ≡ next → (name_of next ≡ name_of f) × CountsThese (m ∷ []) (counts_of f) (counts_of next) → SomeCounted (m ∷ ms) f last
-  one_counted m ms f next last same step = subst (SomeCounted (m ∷ ms) f) (sym same) (m ∷ [], omega arith, step.0, step.1)
-
-  pub run_most : (ms : List Occurrence) (at : ℕ) (f : F) (old : W) (result : Result (Unit {0}) StreamError) (last : F) (new : W) → ClosureRun (SinkTakes K stopped) calls haystack at ms f old result last new → SomeCounted ms f last
-  run_most [] at f old result last new run = none_counted [] f last run.0
-  run_most (m ∷ ms) at f old result last new (inl refused) = none_counted (m ∷ ms) f last refused.2
-  run_most (m ∷ ms) at f old result last new (inr (lent, gap, (Err reason, next, left, called, ends))) =
-      one_counted m ms f next last ends.1 (counts f m (slice_range haystack m.start m.end) lent (Err reason) next left called)
-  run_most (m ∷ ms) at f old result last new (inr (lent, gap, (Ok true, next, left, called, ends))) =
-      let step = counts f m (slice_range haystack m.start m.end) lent (Ok true) next left called in
-      let rest = run_most ms m.end next left result last new ends in
-      (m ∷ rest.0, omega (arith, rest.1), rest.2 ∙ step.0, counts_then (m ∷ []) rest.0 (counts_of f) (counts_of next) (counts_of last) step.1 rest.3)
-  run_most (m ∷ ms) at f old result last new (inr (lent, gap, (Ok false, next, left, called, ends))) =
-      one_counted m ms f next last ends.0 (counts f m (slice_range haystack m.start m.end) lent (Ok false) next left called)
-
 module _ {A R W F : Type 0} (G : Ghosts A) (S : SourceGhosts R) (K : SinkGhosts W) (automaton : A) (p : Patterns) (of : G.is_of automaton p) (are : G.lengths automaton ≡ map length p.words) (can : CanBegin G automaton)
     (calls : Mut F (Bor Occurrence × (Bor (List ℕ) × (MutBor W × Unit {0}))) (Result (Unit {0}) StreamError × (MutBor W × Unit {0})))
     (source source' : R) (closure : F) (sink sink' : W) (last : F) (name_of : F → ℕ) (counts_of : F → List ℕ)
     (counts : (f : F) (m : Occurrence) (matched : List ℕ) (old : W) (answer : Result (Unit {0}) StreamError) (next : F) (new : W) → CalledOn calls f m matched old answer next new
     → (name_of next ≡ name_of f) × CountsThese (m ∷ []) (counts_of f) (counts_of next)) where
-  by_answer : (f : F) (m : Occurrence) (matched : List ℕ) (old : W) (answer : Result Bool StreamError) (next : F) (new : W) → CallsOn calls f m matched old answer next new
-      → (name_of next ≡ name_of f) × CountsThese (m ∷ []) (counts_of f) (counts_of next)
-  by_answer f m matched old (Ok goes) next new called = counts f m matched old (Ok tt) next new called.1
-  by_answer f m matched old (Err reason) next new called = counts f m matched old (Err reason) next new called
-
   abbrev LentMost : F → Type 0
   LentMost left = (name_of left ≡ name_of closure) × Bounded S source source' (counts_of closure) (counts_of left)
 
@@ -134,10 +104,11 @@ module _ {A R W F : Type 0} (G : Ghosts A) (S : SourceGhosts R) (K : SinkGhosts 
   over_most result over =
       let finds = finds-exist p (plain_search over.given) None (le_refl (length over.given)) in
       let run = over.run p over.given finds.0 of (no_more over.given over.ended) finds.1 in
-      let counted = run_most K (CallsOn calls) over.stopped over.given name_of counts_of by_answer finds.0 0 closure sink result last sink' run in
-      let few = few_from p (some_of G automaton p are can) over.given finds.0 0 None finds.1 (omega arith) in (
-        counted.2,
-        record { given = over.given; ended = over.ended; gives = over.gives; counted = grow_few counted.0 (counts_of closure) (counts_of last) (length over.given) counted.3 (omega (arith, counted.1, few)) },
+      let first = has_counted K calls closure last sink sink' name_of counts_of counts over.stopped over.given finds.0 result run in
+      let few = few_from p (some_of G automaton p are can) over.given finds.0 0 None finds.1 (omega arith) in
+      let sizes : length finds.0 ≡ length first.called + length first.rest = ap length first.are ∙ length-append first.called first.rest in (
+        first.holds.0,
+        record { given = over.given; ended = over.ended; gives = over.gives; counted = grow_few first.called (counts_of closure) (counts_of last) (length over.given) first.holds.1 (omega (arith, sizes, few)) },
       )
 
   no_run : (result : Result (Unit {0}) StreamError) → RefusesAllUntouched result Memory source source' closure last sink sink' → LentMost last
@@ -181,33 +152,18 @@ numbers_of S source source' counts counts' settled whole start bytes bytes' give
 pub numbers_there : {R : Type 0} (S : SourceGhosts R) (source there there' : R) (counts counts' : List ℕ) (bytes bytes' : ℕ) → there ≡ there' → NumbersGiven S source there counts counts' bytes bytes' → NumbersGiven S source there' counts counts' bytes bytes'
 numbers_there S source there there' counts counts' bytes bytes' same numbers = subst (λ s. NumbersGiven S source s counts counts' bytes bytes') same numbers
 
-pub numbers_text : {R : Type 0} (S : SourceGhosts R) (source source' : R) (before : Option (List ℕ)) (counts counts' : List ℕ) (bytes bytes' : ℕ) → S.remaining source ≡ before
-    → NumbersGiven S source source' counts counts' bytes bytes' → NumbersRead counts counts' bytes bytes' before (S.remaining source')
-numbers_text S source source' before counts counts' bytes bytes' left numbers = record {
-  given = numbers.given;
-  read = subst (λ l. Consumes l (S.remaining source') numbers.given) left numbers.gives.bytes;
-  counted = numbers.counted;
-  added = numbers.added;
-}
-
-module _ (holds : List ℕ → Option (List ℕ)) (name : List ℕ) (left left' : Option (List ℕ)) (counts counts' : List ℕ) (bytes bytes' : ℕ) where
-  pub input_numbers : is_input name ≡ true → NumbersRead counts counts' bytes bytes' left left' → NumbersOfName counts counts' bytes bytes' holds name left left'
-  input_numbers is numbers = of_input holds name (NumbersRead counts counts' bytes bytes') left left' is numbers
-
-  pub opened_numbers : is_input name ≡ false → left' ≡ left → (opened rest : Option (List ℕ)) → Keeps (holds name) opened → NumbersRead counts counts' bytes bytes' opened rest → NumbersOfName counts counts' bytes bytes' holds name left left'
-  opened_numbers is same opened rest kept numbers = of_folder holds name (NumbersRead counts counts' bytes bytes') left left' is same rest
-      (record { given = numbers.given; read = known_read (holds name) opened rest numbers.given kept numbers.read; counted = numbers.counted; added = numbers.added })
+-- the numbers of a file that the folder opened
+pub opened_numbers : (holds : List ℕ → Option (List ℕ)) (name : List ℕ) (left left' : Option (List ℕ)) (counts counts' : List ℕ) (bytes bytes' : ℕ) → is_input name ≡ false → left' ≡ left → (opened rest : Option (List ℕ)) → Keeps (holds name) opened
+    → NumbersRead counts counts' bytes bytes' opened rest → NumbersOfName counts counts' bytes bytes' holds name left left'
+opened_numbers holds name left left' counts counts' bytes bytes' is same opened rest kept numbers = of_folder holds name (NumbersRead counts counts' bytes bytes') left left' is same rest
+    (record { given = numbers.given; read = known_read (holds name) opened rest numbers.given kept numbers.read; counted = numbers.counted; added = numbers.added })
 
 -- nothing was read and nothing has grown
 read_nothing : (counts : List ℕ) (bytes : ℕ) (left : Option (List ℕ)) → NumbersRead counts counts bytes bytes left left
 read_nothing counts bytes left = record { given = []; read = Consumes-nil left; counted = grow_none counts 0; added = omega arith }
 
 pub no_numbers : (holds : List ℕ → Option (List ℕ)) (name : List ℕ) (left : Option (List ℕ)) (counts : List ℕ) (bytes : ℕ) → NumbersOfName counts counts bytes bytes holds name left left
-no_numbers holds name left counts bytes = by_test (is_input name) refl
-  where
-    by_test : (b : Bool) → is_input name ≡ b → NumbersOfName counts counts bytes bytes holds name left left
-    by_test true is = of_input holds name (NumbersRead counts counts bytes bytes) left left is (read_nothing counts bytes left)
-    by_test false is = of_folder holds name (NumbersRead counts counts bytes bytes) left left is refl (holds name) (read_nothing counts bytes (holds name))
+no_numbers holds name left counts bytes = name_unread holds name (NumbersRead counts counts bytes bytes) left (read_nothing counts bytes)
 
 -- the size of what was read of the file of a name
 size_of : (holds : List ℕ → Option (List ℕ)) (name : List ℕ) (left left' : Option (List ℕ)) (counts counts' : List ℕ) (bytes bytes' : ℕ) → NumbersOfName counts counts' bytes bytes' holds name left left'

@@ -5,23 +5,23 @@ use Rattle.std.specs.Prelude.{Bool, ◌⊎◌, ◌<◌, ◌||◌, ◌&&◌, not,
 use Rattle.std.specs.Io.KnownBytes.{Keeps}
 use Rattle.std.specs.List.{All, concat}
 use Rattle.std.proofs.KnownBytes.{Consumes-nil}
-use Rattle.std.proofs.lemmas.List.Elements.{All-append, All-cons, All-nil, All-weaker}
+use Rattle.std.proofs.lemmas.List.Elements.{All-append, All-cons, All-nil}
 use Rattle.aho_devices.specs.declared.device.Sink.{Ghosts as SinkGhosts}
 use Rattle.tool_parts.specs.Names.{IsOneOf, is_input}
-use Rattle.tool_parts.specs.Telling.{Tells, TellsBytes}
+use Rattle.tool_parts.specs.Telling.{TellsBytes}
 use Rattle.tool_parts.specs.declared.errors.Errors.{Errors}
 use Rattle.tool_parts.specs.declared.reason.Reason.{Reason}
-use Rattle.tool_parts.proofs.Tellings.{tells-later}
+use Rattle.tool_parts.proofs.Tellings.{tells-later, tells-nothing}
 use Rattle.acredact.specs.Builds.{patterns_by_given}
 use Rattle.acredact.specs.Arguments.{has}
 use Rattle.acredact.specs.Calls.{Call, IsUnreadLine, gives_pattern, names_asked, reading_by}
-use Rattle.acredact.specs.Checks.{AreSeen, AreUnmatched, CheckFails, CheckOutcome, CheckStatus, IsBuildFailure, IsCheckLine, IsLookOf, IsUnmatchedCall, Quest, SeesCall, SeesFiles, look_lines, quest_by}
-use Rattle.acredact.specs.Doubts.{TellsDoubts, all_doubt_lines}
+use Rattle.acredact.specs.Checks.{AreSeen, AreUnmatched, CheckFails, CheckOutcome, CheckSays, CheckStatus, IsBuildFailure, IsCheckLine, IsLookOf, IsUnmatchedCall, Quest, SeesCall, SeesFiles, look_lines, quest_by}
+use Rattle.acredact.specs.Doubts.{TellsDoubts}
 use Rattle.acredact.specs.Failures.{IsFailureLine}
 use Rattle.acredact.specs.Faults.{IsReadReason}
 use Rattle.acredact.specs.Files.{are_none, unread_line}
 use Rattle.acredact.specs.Loading.{AreGiven, CannotLoadAll}
-use Rattle.acredact.specs.Looks.{IsLook, HoldsNoMatch, is_found, is_unread_look, verdict_with}
+use Rattle.acredact.specs.Looks.{IsLook, HoldsNoMatch, both_seen, is_found, is_unread_look, verdict_of}
 use Rattle.acredact.specs.Reads.{OfName}
 use Rattle.acredact.specs.Secrets.{Redactor}
 use Rattle.acredact.specs.Statuses.{check_status}
@@ -31,10 +31,10 @@ use Rattle.acredact.specs.declared.failure.Failure.{Failure}
 use Rattle.acredact.specs.declared.look.Look.{Look}
 use Rattle.acredact.specs.declared.look.Look.TheVariants.{Clean, Found, Unread}
 use Rattle.acredact.specs.declared.look.Verdict.{Verdict}
-use Rattle.acredact.proofs.Calls.{tells_same}
-use Rattle.acredact.proofs.Done.{concat_both, tells_none}
+use Rattle.acredact.proofs.Calls.{none_are, tells_both, tells_same, tells_weaker}
+use Rattle.acredact.proofs.Done.{concat_both}
 use Rattle.acredact.proofs.OneFile.{known_read, of_folder, of_input}
-use Rattle.acredact.proofs.Warned.{all_members, tells_both}
+use Rattle.acredact.proofs.Warned.{doubts_tell}
 
 -- a look at what is known of a file, for reasons that may be more
 known_look : (r : Redactor) (Few Many : Reason → Type 0) (told left left' : Option (List ℕ)) → Keeps told left → ((reason : Reason) → Few reason → Many reason) → (look : Look) → IsLook r Few look left left' → IsLook r Many look told left'
@@ -95,7 +95,7 @@ module _ {E : Type 0} (K : SinkGhosts E) (quest : Quest) (names : List (List ℕ
 
   -- one more
   pub seen_more : (name : List ℕ) (rest : List (List ℕ)) (verdict : Verdict) (look : Look) (left left' : Option (List ℕ)) (mid new : Errors E) → SeenSoFar (name ∷ rest) verdict left mid → IsLookOf quest name look left left'
-      → TellsBytes K mid new (concat (look_lines name look)) → (is_unread_look look ≡ false → new ≡ mid) → SeenSoFar rest (verdict_with verdict look) left' new
+      → TellsBytes K mid new (concat (look_lines name look)) → (is_unread_look look ≡ false → new ≡ mid) → SeenSoFar rest (both_seen verdict (verdict_of look)) left' new
   seen_more name rest verdict look left left' mid new so looks told quiet = record {
     lines = so.lines ++ look_lines name look;
     is_all = none_more so.lines name look verdict.all so.is_all;
@@ -124,37 +124,17 @@ module _ {E : Type 0} (K : SinkGhosts E) (quest : Quest) (names : List (List ℕ
     told = tt;
   }
 
-  -- memory runs out
-  pub seen_cut : {X : Type 0} (error : X) (rest : List (List ℕ)) (verdict : Verdict) (left left' : Option (List ℕ)) (errors : Errors E) → SeenSoFar rest verdict left errors → SeesFiles K quest names (Err error) before left' old errors
-  seen_cut error rest verdict left left' errors so = record { seen = tt; quiet = tt; told = record { told = so.lines; are_lines = so.are; written = so.told } }
-
 -- before the first
 pub seen_none : {E : Type 0} (K : SinkGhosts E) (quest : Quest) (names : List (List ℕ)) (errors : Errors E) (left : Option (List ℕ)) → SeenSoFar K quest names errors left names (record { found = false; all = true }) left errors
 seen_none K quest names errors left = record {
   lines = [];
   is_all = refl;
   are = All-nil (IsUnreadLine names);
-  told = tells_none K errors;
+  told = tells-nothing K errors;
   quiet = λ is. refl;
   among = λ name is. is;
   seen = λ found more left' seen. seen;
 }
-
--- nothing was looked at
-pub seen_refused : {E X : Type 0} (K : SinkGhosts E) (quest : Quest) (names : List (List ℕ)) (error : X) (left left' : Option (List ℕ)) (errors : Errors E) → SeesFiles K quest names (Err error) left left' errors errors
-seen_refused K quest names error left left' errors = record { seen = tt; quiet = tt; told = tells_same K (IsUnreadLine names) errors errors refl }
-
--- what is seen of files stays so, with another error
-pub seen_fails : {E X Y : Type 0} (K : SinkGhosts E) (quest quest' : Quest) (names names' : List (List ℕ)) (error : X) (other : Y) (left left' : Option (List ℕ)) (errors errors' : Errors E) → names ≡ names'
-    → SeesFiles K quest names (Err error) left left' errors errors' → SeesFiles K quest' names' (Err other) left left' errors errors'
-seen_fails K quest quest' names names' error other left left' errors errors' same sees =
-    subst (λ (l : List (List ℕ)). SeesFiles K quest' l (Err other) left left' errors errors') same (record { seen = tt; quiet = tt; told = sees.told })
-
-pub seen_whole : {E X Y : Type 0} (K : SinkGhosts E) (quest quest' : Quest) (names names' : List (List ℕ)) (verdict : Verdict) (left left' : Option (List ℕ)) (errors errors' : Errors E) → quest ≡ quest' → names ≡ names'
-    → SeesFiles K {X = X} quest names (Ok verdict) left left' errors errors' → SeesFiles K {X = Y} quest' names' (Ok verdict) left left' errors errors'
-seen_whole {Y = Y} K quest quest' names names' verdict left left' errors errors' alike same sees =
-    subst (λ (q : Quest). SeesFiles K {X = Y} q names' (Ok verdict) left left' errors errors') alike
-    (subst (λ (l : List (List ℕ)). SeesFiles K {X = Y} quest l (Ok verdict) left left' errors errors') same (record { seen = sees.seen; quiet = sees.quiet; told = tt }))
 
 -- where nothing was found and nothing told, each file was read to its end and has no match
 none_found : (a b : Bool) → false ≡ (a || b) → (a ≡ false) × (b ≡ false)
@@ -195,22 +175,38 @@ pub check_load_fails : (call : Call) (failure : Failure) → CannotLoadAll (read
 check_load_fails call failure (inl one) = inr (inl one)
 check_load_fails call failure (inr memory) = inr (inr (inr (inl memory)))
 
--- no lines are none
-are_nothing : (lines : List (List ℕ)) → true ≡ are_none lines → lines ≡ []
-are_nothing [] none = refl
-are_nothing (line ∷ lines) none = absurd (cc)
-
-module _ {E : Type 0} (K : SinkGhosts E) (call : Call) (left left' : Option (List ℕ)) (old : Errors E) where
-  -- what is told of patterns of lists is one line of a check after another
-  lists_tell : (secrets : List Secret) (between : Option (List ℕ)) (new : Errors E) → AreGiven (reading_by call) call.given secrets left between → (strict : Bool) → has Strict call.given ≡ strict
-      → TellsDoubts K strict call.given secrets old new → Tells K (IsCheckLine call) old new
-  lists_tell secrets between new loaded true is doubts = tells_same K (IsCheckLine call) old new doubts.1
-  lists_tell secrets between new loaded false is doubts = record {
-    told = all_doubt_lines call.given secrets;
-    are_lines = all_members (IsCheckLine call) (all_doubt_lines call.given secrets) (λ line member. inr (is, secrets, left, between, loaded, member));
-    written = doubts;
+-- what a status says, by what is seen
+module _ (Unmatched Matched Quiet Told : Type 0) where
+  pub says_failed : Told → CheckSays Unmatched Matched Quiet Told 2
+  says_failed told = record {
+    unmatched = λ (is : 2 ≡ 0). absurd (omega arith);
+    matched = λ (is : 2 ≡ 1). absurd (omega arith);
+    quiet = λ (less : 2 < 2). absurd (omega arith);
+    tells = λ is. told;
+    bound = omega arith;
   }
 
+  pub says_seen : (verdict : Verdict) → (verdict.all ≡ true → (verdict.found ≡ false → Unmatched) × (verdict.found ≡ true → Matched) × Quiet) → (verdict.all ≡ false → Told) → CheckSays Unmatched Matched Quiet Told (check_status verdict)
+  says_seen verdict whole partly = by verdict.found verdict.all whole partly
+    where
+      by : (found all : Bool) → (all ≡ true → (found ≡ false → Unmatched) × (found ≡ true → Matched) × Quiet) → (all ≡ false → Told) → CheckSays Unmatched Matched Quiet Told (check_status (record { found = found; all = all }))
+      by true true whole partly = record {
+        unmatched = λ (is : 1 ≡ 0). absurd (omega arith);
+        matched = λ is. (whole refl).1 refl;
+        quiet = λ less. (whole refl).2;
+        tells = λ (is : 1 ≡ 2). absurd (omega arith);
+        bound = omega arith;
+      }
+      by false true whole partly = record {
+        unmatched = λ is. (whole refl).0 refl;
+        matched = λ (is : 0 ≡ 1). absurd (omega arith);
+        quiet = λ less. (whole refl).2;
+        tells = λ (is : 0 ≡ 2). absurd (omega arith);
+        bound = omega arith;
+      }
+      by found false whole partly = says_failed (partly refl)
+
+module _ {E : Type 0} (K : SinkGhosts E) (call : Call) (left left' : Option (List ℕ)) (old : Errors E) where
   -- what comes of a check whose patterns were loaded
   pub check_seen : (secrets : List Secret) (between : Option (List ℕ)) (mid new : Errors E) (result : Result Verdict Failure) → gives_pattern call.given ≡ true → AreGiven (reading_by call) call.given secrets left between
       → TellsDoubts K (has Strict call.given) call.given secrets old mid → SeesFiles K (quest_by call secrets) (names_asked call.given) result between left' mid new
@@ -226,11 +222,8 @@ module _ {E : Type 0} (K : SinkGhosts E) (call : Call) (left left' : Option (Lis
   check_seen secrets between mid new (Err failure) some loaded doubts sees fails = record {
     seen = tt;
     quiet = tt;
-    told = tells_both K (IsCheckLine call) old mid new (lists_tell secrets between mid loaded (has Strict call.given) refl doubts) (record {
-      told = sees.told.told;
-      are_lines = All-weaker (IsUnreadLine (names_asked call.given)) (IsCheckLine call) (λ line is. inl is) sees.told.told sees.told.are_lines;
-      written = sees.told.written;
-    });
+    told = tells_both K (IsCheckLine call) old mid new (doubts_tell K (IsCheckLine call) (has Strict call.given) call.given secrets old mid (λ lax line member. inr (lax, secrets, left, between, loaded, member)) doubts)
+        (tells_weaker K (IsUnreadLine (names_asked call.given)) (IsCheckLine call) mid new (λ line is. inl is) sees.told);
     fails = inr (inr (elim fails [
       | inl refused ↦ inl (secrets, left, between, loaded, refused)
       | inr memory ↦ inr (inl memory)
@@ -241,48 +234,20 @@ module _ {E : Type 0} (K : SinkGhosts E) (call : Call) (left left' : Option (Lis
   pub check_refused : (failure : Failure) → CheckFails call failure → CheckOutcome K call (Err failure) left left' old old
   check_refused failure fails = record { seen = tt; quiet = tt; told = tells_same K (IsCheckLine call) old old refl; fails = fails }
 
-  status_whole : (found : Bool) (new : Errors E) → CheckOutcome K call (Ok (record { found = found; all = true })) left left' old new → CheckStatus K call (check_status (record { found = found; all = true })) left left' old new
-  status_whole true new of =
-      let (lines, is_all, looks) = of.seen in
-      record {
-        unmatched = λ (is : 1 ≡ 0). absurd (omega arith);
-        matched = λ is. subst (λ (l : List (List ℕ)). SeesCall call true l left left') (are_nothing lines is_all) looks.sees;
-        quiet = λ less. of.quiet refl;
-        tells = λ (is : 1 ≡ 2). absurd (omega arith);
-        bound = omega arith;
-      }
-  status_whole false new of =
-      let (lines, is_all, looks) = of.seen in
-      record {
-        unmatched = λ is. unmatched_call call left left' (subst (λ (l : List (List ℕ)). SeesCall call false l left left') (are_nothing lines is_all) looks.sees);
-        matched = λ (is : 0 ≡ 1). absurd (omega arith);
-        quiet = λ less. of.quiet refl;
-        tells = λ (is : 0 ≡ 2). absurd (omega arith);
-        bound = omega arith;
-      }
-
   -- its status where it came to its end
   pub status_seen : (verdict : Verdict) (new : Errors E) → CheckOutcome K call (Ok verdict) left left' old new → CheckStatus K call (check_status verdict) left left' old new
-  status_seen verdict new of = by verdict.found verdict.all of
-    where
-      by : (found all : Bool) → CheckOutcome K call (Ok (record { found = found; all = all })) left left' old new → CheckStatus K call (check_status (record { found = found; all = all })) left left' old new
-      by found true of = status_whole found new of
-      by found false of =
-          let (lines, is_all, looks) = of.seen in
-          record {
-            unmatched = λ (is : 2 ≡ 0). absurd (omega arith);
-            matched = λ (is : 2 ≡ 1). absurd (omega arith);
-            quiet = λ (less : 2 < 2). absurd (omega arith);
-            tells = λ is. inl (record { found = found; lines = lines; some = sym is_all; seen = looks });
-            bound = omega arith;
-          }
+  status_seen verdict new of =
+      let (lines, is_all, looks) = of.seen in
+      says_seen _ _ _ _ verdict
+      (λ all.
+      let none = none_are lines (sym is_all ∙ all) in (
+        λ clean. unmatched_call call left left' (rw (clean, none) at looks.sees),
+        λ found. rw (found, none) at looks.sees,
+        of.quiet all,
+      ))
+      (λ part. inl (record { found = verdict.found; lines = lines; some = sym is_all ∙ part; seen = looks }))
 
   -- and where it did not, and that was told
   pub status_ended : (failure : Failure) (mid new : Errors E) (line : List ℕ) → CheckOutcome K call (Err failure) left left' old mid → IsFailureLine failure line → TellsBytes K mid new line → CheckStatus K call 2 left left' old new
-  status_ended failure mid new line of is told = record {
-    unmatched = λ (is : 2 ≡ 0). absurd (omega arith);
-    matched = λ (is : 2 ≡ 1). absurd (omega arith);
-    quiet = λ (less : 2 < 2). absurd (omega arith);
-    tells = λ two. inr (record { lines = of.told.told; are_told = of.told.are_lines; failure = failure; fails = of.fails; line = line; is_line = is; told = tells-later K of.told.written told });
-    bound = omega arith;
-  }
+  status_ended failure mid new line of is told =
+      says_failed _ _ _ _ (inr (record { lines = of.told.told; are_told = of.told.are_lines; failure = failure; fails = of.fails; line = line; is_line = is; told = tells-later K of.told.written told }))

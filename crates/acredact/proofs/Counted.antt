@@ -27,13 +27,14 @@ use Rattle.aho_cover.proofs.Counted.{counts_none, counts_then}
 use Rattle.aho_automaton.specs.declared.automaton.Automaton.{Ghosts}
 use Rattle.aho_stream.specs.Refills.{is_limit}
 use Rattle.aho_stream.specs.Replacing.{MayBe, SourceGave}
-use Rattle.aho_stream.specs.StreamRun.{CallsOn, CanBegin, RefusesUntouched, RunsAndLeaves, RunsLent, RunsOver, SinkTakes}
+use Rattle.aho_stream.proofs.Called.{CalledOnFirst, stream_calls}
+use Rattle.aho_stream.specs.StreamRun.{CallsOn, CanBegin, RunsAndLeaves, RunsLent, RunsOver, SinkTakes}
 use Rattle.tool_parts.proofs.Beginnings.{beginning-later, beginning-more}
 use Rattle.acredact.specs.Faults.{IsStreamEnd}
 use Rattle.acredact.specs.Secrets.{BeginsRedaction, Redactor}
-use Rattle.acredact.specs.Streams.{RedactsStream, StreamOutcome, WritesPiece}
+use Rattle.acredact.specs.Streams.{StreamOutcome, WritesPiece}
 use Rattle.acredact.specs.Totals.{CountsOfStream}
-use Rattle.acredact.proofs.Redactions.{begins_by, begins_nothing, no_cover, of_finds, redacted, redacted_alike, redaction_by, some_by, starts_whole, to_finds}
+use Rattle.acredact.proofs.Redactions.{begins_by, begins_nothing, comes_of, no_cover, of_way, redacted, redacted_alike, redaction_by, some_of, to_way}
 
 -- an error of a run: of the reading where it stopped, or of a write
 abbrev IsRunError : Bool → StreamError → Type 0
@@ -64,13 +65,10 @@ record Takes {W : Type 0} (K : SinkGhosts W) (stopped : Bool) (result : Result (
   only : IfErr result (IsRunError stopped)
 
 module _ {W : Type 0} (K : SinkGhosts W) (stopped : Bool) where
-  of_error : (error : StreamError) → MatchBool stopped (IsFillRefusal error) (IsWriteRefusal error) → IsRunError stopped error
-  of_error error is = inl is
-
   takes_sink : (old : W) (bytes : List ℕ) (result : Result (Unit {0}) StreamError) (new : W) → SinkTakes K stopped old bytes result new → Takes K stopped result old new bytes
   takes_sink old bytes (Ok x) new takes = record { whole = takes.whole; beginning = tt; write_failed = takes.write_failed; took_nothing = takes.took_nothing; only = tt }
   takes_sink old bytes (Err error) new takes =
-      record { whole = tt; beginning = takes.beginning; write_failed = takes.write_failed; took_nothing = takes.took_nothing; only = of_error error takes.only }
+      record { whole = tt; beginning = takes.beginning; write_failed = takes.write_failed; took_nothing = takes.took_nothing; only = inl takes.only }
 
   takes_piece : (old : W) (piece : List ℕ) (error : StreamError) (new : W) → WritesPiece K (Err error) old new piece → Takes K stopped (Err error) old new piece
   takes_piece old piece error new writes =
@@ -139,23 +137,22 @@ module _ {F W : Type 0} (K : SinkGhosts W) (calls : F → Occurrence → List �
       (takes_later K stopped lent left new result (piece m) (replaced_from haystack m.end ms piece)
       (piece_taken lent m left step.2) (run_takes ms m.end next left result last new step.1 later))
 
--- a run that comes to its good end counts each match, where the closure counts the one that it is called on
-module _ {F W : Type 0} (K : SinkGhosts W) (calls : F → Occurrence → List ℕ → W → Result Bool StreamError → F → W → Type 0) (stopped : Bool) (haystack : List ℕ)
-    (counts_of : F → List ℕ) (Fits : F → Type 0)
-    (goes_on : (f : F) (m : Occurrence) (matched : List ℕ) (old : W) (goes : Bool) (next : F) (new : W) → Fits f → calls f m matched old (Ok goes) next new
-    → (goes ≡ true) × Fits next × CountsThese (m ∷ []) (counts_of f) (counts_of next)) where
-  pub run_counts : (ms : List Occurrence) (at : ℕ) (f : F) (old : W) (last : F) (new : W) → Fits f → ClosureRun (SinkTakes K stopped) calls haystack at ms f old (Ok tt) last new
-      → Fits last × CountsThese ms (counts_of f) (counts_of last)
-  run_counts [] at f old last new fits run =
-      (subst Fits (sym run.0) fits, subst (λ (g : F). CountsThese [] (counts_of f) (counts_of g)) (sym run.0) (counts_none (counts_of f)))
-  run_counts (m ∷ ms) at f old last new fits (inl refused) = let clash = refused.1 in absurd (cc)
-  run_counts (m ∷ ms) at f old last new fits (inr (lent, gap, (Err reason, next, left, called, ends))) = let clash = ends.0 in absurd (cc)
-  run_counts (m ∷ ms) at f old last new fits (inr (lent, gap, (Ok goes, next, left, called, ends))) =
-      let step = goes_on f m (slice_range haystack m.start m.end) lent goes next left fits called in
-      let later : ClosureRun (SinkTakes K stopped) calls haystack m.end ms next left (Ok tt) last new =
-      subst (λ (b : Bool). MatchBool b (ClosureRun (SinkTakes K stopped) calls haystack m.end ms next left (Ok tt) last new) ((last ≡ next) × SinkTakes K stopped left (drop m.end haystack) (Ok tt) new)) step.0 ends in
-      let rest = run_counts ms m.end next left last new step.1 later in
-      (rest.0, counts_then (m ∷ []) ms (counts_of f) (counts_of next) (counts_of last) step.2 rest.1)
+-- the closure counts each match that it is called on, into the same borrow all along
+module _ {F W : Type 0} (K : SinkGhosts W) (calls : Mut F (Bor Occurrence × (Bor (List ℕ) × (MutBor W × Unit {0}))) (Result (Unit {0}) StreamError × (MutBor W × Unit {0})))
+    (closure last : F) (sink sink' : W) (name_of : F → ℕ) (counts_of : F → List ℕ)
+    (counts : (f : F) (m : Occurrence) (matched : List ℕ) (old : W) (answer : Result (Unit {0}) StreamError) (next : F) (new : W) → CalledOn calls f m matched old answer next new
+    → (name_of next ≡ name_of f) × CountsThese (m ∷ []) (counts_of f) (counts_of next)) where
+  abbrev HasCounted : List Occurrence → F → Type 0
+  HasCounted done f = (name_of f ≡ name_of closure) × CountsThese done (counts_of closure) (counts_of f)
+
+  pub has_counted : (stopped : Bool) (haystack : List ℕ) (ms : List Occurrence) (result : Result (Unit {0}) StreamError) → ClosureRun (SinkTakes K stopped) (CallsOn calls) haystack 0 ms closure sink result last sink'
+      → CalledOnFirst HasCounted [] ms result last
+  has_counted stopped haystack ms result run =
+      stream_calls K calls HasCounted
+      (λ done f m matched old answer next new so called.
+      let step = counts f m matched old answer next new called in
+      (step.0 ∙ so.0, counts_then done (m ∷ []) (counts_of closure) (counts_of f) (counts_of next) so.1 step.1))
+      stopped haystack ms closure sink result last sink' (refl, counts_none (counts_of closure)) run
 
 -- of a closure that is lent no less is known
 pub over_lent : {R F W : Type 0} {S : SourceGhosts R} {K : SinkGhosts W} {IsOf : Patterns → Type 0}
@@ -205,7 +202,7 @@ module _ (r : Redactor) (plain : r.covers ≡ false) (unkeyed : r.key ≡ None) 
       let one = each given finds.0 (no_more given ended) finds.1 in
       let part = take one.0 (replaced given finds.0 r.pieces) in (
         part,
-        begins_by r some given ended part (λ bytes ms may found. let other = each bytes ms may (to_finds r plain bytes ms found) in
+        begins_by r some given ended part (λ bytes ms may found. let other = each bytes ms may (to_way r false plain bytes ms found) in
             subst (λ (all : List ℕ). StartsWith all part) (sym (redacted_alike r unkeyed bytes ms)) (same_beginning old new part (replaced bytes ms r.pieces) other.0 one.2 other.1 other.2)),
         one.2,
       )
@@ -219,7 +216,7 @@ module _ {A R W F : Type 0} (G : Ghosts A) (S : SourceGhosts R) (K : SinkGhosts 
     (fails : (f : F) (m : Occurrence) (matched : List ℕ) (old : W) (reason : StreamError) (next : F) (new : W) → Fits f → CalledOn calls f m matched old (Err reason) next new
     → WritesPiece K (Err reason) old new (slice_index_or r.pieces m.pattern [])) where
   some_one : 1 ≤ shortest (map length r.patterns.words)
-  some_one = some_by G S K automaton r plain unkeyed of are can source source' sink sink'
+  some_one = some_of G automaton r.patterns are can
 
   -- what a run took, by the finds of any text that may come
   over_takes : (result : Result (Unit {0}) StreamError) (over : RunsOver S K (G.is_of automaton) calls source source' closure sink result sink') (bytes : List ℕ) (ms : List Occurrence)
@@ -238,84 +235,57 @@ module _ {A R W F : Type 0} (G : Ghosts A) (S : SourceGhosts R) (K : SinkGhosts 
       let finds = finds-exist r.patterns (plain_search over.given) None (le_refl (length over.given)) in
       (finds.0, finds.1, over_takes result over over.given finds.0 (no_more over.given over.ended) finds.1)
 
-  ran_whole : RunsOver S K (G.is_of automaton) calls source source' closure sink (Ok tt) sink' → StreamOutcome S K r (Ok tt) source source' sink sink'
-  ran_whole over =
-      let taken = given_takes (Ok tt) over in
-      let whole : RedactsStream S K r source source' sink sink' = record {
+  ran : (result : Result (Unit {0}) StreamError) → RunsOver S K (G.is_of automaton) calls source source' closure sink result sink' → StreamOutcome S K r result source source' sink sink'
+  ran (Ok tt) over =
+      let (ms, found, taken) = given_takes (Ok tt) over in
+      comes_of S K r source source' sink sink' (Ok tt)
+      (record {
         text = over.given;
         gives = subst (SourceGave S source source' over.given) over.whole over.gives;
-        redaction = redacted r over.given taken.0;
-        redacts = redaction_by r some_one over.given taken.0 (of_finds r plain over.given taken.0 taken.1);
-        written = subst (Appends (K.taken sink) (K.taken sink')) (sym (redacted_alike r unkeyed over.given taken.0)) taken.2.whole;
-      } in
-      record {
-        redacted = whole;
-        begun = starts_whole whole;
-        near = λ covers. tt;
+        redaction = redacted r over.given ms;
+        redacts = redaction_by r some_one over.given ms (of_way r false plain over.given ms found);
+        written = subst (Appends (K.taken sink) (K.taken sink')) (sym (redacted_alike r unkeyed over.given ms)) taken.whole;
+      })
+      tt (λ covers. tt)
+      (record {
         read_failed = over.read_failed ∙ ap (λ (b : Bool). counted b (S.failures source)) (and-false over.stopped);
-        write_failed = taken.2.write_failed;
-        took_nothing = taken.2.took_nothing;
-        limit = λ (met : false ≡ true). absurd (cc);
-        only = tt;
-      }
-
-  ran_begun : (error : StreamError) → RunsOver S K (G.is_of automaton) calls source source' closure sink (Err error) sink' → StreamOutcome S K r (Err error) source source' sink sink'
-  ran_begun error over =
-      let taken = given_takes (Err error) over in
-      let begun = begins_each r plain unkeyed some_one over.given over.ended (K.taken sink) (K.taken sink') (λ bytes ms may found. (over_takes (Err error) over bytes ms may found).beginning) in
-      record {
-        redacted = tt;
-        begun = record { given = over.given; ended = over.ended; gives = over.gives; part = begun.0; begins = begun.1; written = begun.2 };
-        near = λ covers. absurd (no_cover r plain covers);
-        read_failed = over.read_failed ∙ ap (λ (b : Bool). counted b (S.failures source)) (stops_as over.stopped error taken.2.only).0;
-        write_failed = taken.2.write_failed;
-        took_nothing = taken.2.took_nothing;
-        limit = λ met. let at_limit = over.limit ((stops_as over.stopped error taken.2.only).1 met) met in (over.given, subst (SourceGave S source source' over.given) at_limit.1 over.gives, at_limit.0);
-        only = (stops_as over.stopped error taken.2.only).2;
-      }
-
-  ran : (result : Result (Unit {0}) StreamError) → RunsOver S K (G.is_of automaton) calls source source' closure sink result sink' → StreamOutcome S K r result source source' sink sink'
-  ran (Ok tt) over = ran_whole over
-  ran (Err error) over = ran_begun error over
+        write_failed = taken.write_failed;
+        took_nothing = taken.took_nothing;
+      })
+      (λ (met : false ≡ true). absurd (cc)) tt
+  ran (Err error) over =
+      let (ms, found, taken) = given_takes (Err error) over in
+      let (part, begins, written) = begins_each r plain unkeyed some_one over.given over.ended (K.taken sink) (K.taken sink') (λ bytes ms may found. (over_takes (Err error) over bytes ms may found).beginning) in
+      let (fault, stops, only) = stops_as over.stopped error taken.only in
+      comes_of S K r source source' sink sink' (Err error) tt
+      (record { given = over.given; ended = over.ended; gives = over.gives; part = part; begins = begins; written = written })
+      (λ covers. absurd (no_cover r plain covers))
+      (record {
+        read_failed = over.read_failed ∙ ap (λ (b : Bool). counted b (S.failures source)) fault;
+        write_failed = taken.write_failed;
+        took_nothing = taken.took_nothing;
+      })
+      (λ met. let at_limit = over.limit (stops met) met in (over.given, subst (SourceGave S source source' over.given) at_limit.1 over.gives, at_limit.0)) only
 
   -- before a stream was begun nothing is touched
   untouched : StreamOutcome S K r (Err Memory) source source sink sink
-  untouched = record {
-    redacted = tt;
-    begun = record {
-      given = [];
-      ended = false;
-      gives = record { bytes = Consumes-nil (S.remaining source); end = refl };
-      part = [];
-      begins = begins_nothing r some_one [] false;
-      written = Appends-nil (K.taken sink);
-    };
-    near = λ covers. absurd (no_cover r plain covers);
-    read_failed = refl;
-    write_failed = refl;
-    took_nothing = refl;
-    limit = λ (met : false ≡ true). absurd (cc);
-    only = tt;
-  }
+  untouched =
+      comes_of S K r source source sink sink (Err Memory) tt
+      (record {
+        given = [];
+        ended = false;
+        gives = record { bytes = Consumes-nil (S.remaining source); end = refl };
+        part = [];
+        begins = begins_nothing r some_one [] false;
+        written = Appends-nil (K.taken sink);
+      })
+      (λ covers. absurd (no_cover r plain covers)) (record { read_failed = refl; write_failed = refl; took_nothing = refl })
+      (λ (met : false ≡ true). absurd (cc)) tt
 
-  no_memory : (result : Result (Unit {0}) StreamError) → RefusesUntouched result Memory source source' sink sink' → StreamOutcome S K r result source source' sink sink'
-  no_memory result refused = rw (refused.0, refused.1, refused.2) untouched
-
-  -- whatever is answered, where the closure is lent
-  pub lent_of : (result : Result (Unit {0}) StreamError) (last : F) → (CanBegin G automaton → RunsLent S K (G.is_of automaton) calls source source' closure sink result last sink') → StreamOutcome S K r result source source' sink sink'
-  lent_of result last runs =
-      elim (runs can) [
-        | inl memory ↦ no_memory result memory.0
-        | inr over ↦ ran result (over_lent over)
-      ]
-
-  -- and what was counted, where the closure counts into the same borrow all along
+  -- and what was counted
   module _ (last : F) (name_of : F → ℕ) (counts_of : F → List ℕ)
-      (counts : (f : F) (m : Occurrence) (matched : List ℕ) (old : W) (next : F) (new : W) → Fits f → CalledOn calls f m matched old (Ok tt) next new
+      (counts : (f : F) (m : Occurrence) (matched : List ℕ) (old : W) (answer : Result (Unit {0}) StreamError) (next : F) (new : W) → CalledOn calls f m matched old answer next new
       → (name_of next ≡ name_of f) × CountsThese (m ∷ []) (counts_of f) (counts_of next)) where
-    abbrev FitsNamed : F → Type 0
-    FitsNamed f = Fits f × (name_of f ≡ name_of closure)
-
     abbrev Counted : Type 0
     Counted = (name_of last ≡ name_of closure) × CountsOfStream S r source source' (counts_of closure) (counts_of last)
 
@@ -323,26 +293,33 @@ module _ {A R W F : Type 0} (G : Ghosts A) (S : SourceGhosts R) (K : SinkGhosts 
     lent_whole over =
         let finds = finds-exist r.patterns (plain_search over.given) None (le_refl (length over.given)) in
         let run = over.run r.patterns over.given finds.0 of (no_more over.given over.ended) finds.1 in
-        let counted = run_counts K (CallsOn calls) over.stopped over.given counts_of FitsNamed
-        (λ f m matched old goes next new is called.
-        let step = counts f m matched old next new is.0 called.1 in
-        (called.0, ((goes_on f m matched old next new is.0 called.1).0, step.0 ∙ is.1), step.1))
-        finds.0 0 closure sink last sink' (fits, refl) run in (
-          counted.0.1,
+        let first = has_counted K calls closure last sink sink' name_of counts_of counts over.stopped over.given finds.0 (Ok tt) run in
+        let all : finds.0 ≡ first.called = first.are ∙ ap (λ (ms : List Occurrence). first.called ++ ms) first.all ∙ append-nil first.called in (
+          first.holds.0,
           record {
             text = over.given;
             gives = subst (SourceGave S source source' over.given) over.whole over.gives;
             ranges = finds.0;
-            found = of_finds r plain over.given finds.0 finds.1;
-            counted = counted.1;
+            found = of_way r false plain over.given finds.0 finds.1;
+            counted = subst (λ (ms : List Occurrence). CountsThese ms (counts_of closure) (counts_of last)) (sym all) first.holds.1;
           },
         )
 
-    -- whatever is answered
-    pub lent_counts : (result : Result (Unit {0}) StreamError) → (CanBegin G automaton → RunsLent S K (G.is_of automaton) calls source source' closure sink result last sink') → OnOk result Counted
+    lent_counts : (result : Result (Unit {0}) StreamError) → (CanBegin G automaton → RunsLent S K (G.is_of automaton) calls source source' closure sink result last sink') → OnOk result Counted
     lent_counts (Err error) runs = tt
     lent_counts (Ok tt) runs =
         elim (runs can) [
           | inl memory ↦ let clash = memory.0.0 in absurd (cc)
           | inr over ↦ lent_whole over
         ]
+
+    -- whatever is answered
+    pub lent_does : (result : Result (Unit {0}) StreamError) → (CanBegin G automaton → RunsLent S K (G.is_of automaton) calls source source' closure sink result last sink')
+        → StreamOutcome S K r result source source' sink sink' × OnOk result Counted
+    lent_does result runs = (
+      elim (runs can) [
+        | inl memory ↦ rw (memory.0.0, memory.0.1, memory.0.2) untouched
+        | inr over ↦ ran result (over_lent over)
+      ],
+      lent_counts result runs,
+    )

@@ -9,13 +9,12 @@ use Rattle.aho_core.specs.Occurrence.{Occurrence}
 use Rattle.aho_core.specs.Occurs.{Occurs}
 use Rattle.aho_core.specs.Order.{IsBefore}
 use Rattle.aho_core.specs.Patterns.{Patterns}
-use Rattle.aho_core.specs.Search.{plain_search}
 use Rattle.aho_core.specs.declared.search.Anchored.TheVariants.{No}
 use Rattle.aho_core.specs.declared.search.MatchKind.{MatchKind}
-use Rattle.aho_core.specs.declared.search.MatchKind.TheVariants.{LeftmostFirst, LeftmostLongest, Standard}
+use Rattle.aho_core.specs.declared.search.MatchKind.TheVariants.{Standard}
 use Rattle.aho_stream.specs.After.{search_from}
 use Rattle.aho_stream.proofs.PatternLengths.{shortest_bounds}
-use Rattle.acredact.specs.Secrets.{IsTouched, NoneIsWhole}
+use Rattle.acredact.specs.Secrets.{IsTouched}
 
 -- what is before another does not start after the other ends: both have a byte
 not_after : (kind : MatchKind) (m o : Occurrence) → m.start < m.end → o.start < o.end → IsBefore kind m o → m.start < o.end
@@ -24,12 +23,7 @@ not_after Standard m o some_m some_o before =
       | inl less ↦ omega (arith, less, some_m)
       | inr tie ↦ omega (arith, tie.0, some_m)
     ]
-not_after LeftmostFirst m o some_m some_o before =
-    elim before [
-      | inl less ↦ omega (arith, less, some_o)
-      | inr tie ↦ omega (arith, tie.0, some_o)
-    ]
-not_after LeftmostLongest m o some_m some_o before =
+not_after kind m o some_m some_o before =
     elim before [
       | inl less ↦ omega (arith, less, some_o)
       | inr tie ↦ omega (arith, tie.0, some_o)
@@ -63,7 +57,7 @@ module _ (p : Patterns) (no_empty : 1 ≤ shortest (map length p.words)) (bytes 
     admitted = λ clash. absurd (cc);
   }
 
-  touched_from : (ms : List Occurrence) (from : ℕ) (last : Option ℕ) → AreFinds p (search_from from bytes) last ms
+  pub touched_from : (ms : List Occurrence) (from : ℕ) (last : Option ℕ) → AreFinds p (search_from from bytes) last ms
       → (o : Occurrence) → Occurs p No bytes from (length bytes) o → IsTouched ms o
   touched_from [] from last finds o occurs = absurd (answer_of_find from last None finds o occurs)
   touched_from (m ∷ ms) from last finds o occurs =
@@ -93,6 +87,3 @@ module _ (p : Patterns) (no_empty : 1 ≤ shortest (map length p.words)) (bytes 
   few_from (m ∷ ms) from last finds within =
       let best = answer_of_find from last (Some m) finds.0 in
       omega (arith, occurs_some from m best.0, best.0.after_start, few_from ms m.end (Some m.end) finds.1 best.0.before_end)
-
-  pub none_left : (ms : List Occurrence) → AreFinds p (plain_search bytes) None ms → NoneIsWhole p bytes ms
-  none_left ms finds = record { touched = λ o occurs. touched_from ms 0 None finds o occurs }

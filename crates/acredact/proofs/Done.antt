@@ -9,7 +9,7 @@ use Rattle.std.specs.declared.io.traits.Write.{Ghosts as Writers}
 use Rattle.std.proofs.KnownBytes.{Keeps-refl, Keeps-trans}
 use Rattle.std.proofs.Math.Seq.{take-length}
 use Rattle.aho_core.specs.declared.error.stream.StreamError.{StreamError}
-use Rattle.aho_core.specs.declared.error.stream.StreamError.TheVariants.{Match, Read, Write, WriteZero, Memory, PositionLimit}
+use Rattle.aho_core.specs.declared.error.stream.StreamError.TheVariants.{Write, WriteZero}
 use Rattle.aho_devices.specs.Counts.{counted}
 use Rattle.aho_devices.specs.Refusals.{IsWriteRefusal, is_write_fault, is_write_of_nothing}
 use Rattle.aho_devices.specs.declared.adapters.FromWrite.{FromWrite}
@@ -21,7 +21,7 @@ use Rattle.tool_parts.specs.declared.errors.Errors.{Errors}
 use Rattle.tool_parts.specs.declared.reason.Reason.{Reason}
 use Rattle.tool_parts.proofs.Tellings.{tells-later, tells-nothing}
 use Rattle.acredact.specs.Faults.{IsOutputEnd}
-use Rattle.acredact.specs.Files.{AreCut, AreDone, AreRedacted, FileOutcome, FilesOutcome, IsDone, ToldOutcome, Work, are_none, unread_line}
+use Rattle.acredact.specs.Files.{AreCut, AreDone, AreRedacted, FileOutcome, FilesOutcome, ToldOutcome, Work, are_none, unread_line}
 use Rattle.acredact.specs.Messages.{output_line}
 use Rattle.acredact.specs.declared.streams.Streams.{Streams}
 
@@ -64,26 +64,10 @@ module _ (work : Work) where
   done_kept (name ∷ names) lines left left' held mid held' (first, rest, are, between, meanwhile, is, others) kept =
       (first, rest, are, between, meanwhile, is, done_kept names rest between left' meanwhile mid held' others kept)
 
-  -- a file, and then others
-  pub done_more : (name : List ℕ) (names first rest : List (List ℕ)) (left between left' held meanwhile held' : Option (List ℕ))
-      → IsDone work name first left between held meanwhile → AreDone work names rest between left' meanwhile held' → AreDone work (name ∷ names) (first ++ rest) left left' held held'
-  done_more name names first rest left between left' held meanwhile held' is others = (first, rest, refl, between, meanwhile, is, others)
-
-  pub cut_more : (name : List ℕ) (names first rest : List (List ℕ)) (left between left' held meanwhile held' : Option (List ℕ))
-      → IsDone work name first left between held meanwhile → AreCut work names rest between left' meanwhile held' → AreCut work (name ∷ names) (first ++ rest) left left' held held'
-  cut_more name names first rest left between left' held meanwhile held' is others = inr (first, rest, refl, between, meanwhile, is, others)
-
--- nothing was told
-pub tells_none : {E : Type 0} (K : SinkGhosts E) (errors : Errors E) → TellsBytes K errors errors []
-tells_none K errors = tells-nothing K errors
-
 write_ends : (error : StreamError) → IsWriteRefusal error → IsOutputEnd error
-write_ends (Match cause) is = is
-write_ends (Read fault) is = is
 write_ends (Write fault) is = tt
 write_ends WriteZero is = tt
-write_ends Memory is = absurd is
-write_ends PositionLimit is = absurd is
+write_ends error is = absurd is
 
 module _ {R W E : Type 0} {Reads : Readers R} (Writes : Writers W) (K : SinkGhosts E) (work : Work) where
   -- some first files were done from one state to another: what comes of the rest comes of all
@@ -104,7 +88,7 @@ module _ {R W E : Type 0} {Reads : Readers R} (Writes : Writers W) (K : SinkGhos
   far_none names streams = record {
     lines = [];
     is_all = refl;
-    told = tells_none K streams.errors;
+    told = tells-nothing K streams.errors;
     quiet = λ all. refl;
     done = λ more left held done. done;
     cut = λ more left held cut. cut;
@@ -124,9 +108,9 @@ module _ {R W E : Type 0} {Reads : Readers R} (Writes : Writers W) (K : SinkGhos
         told = subst (TellsBytes K old.errors new.errors) (sym (concat_both so.lines first)) (tells-later K so.told tells);
         quiet = λ ends. let parts = both_so all whole both is ends in told.quiet (ap Ok parts.1) ∙ so.quiet parts.0;
         done = λ more left held rests. subst (λ (l : List (List ℕ)). AreDone work names l (bytes_left old.input) left (output_bytes Writes old.output) held) (sym (append_assoc so.lines first more))
-            (so.done (first ++ more) left held (done_more work name rest first more _ _ left _ _ held done rests));
+            (so.done (first ++ more) left held (first, more, refl, bytes_left new.input, output_bytes Writes new.output, done, rests));
         cut = λ more left held rests. subst (λ (l : List (List ℕ)). AreCut work names l (bytes_left old.input) left (output_bytes Writes old.output) held) (sym (append_assoc so.lines first more))
-            (so.cut (first ++ more) left held (cut_more work name rest first more _ _ left _ _ held done rests));
+            (so.cut (first ++ more) left held (inr (first, more, refl, bytes_left new.input, output_bytes Writes new.output, done, rests)));
         failures = told.fails.write_failed ∙ so.failures;
         empty_writes = told.fails.took_nothing ∙ so.empty_writes;
       }
@@ -200,7 +184,7 @@ module _ {R W E : Type 0} {Reads : Readers R} (Writes : Writers W) (K : SinkGhos
       unread_line name reason ∷ [],
       refl,
       (
-        inr (inl (reason, refl, file.unread)),
+        inr (inl (reason, refl, file.comes)),
         subst (λ (e : Errors E). TellsBytes K e errors (concat (unread_line name reason ∷ []))) same
             (subst (TellsBytes K mid.errors errors) (sym (append-nil (unread_line name reason))) tells),
       ),
@@ -228,7 +212,7 @@ module _ {R W E : Type 0} {Reads : Readers R} (Writes : Writers W) (K : SinkGhos
   pub told_whole : (name : List ℕ) (old mid : Streams R W E Reads) → work.meets name false → FileOutcome Writes work name (Ok None) old.input mid.input old.output mid.output
       → mid.errors ≡ old.errors → ToldOutcome Writes K work name (Ok true) old mid
   told_whole name old mid apart file same = record {
-    done = ([], refl, (inl (refl, apart, file.redacted refl), subst (λ (e : Errors E). TellsBytes K old.errors e []) (sym same) (tells_none K old.errors)));
+    done = ([], refl, (inl (refl, apart, file.comes), subst (λ (e : Errors E). TellsBytes K old.errors e []) (sym same) (tells-nothing K old.errors)));
     cut = tt;
     quiet = λ is. same;
     untold = tt;
@@ -239,7 +223,7 @@ module _ {R W E : Type 0} {Reads : Readers R} (Writes : Writers W) (K : SinkGhos
       → mid.errors ≡ old.errors → ToldOutcome Writes K work name (Err error) old mid
   told_cut name error old mid file same = record {
     done = tt;
-    cut = (file.begun, subst (λ (e : Errors E). TellsBytes K old.errors e []) (sym same) (tells_none K old.errors));
+    cut = (file.comes, subst (λ (e : Errors E). TellsBytes K old.errors e []) (sym same) (tells-nothing K old.errors));
     quiet = λ (is : Err error ≡ Ok true). absurd (cc);
     untold = same;
     fails = record { write_failed = file.fails.write_failed; took_nothing = file.fails.took_nothing; only = file.fails.only };

@@ -4,7 +4,7 @@ use Rattle.std.specs.Prelude.{Bool, MatchBool, is_some}
 use Rattle.tool_parts.specs.Names.{is_input}
 use Rattle.acredact.specs.Files.{AreFree, AreRedacted, IsFree, RedactsText, Work, WritesText}
 use Rattle.acredact.specs.Reads.{OfName}
-use Rattle.acredact.specs.Secrets.{AreCleanBy, Redactor}
+use Rattle.acredact.specs.Secrets.{AreCleanBy}
 
 -- what is so of a text is so of that of a name
 pub named_as : (holds : List ℕ → Option (List ℕ)) (name : List ℕ) (One Other : Option (List ℕ) → Option (List ℕ) → Type 0) → ((l l' : Option (List ℕ)) → One l l' → Other l l')
@@ -15,15 +15,12 @@ named_as holds name One Other to left left' is = by (is_input name) is
     by true here = to left left' here
     by false (same, rest, there) = (same, rest, to (holds name) rest there)
 
-text_free : (r : Redactor) → r.covers ≡ true → r.words ≡ false → AreCleanBy (is_some r.key) r.patterns r.pieces → (left left' held held' : Option (List ℕ)) → RedactsText r left left' held held' → WritesText (IsFree r) left left' held held'
-text_free r covers all clean left left' held held' of = record { text = of.text; reads = of.reads; redaction = of.redaction; redacts = (of.redacts, of.redacts.clean covers all clean); written = of.written }
-
 pub free_of : (work : Work) → work.redactor.covers ≡ true → work.redactor.words ≡ false → AreCleanBy (is_some work.redactor.key) work.redactor.patterns work.redactor.pieces → (names : List (List ℕ)) (left left' held held' : Option (List ℕ)) → AreRedacted work names left left' held held' → AreFree work names left left' held held'
 free_of work covers all clean [] left left' held held' are = are
 free_of work covers all clean (name ∷ names) left left' held held' (between, meanwhile, apart, is, others) = (
   between,
   meanwhile,
   named_as work.holds name (λ l l'. RedactsText work.redactor l l' held meanwhile) (λ l l'. WritesText (IsFree work.redactor) l l' held meanwhile)
-      (λ l l' of. text_free work.redactor covers all clean l l' held meanwhile of) left between is,
+      (λ l l' of. record { text = of.text; reads = of.reads; redaction = of.redaction; redacts = (of.redacts, of.redacts.clean covers all clean); written = of.written }) left between is,
   free_of work covers all clean names between left' meanwhile held' others,
 )

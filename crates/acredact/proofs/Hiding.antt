@@ -1,7 +1,6 @@
 -- What shows a secret in a form lies in a replaced range.
 use Rattle.std.proofs.Common.{◌≡◌, inl, inr, ℕ, zero, suc, ◌+◌, ◌-◌, ◌<◌, ◌≤◌, Bool, true, false, cond, List, [], ◌∷◌, ◌++◌, Option, length, length-append, map, take, drop, refl, sym, ap, subst, ◌∙◌, arith}
 use Rattle.std.specs.Prelude.{All, Contains, MatchBool, Some, None, chars, flat_map, if◌then◌else◌, nat_lt, slice_index_or, slice_range}
-use Rattle.std.specs.declared.io.traits.Read.{Ghosts as Readers}
 use Rattle.std.specs.declared.io.traits.Write.{Ghosts as Writers}
 use Rattle.std.proofs.lemmas.Bool.{lt-ltb, ltb-true}
 use Rattle.std.proofs.lemmas.List.Elements.{All-contains, Contains-append_left, Contains-append_right}
@@ -26,9 +25,10 @@ use Rattle.secret_forms.specs.Spelling.{HidesSpelled, shell_spellings, url_spell
 use Rattle.secret_forms.specs.declared.bytewise.Spelling.{Spelling}
 use Rattle.secret_forms.specs.declared.form.Form.{Form}
 use Rattle.secret_forms.specs.declared.form.Form.TheVariants.{Base64, Hex, Url, Json, Xml, Shell, Lines}
+use Rattle.aho_devices.specs.declared.adapters.FromWrite.{FromWrite}
 use Rattle.acredact.specs.Files.{AreRedacted, RedactsText, Work, WritesText}
 use Rattle.acredact.specs.Forms.{AskedForms, HideSecrets, HidesNestedForm, HidesSecret, filled, form_secret, forms_from, forms_of, once_patterns, asked_form_patterns, twice_patterns, with_forms}
-use Rattle.acredact.specs.Hidden.{AreHidden, HidesForms, NoneShows, NoneShowsOnce, NoneShowsTwice, ShowsBits, SpellsEach, ShowsForm, SpellsForm}
+use Rattle.acredact.specs.Hidden.{AreHidden, HidesForms, NoneShowsOnce, NoneShowsTwice, ShowsBits, SpellsEach, ShowsForm, SpellsForm}
 use Rattle.acredact.specs.Secrets.{NoByteIsKept, NoneIsWhole, Redactor}
 use Rattle.acredact.specs.Tables.{Secret, patterns_in}
 use Rattle.aho_cover.specs.Pieces.{PieceRule}
@@ -39,7 +39,6 @@ use Rattle.acredact.specs.Calls.{Call, HidesCall, RedactsCall, names_asked, work
 use Rattle.acredact.specs.Loading.{Loaded, loaded_by}
 use Rattle.acredact.specs.Named.{all_named, named_secret}
 use Rattle.acredact.specs.declared.arguments.Word.TheVariants.{Forms as FormsOption, IgnoreCase}
-use Rattle.acredact.specs.declared.streams.Streams.{Streams}
 use Rattle.acredact.proofs.Free.{named_as}
 
 -- what a form hides is hidden where it shows
@@ -98,10 +97,6 @@ hidden_covered p patterns text place within hidden =
       before_end = hidden.before_end;
     }
 
--- the patterns of a secret's forms are among all
-contains_tail : (xs : List (List ℕ)) (y x : List ℕ) → Contains xs x → Contains (y ∷ xs) x
-contains_tail xs y x (k, below, is) = (suc k, omega (arith, below), is)
-
 -- one that is not empty stays among those that are not
 contains_filled : (patterns : List (List ℕ)) (pattern : List ℕ) → 1 ≤ length pattern → Contains patterns pattern → Contains (filled patterns) pattern
 contains_filled [] pattern some (k, below, is) = absurd (omega (arith, below))
@@ -111,9 +106,10 @@ contains_filled (p ∷ patterns) pattern some (zero, below, is) =
 contains_filled (p ∷ patterns) pattern some (suc k, below, is) = by (nat_lt 0 (length p)) (contains_filled patterns pattern some (k, omega (arith, below), is))
   where
     by : (b : Bool) → Contains (filled patterns) pattern → Contains (cond b (p ∷ filled patterns) (filled patterns)) pattern
-    by true listed = contains_tail (filled patterns) p pattern listed
+    by true listed = Contains-append_right (p ∷ []) (filled patterns) pattern listed
     by false listed = listed
 
+-- the patterns of a secret's forms are among all
 abbrev pattern_of : Secret → List ℕ
 pattern_of secret = secret.pattern
 
@@ -180,17 +176,15 @@ module _ (asked : AskedForms) (secrets : List Secret) (r : Redactor) (covers : r
       (Contains-append_right (once_patterns asked.forms secret.pattern) (flat_map (twice_patterns secret.pattern) asked.nested) pattern (Contains-flat_map (twice_patterns secret.pattern) asked.nested one pattern nested_there among)))
       (form_hidden patterns made text place one.outer (All-contains (HidesNested patterns one.outer) (form_patterns secret.pattern one.inner) made law of) shows)
 
-  none_shows : (text : List ℕ) (ranges : List Occurrence) → NoByteIsKept r text ranges → NoneShows asked secrets text ranges
-  none_shows text ranges kept = record { once = none_once text ranges kept; twice = none_twice text ranges kept }
-
   text_hidden : (left left' held held' : Option (List ℕ)) → RedactsText r left left' held held' → WritesText (HidesForms asked secrets r) left left' held held'
   text_hidden left left' held held' of =
       let is = of.redacts in
+      let kept : NoByteIsKept r of.text is.ranges = subst (λ (b : Bool). MatchBool b (NoByteIsKept r of.text is.ranges) (NoneIsWhole r.patterns of.text is.ranges)) covers is.safe in
       record {
         text = of.text;
         reads = of.reads;
         redaction = of.redaction;
-        redacts = record { redacts = is; none = none_shows of.text is.ranges (subst (λ (b : Bool). MatchBool b (NoByteIsKept r of.text is.ranges) (NoneIsWhole r.patterns of.text is.ranges)) covers is.safe) };
+        redacts = record { redacts = is; none = record { once = none_once of.text is.ranges kept; twice = none_twice of.text is.ranges kept } };
         written = of.written;
       }
 
@@ -223,14 +217,14 @@ loaded_patterns given secrets (Some key) = by (has FormsOption given)
     by false = refl
 
 -- so no form shows a secret that a call redacts by a cover
-pub call_hides : {R W E : Type 0} {Reads : Readers R} (Writes : Writers W) (call : Call) (left : Option (List ℕ)) (streams streams' : Streams R W E Reads) → covers_asked call.given ≡ true → words_asked call.given ≡ false
-    → RedactsCall Writes call left streams streams' → HidesCall Writes call left streams streams'
-call_hides Writes call left streams streams' covers every of =
+pub call_hides : {W : Type 0} (Writes : Writers W) (call : Call) (left left' : Option (List ℕ)) (output output' : FromWrite W) → covers_asked call.given ≡ true → words_asked call.given ≡ false
+    → RedactsCall Writes call left left' output output' → HidesCall Writes call left left' output output'
+call_hides Writes call left left' output output' covers every of =
     let all = of.loaded.given_all in
     record {
       load = of.load;
       between = of.between;
       loaded = of.loaded;
       hidden = hidden_of _ all.plain (work_by call of.load) covers every
-          (ap (λ (l : Loaded). patterns_in l.secrets) of.loaded.is ∙ loaded_patterns call.given of.loaded.secrets of.loaded.key ∙ ap patterns_in all.are) all.hidden (names_asked call.given) _ _ _ _ of.redacted;
+          (ap (λ (l : Loaded). patterns_in l.secrets) of.loaded.is ∙ loaded_patterns call.given of.loaded.secrets of.loaded.key ∙ ap patterns_in all.are) all.hidden (names_asked call.given) _ _ _ _ of.is;
     }

@@ -24,8 +24,6 @@ mod Done
 mod Totals
 -- how an automaton redacts streams
 mod Suited
--- what a walk backward writes
-mod Backed
 mod Loaded
 -- how many bytes a source gives
 mod Metering

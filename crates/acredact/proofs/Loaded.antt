@@ -1,6 +1,6 @@
 -- The patterns that options give, one after another.
 use Rattle.std.proofs.Common.{◌≡◌, inl, inr, ℕ, ◌≤◌, ◌-◌, List, [], ◌∷◌, ◌++◌, Option, length, take, drop, get_or, refl, sym, ap, subst, ◌∙◌, append-nil, append_assoc, arith}
-use Rattle.std.specs.Prelude.{Bool, MatchBool, IfSome, true, false}
+use Rattle.std.specs.Prelude.{Bool, MatchBool, IfSome, false}
 use Rattle.std.specs.Io.KnownBytes.{Keeps}
 use Rattle.std.proofs.KnownBytes.{Consumes-all}
 use Rattle.std.proofs.lemmas.List.{take_rest}
@@ -12,7 +12,7 @@ use Rattle.acredact.specs.Loading.{CannotLoad, CannotLoadOne, EachGives, IsFileF
 use Rattle.acredact.specs.Parts.{IsAddedSome}
 use Rattle.acredact.specs.declared.load.Listed.{Listed}
 use Rattle.acredact.specs.Reads.{OfName, ReadsText}
-use Rattle.acredact.proofs.OneFile.{known_read, of_folder, of_input}
+use Rattle.acredact.proofs.OneFile.{known_read, of_folder}
 
 module _ {X : Type 0} (Gives : Given → List X → (left left' : Option (List ℕ)) → Type 0) (all : List Given) (before : Option (List ℕ)) where
   -- what the options so far gave, and what the others are to give, is what all give
@@ -59,9 +59,6 @@ known_text : (told left left' : Option (List ℕ)) (text : List ℕ) → Keeps t
 known_text told left left' text kept reads = record { read = known_read told left left' text kept reads.read; ended = reads.ended }
 
 -- and of a file by its name
-pub text_input : (holds : List ℕ → Option (List ℕ)) (name text : List ℕ) (left left' : Option (List ℕ)) → is_input name ≡ true → ReadsText text left left' → OfName holds name (ReadsText text) left left'
-text_input holds name text left left' is reads = of_input holds name (ReadsText text) left left' is reads
-
 pub text_opened : (holds : List ℕ → Option (List ℕ)) (name text : List ℕ) (left opened : Option (List ℕ)) → is_input name ≡ false → Keeps (holds name) opened
     → (rest : Option (List ℕ)) × ReadsText text opened rest → OfName holds name (ReadsText text) left left
 text_opened holds name text left opened is kept (rest, reads) = of_folder holds name (ReadsText text) left left is refl rest (known_text (holds name) opened rest text kept reads)

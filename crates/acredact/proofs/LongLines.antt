@@ -1,6 +1,6 @@
 -- A line that is too long is one run of a number of its own.
 use Rattle.std.proofs.Common.{◌≡◌, inl, inr, ℕ, ◌+◌, ◌<◌, ◌≤◌, List, [], ◌∷◌, ◌++◌, Option, true, false, length, refl, sym, ap, ◌∙◌, arith, length-append}
-use Rattle.std.specs.Prelude.{Bool, MatchBool, filter, nat_eq, nat_lt, if◌then◌else◌}
+use Rattle.std.specs.Prelude.{Bool, filter, nat_eq, nat_lt, if◌then◌else◌}
 use Rattle.std.proofs.lemmas.Bool.{eq-eqb, ltb-false, ltb-true, ne_eqb}
 use Rattle.std.proofs.lemmas.List.Elements.{filter-append}
 use Rattle.std.proofs.lemmas.Option.{slice_get_within}
@@ -13,12 +13,11 @@ use Rattle.aho_cover.specs.Words.{CountsIn}
 use Rattle.aho_laws.proofs.CoverRuns.{runs-unique}
 use Rattle.secret_rules.specs.Covering.{AreLineRuns, CoveredIn, Covering, seen_line, whole_line}
 use Rattle.secret_rules.specs.LineCovers.{all_of}
-use Rattle.tool_parts.specs.Names.{is_input}
 use Rattle.secret_rules.specs.Lines.{Line, stream_lines}
 use Rattle.secret_rules.proofs.Covered.{whole-runs}
 use Rattle.acredact.specs.LongLines.{HasLong, HaveLong, long_among, whole_number}
-use Rattle.acredact.specs.Reads.{OfName}
 use Rattle.acredact.specs.RunCounts.{HasRuns, HaveRuns}
+use Rattle.acredact.proofs.Free.{named_as}
 
 -- what counts has the number of a pattern
 counts_numbered : (words : Bool) (p : Patterns) (line : List ℕ) (m : Occurrence) → CountsIn words p line m → m.pattern < length p.words
@@ -89,16 +88,6 @@ module _ (covering : Covering) where
     are = ap (runs_named (whole_number covering)) has.are ∙ long_named covering [] (stream_lines has.text) has.by_line has.found;
   }
 
-  long_name : (holds : List ℕ → Option (List ℕ)) (name : List ℕ) (runs : List Occurrence) (left left' : Option (List ℕ)) → OfName holds name (HasRuns covering runs) left left'
-      → OfName holds name (HasLong covering.most (runs_named (whole_number covering) runs)) left left'
-  long_name holds name runs left left' of = by (is_input name) of
-    where
-      by : (b : Bool) → MatchBool b (HasRuns covering runs left left') ((left' ≡ left) × (rest : Option (List ℕ)) × HasRuns covering runs (holds name) rest)
-          → MatchBool b (HasLong covering.most (runs_named (whole_number covering) runs) left left')
-          ((left' ≡ left) × (rest : Option (List ℕ)) × HasLong covering.most (runs_named (whole_number covering) runs) (holds name) rest)
-      by true has = long_text runs left left' has
-      by false (same, rest, has) = (same, rest, long_text runs (holds name) rest has)
-
   pub long_of_runs : (holds : List ℕ → Option (List ℕ)) (names : List (List ℕ)) (runs : List Occurrence) (left left' : Option (List ℕ)) → HaveRuns holds covering names runs left left'
       → HaveLong holds covering.most names (runs_named (whole_number covering) runs) left left'
   long_of_runs holds [] runs left left' (none, same) = (ap (runs_named (whole_number covering)) none, same)
@@ -107,6 +96,6 @@ module _ (covering : Covering) where
     runs_named (whole_number covering) rest,
     ap (runs_named (whole_number covering)) are ∙ named_append (whole_number covering) first rest,
     between,
-    long_name holds name first left between has,
+    named_as holds name (HasRuns covering first) (HasLong covering.most (runs_named (whole_number covering) first)) (long_text first) left between has,
     long_of_runs holds names rest between left' others,
   )

@@ -12,7 +12,6 @@ use Rattle.aho_core.specs.Occurrence.{Occurrence}
 use Rattle.aho_core.specs.Patterns.{Patterns}
 use Rattle.aho_core.specs.Search.{plain_search}
 use Rattle.aho_core.specs.declared.error.stream.StreamError.{StreamError}
-use Rattle.aho_core.specs.declared.search.Anchored.TheVariants.{No}
 use Rattle.aho_core.specs.declared.error.stream.StreamError.TheVariants.{Match as Refused, Memory, PositionLimit, Read, Write, WriteZero}
 use Rattle.aho_cover.specs.Counting.{CountsThese, runs_named}
 use Rattle.aho_cover.specs.Covers.{CountsRunsWith, CountsWrittenWith}
@@ -28,8 +27,7 @@ use Rattle.aho_automaton.specs.declared.automaton.Automaton.{Ghosts}
 use Rattle.aho_stream.specs.FindRuns.{FindsAll, FindsAlong, FindsSoFar}
 use Rattle.aho_stream.specs.Finds.{FindsError, FindsNextInStream}
 use Rattle.aho_stream.specs.Iterators.{CanGoOn}
-use Rattle.aho_stream.specs.Replacing.{IsStreamFault, Refuses}
-use Rattle.aho_stream.specs.StreamRun.{CanBegin}
+use Rattle.aho_stream.specs.Replacing.{IsStreamFault}
 use Rattle.aho_stream.specs.declared.finds.StreamFindIter.{StreamFindIter}
 use Rattle.aho_stream.specs.declared.progress.StreamProgress.{StreamProgress}
 use Rattle.aho_laws.proofs.Members.{member-filter}
@@ -117,10 +115,6 @@ looks_memory S r source = record {
   read_failed = refl;
   only = tt;
 }
-
--- an automaton that can search streams refuses for want of memory alone
-pub memory_of : {A T : Type 0} (G : Ghosts A) (automaton : A) (error : StreamError) → CanBegin G automaton → Refuses {A = T} (G.lengths automaton) (G.start automaton No) (Err error) → error ≡ Memory
-memory_of G automaton error can refuses = refuses.memory can.0 can.1 can.2
 
 -- a count of runs tells of one
 run_of : (number : ℕ) (runs : List Occurrence) → 1 ≤ runs_named number runs → (run : Occurrence) × IsMember runs run

@@ -1,13 +1,13 @@
 -- How a count of bytes goes on.
 use Rattle.std.proofs.Common.{◌≡◌, ◌≢◌, ℕ, ◌+◌, ◌≤◌, Bool, true, false, List, [], ◌∷◌, Option, length, refl, sym, ap, subst, ◌∙◌, arith, length-append}
-use Rattle.std.specs.Prelude.{◌^◌, ◌-◌, min, None, Some, Result, Ok, Err, IfErr, is_some}
+use Rattle.std.specs.Prelude.{◌^◌, ◌-◌, min, None, Some, Result, is_some}
 use Rattle.std.specs.Io.KnownBytes.{Consumes, IsAtEnd, Keeps}
-use Rattle.std.proofs.lemmas.Result.{on_ok_weaker}
+use Rattle.std.proofs.lemmas.Result.{IfErr-weaker, on_ok_weaker}
 use Rattle.std.proofs.lemmas.Option.{same_Some}
 use Rattle.aho_core.specs.declared.error.stream.StreamError.{StreamError}
 use Rattle.aho_cover.specs.Counting.{grown_count}
 use Rattle.aho_devices.specs.Counts.{counted}
-use Rattle.aho_devices.specs.Refusals.{IsFillRefusal, is_read_fault}
+use Rattle.aho_devices.specs.Refusals.{is_read_fault}
 use Rattle.aho_devices.specs.declared.device.Sink.{Ghosts as SinkGhosts}
 use Rattle.aho_devices.specs.declared.device.Source.{Ghosts as SourceGhosts}
 use Rattle.aho_stream.specs.Replacing.{SourceGave}
@@ -15,7 +15,7 @@ use Rattle.tool_parts.specs.Names.{is_input}
 use Rattle.acredact.specs.Metering.{IsMetered, settled_left}
 use Rattle.acredact.specs.Secrets.{Redactor}
 use Rattle.acredact.specs.Streams.{ReachesStream, RedactsStream, StreamOutcome}
-use Rattle.acredact.specs.Totals.{CountsOfStream}
+use Rattle.acredact.specs.Totals.{CountsOfStream, DoesStream}
 use Rattle.acredact.specs.Volumes.{AddsBytes, AddsName, AddsNames, AddsStream, ReadsVolume}
 use Rattle.acredact.specs.declared.summary.Volume.{Volume}
 use Rattle.acredact.proofs.OneFile.{ends_by, known_read, of_folder, of_input}
@@ -61,9 +61,9 @@ metered_added true whole (Some xs) (Some ys) start bytes bytes' text same is rea
     omega (arith, here.1, sizes, is)
 
 -- a source is as it was left
-pub outcome_there : {R W : Type 0} (S : SourceGhosts R) (K : SinkGhosts W) (r : Redactor) (result : Result (Unit {0}) StreamError) (source there there' : R) (sink sink' : W) → there ≡ there'
-    → StreamOutcome S K r result source there sink sink' → StreamOutcome S K r result source there' sink sink'
-outcome_there S K r result source there there' sink sink' same of = subst (λ s. StreamOutcome S K r result source s sink sink') same of
+pub does_there : {R W : Type 0} (S : SourceGhosts R) (K : SinkGhosts W) (r : Redactor) (result : Result (Unit {0}) StreamError) (source there there' : R) (sink sink' : W) (counts counts' : List ℕ) → there ≡ there'
+    → DoesStream S K result source there sink sink' counts counts' r → DoesStream S K result source there' sink sink' counts counts' r
+does_there S K r result source there there' sink sink' counts counts' same does = subst (λ s. DoesStream S K result source s sink sink' counts counts' r) same does
 
 -- what one source gave another did, of which no less is known
 pub gave_by : {Q R : Type 0} (P : SourceGhosts Q) (S : SourceGhosts R) (other other' : Q) (source source' : R)
@@ -77,20 +77,16 @@ module _ {Q R W : Type 0} (P : SourceGhosts Q) (S : SourceGhosts R) (K : SinkGho
     (reads : (text : List ℕ) → Consumes (P.remaining other) (P.remaining other') text → Consumes (S.remaining source) (S.remaining source') text)
     (failures : P.failures other ≡ S.failures source) (failures' : P.failures other' ≡ S.failures source')
     (empty_reads : P.empty_reads other ≡ S.empty_reads source) (empty_reads' : P.empty_reads other' ≡ S.empty_reads source') where
-  pub gave_as : (text : List ℕ) (ended : Bool) → SourceGave P other other' text ended → SourceGave S source source' text ended
+  gave_as : (text : List ℕ) (ended : Bool) → SourceGave P other other' text ended → SourceGave S source source' text ended
   gave_as text ended gave = gave_by P S other other' source source' reads empty_reads empty_reads' text ended gave
 
   redacts_as : RedactsStream P K r other other' sink sink' → RedactsStream S K r source source' sink sink'
   redacts_as whole = record { text = whole.text; gives = gave_as whole.text true whole.gives; redaction = whole.redaction; redacts = whole.redacts; written = whole.written }
 
-  reaches_as : (result : Result (Unit {0}) StreamError) → IfErr result (λ error. IsFillRefusal error → ReachesStream P K r other other' sink sink')
-      → IfErr result (λ error. IsFillRefusal error → ReachesStream S K r source source' sink sink')
-  reaches_as (Ok x) near = tt
-  reaches_as (Err error) near = λ fills.
-      let up = near fills in
-      record { given = up.given; ended = up.ended; gives = gave_as up.given up.ended up.gives; place = up.place; within = up.within; prompt = up.prompt; written = up.written }
+  reaches_as : ReachesStream P K r other other' sink sink' → ReachesStream S K r source source' sink sink'
+  reaches_as up = record { given = up.given; ended = up.ended; gives = gave_as up.given up.ended up.gives; place = up.place; within = up.within; prompt = up.prompt; written = up.written }
 
-  pub outcome_as : (result : Result (Unit {0}) StreamError) → StreamOutcome P K r result other other' sink sink' → StreamOutcome S K r result source source' sink sink'
+  outcome_as : (result : Result (Unit {0}) StreamError) → StreamOutcome P K r result other other' sink sink' → StreamOutcome S K r result source source' sink sink'
   outcome_as result of = record {
     redacted = on_ok_weaker result redacts_as of.redacted;
     begun = record {
@@ -101,16 +97,21 @@ module _ {Q R W : Type 0} (P : SourceGhosts Q) (S : SourceGhosts R) (K : SinkGho
       begins = of.begun.begins;
       written = of.begun.written;
     };
-    near = λ covers. reaches_as result (of.near covers);
-    read_failed = sym failures' ∙ of.read_failed ∙ ap (counted (is_read_fault result)) failures;
-    write_failed = of.write_failed;
-    took_nothing = of.took_nothing;
+    near = λ covers. IfErr-weaker result _ _ (λ error up fills. reaches_as (up fills)) (of.near covers);
+    errors = record {
+      read_failed = sym failures' ∙ of.errors.read_failed ∙ ap (counted (is_read_fault result)) failures;
+      write_failed = of.errors.write_failed;
+      took_nothing = of.errors.took_nothing;
+    };
     limit = λ met. let gave = of.limit met in (gave.0, gave_as gave.0 false gave.1, gave.2);
     only = of.only;
   }
 
-  pub counts_as : (counts counts' : List ℕ) → CountsOfStream P r other other' counts counts' → CountsOfStream S r source source' counts counts'
+  counts_as : (counts counts' : List ℕ) → CountsOfStream P r other other' counts counts' → CountsOfStream S r source source' counts counts'
   counts_as counts counts' whole = record { text = whole.text; gives = gave_as whole.text true whole.gives; ranges = whole.ranges; found = whole.found; counted = whole.counted }
+
+  pub does_as : (result : Result (Unit {0}) StreamError) (counts counts' : List ℕ) → DoesStream P K result other other' sink sink' counts counts' r → DoesStream S K result source source' sink sink' counts counts' r
+  does_as result counts counts' does = record { outcome = outcome_as result does.outcome; counted = on_ok_weaker result (counts_as counts counts') does.counted }
 
 -- a stream that has ended gave a text
 pub text_bytes : {R : Type 0} (S : SourceGhosts R) (source source' : R) (before : Option (List ℕ)) (bytes bytes' : ℕ)

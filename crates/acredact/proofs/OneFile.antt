@@ -1,24 +1,22 @@
 -- What comes of one file, by what comes of its stream.
-use Rattle.std.proofs.Common.{◌≡◌, ◌≢◌, inl, inr, ℕ, ◌≤◌, List, [], ◌∷◌, Option, true, false, length, map, refl, sym, ap, subst, ◌∙◌, arith}
-use Rattle.std.specs.Prelude.{Bool, MatchBool, None, Some, Result, Ok, Err, IfErr, IfOk, IfSome, OnOk}
+use Rattle.std.proofs.Common.{◌≡◌, ◌≢◌, inl, ℕ, ◌≤◌, List, [], ◌∷◌, Option, true, false, length, map, refl, sym, ap, subst, ◌∙◌, arith}
+use Rattle.std.specs.Prelude.{Bool, MatchBool, None, Some, Result, Ok, Err, IfErr, OnOk}
 use Rattle.std.specs.Io.KnownBytes.{Consumes, IsAtEnd, Keeps}
-use Rattle.std.specs.declared.io.traits.Read.{Ghosts as Readers}
 use Rattle.std.specs.declared.io.traits.Write.{Ghosts as Writers}
 use Rattle.std.proofs.KnownBytes.{Appends-nil, Consumes-nil, Keeps-refl, Keeps-trans}
 use Rattle.aho_core.specs.Laws.{shortest}
 use Rattle.aho_core.specs.declared.error.stream.StreamError.{StreamError}
-use Rattle.aho_core.specs.declared.error.stream.StreamError.TheVariants.{Match, Read, Write, WriteZero, Memory, PositionLimit}
+use Rattle.aho_core.specs.declared.error.stream.StreamError.TheVariants.{Match, Read, PositionLimit}
 use Rattle.aho_devices.specs.Counts.{counted}
 use Rattle.aho_devices.specs.Refusals.{IsFillRefusal, is_read_fault, is_write_fault, is_write_of_nothing}
-use Rattle.aho_devices.specs.declared.adapters.FromRead.{FromRead}
 use Rattle.aho_devices.specs.declared.adapters.FromWrite.{FromWrite}
 use Rattle.aho_devices.specs.declared.device.Sink.{Ghosts as SinkGhosts}
 use Rattle.aho_devices.specs.declared.device.Source.{Ghosts as SourceGhosts}
 use Rattle.tool_parts.specs.Names.{is_input}
-use Rattle.tool_parts.specs.Streams.{output_bytes, bytes_left}
+use Rattle.tool_parts.specs.Streams.{output_bytes}
 use Rattle.tool_parts.specs.declared.reason.Reason.{Reason}
-use Rattle.acredact.specs.Faults.{IsOutputEnd, IsReadReason, IsStreamEnd, is_unread, reading_of}
-use Rattle.acredact.specs.Files.{BeginsNamed, BeginsText, BeginsWriting, FileOutcome, IsUnread, ReachesNamed, ReachesText, RedactsText, TextOutcome, Work, WritesText}
+use Rattle.acredact.specs.Faults.{IsOutputEnd, IsStreamEnd, is_unread, reading_of}
+use Rattle.acredact.specs.Files.{BeginsNamed, BeginsText, BeginsWriting, ComesOfFile, ComesOfText, ReachesText, RedactsText, TextDone, Work, WritesText}
 use Rattle.acredact.specs.Reads.{EachName, OfName}
 use Rattle.acredact.specs.Secrets.{BeginsRedaction, Redactor}
 use Rattle.acredact.specs.Streams.{ReachesStream, RedactsStream, StartsStream}
@@ -70,85 +68,48 @@ module _ {R W : Type 0} (S : SourceGhosts R) (K : SinkGhosts W) (r : Redactor) (
 -- what an end of a stream means
 pub reading_whole : (done : Result (Unit {0}) StreamError) → reading_of done ≡ Ok None → done ≡ Ok tt
 reading_whole (Ok tt) is = refl
-reading_whole (Err (Match cause)) is = absurd (cc)
 reading_whole (Err (Read fault)) is = absurd (cc)
-reading_whole (Err (Write fault)) is = absurd (cc)
-reading_whole (Err WriteZero) is = absurd (cc)
-reading_whole (Err Memory) is = absurd (cc)
 reading_whole (Err PositionLimit) is = absurd (cc)
-
-reading_reason : (done : Result (Unit {0}) StreamError) → IfOk (reading_of done) (λ unread. IfSome unread IsReadReason)
-reading_reason (Ok x) = tt
-reading_reason (Err (Match cause)) = tt
-reading_reason (Err (Read fault)) = tt
-reading_reason (Err (Write fault)) = tt
-reading_reason (Err WriteZero) = tt
-reading_reason (Err Memory) = tt
-reading_reason (Err PositionLimit) = tt
-
--- a read failed, or the stream is too long
-reading_fills : (P : Type 0) (done : Result (Unit {0}) StreamError) → IfErr done (λ error. IsFillRefusal error → P) → IfOk (reading_of done) (λ unread. IfSome unread (λ reason. P))
-reading_fills P (Ok x) near = tt
-reading_fills P (Err (Match cause)) near = tt
-reading_fills P (Err (Read fault)) near = near tt
-reading_fills P (Err (Write fault)) near = tt
-reading_fills P (Err WriteZero) near = tt
-reading_fills P (Err Memory) near = tt
-reading_fills P (Err PositionLimit) near = near tt
+reading_whole (Err error) is = absurd (cc)
 
 reading_only : (done : Result (Unit {0}) StreamError) → IfErr done IsStreamEnd → IfErr (reading_of done) IsOutputEnd
-reading_only (Ok x) only = tt
 reading_only (Err (Match cause)) only = only
-reading_only (Err (Read fault)) only = tt
-reading_only (Err (Write fault)) only = tt
-reading_only (Err WriteZero) only = tt
-reading_only (Err Memory) only = tt
-reading_only (Err PositionLimit) only = tt
+reading_only (Err error) only = tt
+reading_only (Ok x) only = tt
 
 reading_write : (done : Result (Unit {0}) StreamError) → is_write_fault done ≡ is_write_fault (reading_of done)
-reading_write (Ok x) = refl
-reading_write (Err (Match cause)) = refl
-reading_write (Err (Read fault)) = refl
-reading_write (Err (Write fault)) = refl
-reading_write (Err WriteZero) = refl
-reading_write (Err Memory) = refl
 reading_write (Err PositionLimit) = refl
+reading_write done = refl
 
 reading_nothing : (done : Result (Unit {0}) StreamError) → is_write_of_nothing done ≡ is_write_of_nothing (reading_of done)
-reading_nothing (Ok x) = refl
-reading_nothing (Err (Match cause)) = refl
-reading_nothing (Err (Read fault)) = refl
-reading_nothing (Err (Write fault)) = refl
-reading_nothing (Err WriteZero) = refl
-reading_nothing (Err Memory) = refl
 reading_nothing (Err PositionLimit) = refl
+reading_nothing done = refl
 
 pub reading_unread : (done : Result (Unit {0}) StreamError) → is_read_fault done ≡ is_unread (reading_of done)
-reading_unread (Ok x) = refl
-reading_unread (Err (Match cause)) = refl
-reading_unread (Err (Read fault)) = refl
-reading_unread (Err (Write fault)) = refl
-reading_unread (Err WriteZero) = refl
-reading_unread (Err Memory) = refl
 reading_unread (Err PositionLimit) = refl
+reading_unread done = refl
 
 -- what is so where a stream has ended
 pub at_ok : {P : Type 0} (done : Result (Unit {0}) StreamError) → done ≡ Ok tt → OnOk done P → P
 at_ok {P} done is so = subst (λ (d : Result (Unit {0}) StreamError). OnOk d P) is so
 
--- what comes of a text, by what comes of a stream over it
+-- what comes of a text, by what comes of a stream over it: a read failed, or the stream is too long
+comes_by : {r : Redactor} {left left' held held' : Option (List ℕ)} (done : Result (Unit {0}) StreamError) → OnOk done (RedactsText r left left' held held') → BeginsText r left left' held held'
+    → (r.covers ≡ true → IfErr done (λ error. IsFillRefusal error → ReachesText r left left' held held')) → ComesOfText r (reading_of done) left left' held held'
+comes_by (Ok tt) redacted begun near = redacted
+comes_by (Err (Read fault)) redacted begun near = (tt, begun, λ covers. near covers tt)
+comes_by (Err PositionLimit) redacted begun near = (tt, begun, λ covers. near covers tt)
+comes_by (Err error) redacted begun near = begun
+
 module _ {W : Type 0} (Writes : Writers W) (r : Redactor) (done : Result (Unit {0}) StreamError) (left left' : Option (List ℕ)) (output output' : FromWrite W) where
   pub outcome_by : OnOk done (RedactsText r left left' (output_bytes Writes output) (output_bytes Writes output'))
       → BeginsText r left left' (output_bytes Writes output) (output_bytes Writes output')
       → (r.covers ≡ true → IfErr done (λ error. IsFillRefusal error → ReachesText r left left' (output_bytes Writes output) (output_bytes Writes output')))
       → output'.failures ≡ counted (is_write_fault done) output.failures
       → output'.empty_writes ≡ counted (is_write_of_nothing done) output.empty_writes
-      → IfErr done IsStreamEnd → TextOutcome Writes r (reading_of done) left left' output output'
+      → IfErr done IsStreamEnd → TextDone Writes r (reading_of done) left left' output output'
   outcome_by redacted begun near write_failed took_nothing only = record {
-    redacted = λ is. at_ok done (reading_whole done is) redacted;
-    begun = begun;
-    near = λ covers. reading_fills (ReachesText r left left' (output_bytes Writes output) (output_bytes Writes output')) done (near covers);
-    reason = reading_reason done;
+    comes = comes_by done redacted begun near;
     fails = record {
       write_failed = write_failed ∙ ap (λ (b : Bool). counted b output.failures) (reading_write done);
       took_nothing = took_nothing ∙ ap (λ (b : Bool). counted b output.empty_writes) (reading_nothing done);
@@ -208,9 +169,6 @@ begun_nothing Begins none left held = record {
   written = Appends-nil held;
 }
 
-begun_none : (r : Redactor) → 1 ≤ shortest (map length r.patterns.words) → (left held : Option (List ℕ)) → BeginsText r left left held held
-begun_none r some = begun_nothing (BeginsRedaction r) (begins_nothing r some [] false)
-
 -- the file of a name is that of the input, or of the folder
 pub of_input : (holds : List ℕ → Option (List ℕ)) (name : List ℕ) (Reads : Option (List ℕ) → Option (List ℕ) → Type 0) (left left' : Option (List ℕ)) → is_input name ≡ true
     → Reads left left' → OfName holds name Reads left left'
@@ -240,51 +198,35 @@ pub each_kept : (Does : List ℕ → (left left' held held' : Option (List ℕ))
 each_kept Does [] left left' held mid held' done kept = (done.0, Keeps-trans held mid held' done.1 kept)
 each_kept Does (name ∷ names) left left' held mid held' (between, meanwhile, is, others) kept = (between, meanwhile, is, each_kept Does names between left' meanwhile mid held' others kept)
 
-unread_by : {P : Type 0} (work : Work) (name : List ℕ) (left left' held held' : Option (List ℕ)) (result : Result (Option Reason) StreamError) → IfOk result (λ unread. IfSome unread IsReadReason)
-    → BeginsNamed work name left left' held held' → (work.redactor.covers ≡ true → IfOk result (λ unread. IfSome unread (λ reason. P))) → (P → ReachesNamed work name left left' held held')
-    → IfOk result (λ unread. IfSome unread (λ reason. IsUnread work name reason left left' held held'))
-unread_by work name left left' held held' (Ok None) is begun near named = tt
-unread_by work name left left' held held' (Ok (Some reason)) is begun near named = inl (is, begun, λ covers. named (near covers))
-unread_by work name left left' held held' (Err error) is begun near named = tt
+-- so what comes of the file is what comes of its text
+module _ (work : Work) (name : List ℕ) (left left' held held' : Option (List ℕ)) where
+  abbrev Redacts : (l l' : Option (List ℕ)) → Type 0
+  Redacts l l' = RedactsText work.redactor l l' held held'
 
-module _ {W R : Type 0} (Writes : Writers W) {Reads : Readers R} (work : Work) (name : List ℕ) (result : Result (Option Reason) StreamError) (input input' : FromRead R Reads) (output output' : FromWrite W) where
-  pub file_input : is_input name ≡ true → TextOutcome Writes work.redactor result (bytes_left input) (bytes_left input') output output'
-      → FileOutcome Writes work name result input input' output output'
-  file_input is text =
-      let begun = of_input work.holds name (λ l l'. BeginsText work.redactor l l' (output_bytes Writes output) (output_bytes Writes output')) (bytes_left input) (bytes_left input') is text.begun in
-      record {
-        redacted = λ done. of_input work.holds name (λ l l'. RedactsText work.redactor l l' (output_bytes Writes output) (output_bytes Writes output')) (bytes_left input) (bytes_left input') is (text.redacted done);
-        begun = begun;
-        unread = unread_by work name (bytes_left input) (bytes_left input') (output_bytes Writes output) (output_bytes Writes output') result text.reason begun text.near
-            (λ up. of_input work.holds name (λ l l'. ReachesText work.redactor l l' (output_bytes Writes output) (output_bytes Writes output')) (bytes_left input) (bytes_left input') is up);
-        fails = text.fails;
-      }
+  abbrev Begins : (l l' : Option (List ℕ)) → Type 0
+  Begins l l' = BeginsText work.redactor l l' held held'
 
-  pub file_opened : is_input name ≡ false → input' ≡ input → (left rest : Option (List ℕ)) → Keeps (work.holds name) left
-      → TextOutcome Writes work.redactor result left rest output output' → FileOutcome Writes work name result input input' output output'
-  file_opened is same left rest kept text =
-      let alike : bytes_left input' ≡ bytes_left input = ap (λ (i : FromRead R Reads). bytes_left i) same in
-      let begun = of_folder work.holds name (λ l l'. BeginsText work.redactor l l' (output_bytes Writes output) (output_bytes Writes output')) (bytes_left input) (bytes_left input') is alike rest
-      (known_begun (work.holds name) left rest _ _ kept text.begun) in
-      record {
-        redacted = λ done. of_folder work.holds name (λ l l'. RedactsText work.redactor l l' (output_bytes Writes output) (output_bytes Writes output')) (bytes_left input) (bytes_left input') is alike rest
-            (known_text (work.holds name) left rest _ _ kept (text.redacted done));
-        begun = begun;
-        unread = unread_by work name (bytes_left input) (bytes_left input') (output_bytes Writes output) (output_bytes Writes output') result text.reason begun text.near
-            (λ up. of_folder work.holds name (λ l l'. ReachesText work.redactor l l' (output_bytes Writes output) (output_bytes Writes output')) (bytes_left input) (bytes_left input') is alike rest
-            (known_reaches (work.holds name) left rest _ _ kept up));
-        fails = text.fails;
-      }
+  abbrev Reaches : (l l' : Option (List ℕ)) → Type 0
+  Reaches l l' = ReachesText work.redactor l l' held held'
 
-module _ {W R : Type 0} (Writes : Writers W) {Reads : Readers R} (work : Work) (some : 1 ≤ shortest (map length work.redactor.patterns.words)) (name : List ℕ) (reason : Reason) (input : FromRead R Reads) (output : FromWrite W) where
-  pub file_refused : is_input name ≡ false → work.refuses name reason → FileOutcome Writes work name (Ok (Some reason)) input input output output
-  file_refused is refused = record {
-    redacted = λ (done : Ok (Some reason) ≡ Ok None). absurd (cc);
-    begun = of_folder work.holds name (λ l l'. BeginsText work.redactor l l' (output_bytes Writes output) (output_bytes Writes output)) (bytes_left input) (bytes_left input) is refl (work.holds name) (begun_none work.redactor some (work.holds name) (output_bytes Writes output));
-    unread = inr (refused, refl, Keeps-refl (output_bytes Writes output));
-    fails = record { write_failed = refl; took_nothing = refl; only = tt };
-  }
+  pub comes_input : (result : Result (Option Reason) StreamError) → is_input name ≡ true → ComesOfText work.redactor result left left' held held' → ComesOfFile work name result left left' held held'
+  comes_input (Ok None) is text = of_input work.holds name Redacts left left' is text
+  comes_input (Ok (Some reason)) is (read, begun, near) =
+      inl (read, of_input work.holds name Begins left left' is begun, λ covers. of_input work.holds name Reaches left left' is (near covers))
+  comes_input (Err error) is text = of_input work.holds name Begins left left' is text
+
+  pub comes_opened : (result : Result (Option Reason) StreamError) → is_input name ≡ false → left' ≡ left → (opened rest : Option (List ℕ)) → Keeps (work.holds name) opened
+      → ComesOfText work.redactor result opened rest held held' → ComesOfFile work name result left left' held held'
+  comes_opened (Ok None) is same opened rest kept text = of_folder work.holds name Redacts left left' is same rest (known_text (work.holds name) opened rest held held' kept text)
+  comes_opened (Ok (Some reason)) is same opened rest kept (read, begun, near) =
+      inl (
+        read,
+        of_folder work.holds name Begins left left' is same rest (known_begun (work.holds name) opened rest held held' kept begun),
+        λ covers. of_folder work.holds name Reaches left left' is same rest (known_reaches (work.holds name) opened rest held held' kept (near covers)),
+      )
+  comes_opened (Err error) is same opened rest kept text = of_folder work.holds name Begins left left' is same rest (known_begun (work.holds name) opened rest held held' kept text)
 
 -- nothing was read and written of any
 pub named_none : (work : Work) → 1 ≤ shortest (map length work.redactor.patterns.words) → (name : List ℕ) (left held : Option (List ℕ)) → BeginsNamed work name left left held held
-named_none work some name left held = name_unread work.holds name (λ l l'. BeginsText work.redactor l l' held held) left (λ l. begun_none work.redactor some l held)
+named_none work some name left held =
+    name_unread work.holds name (λ l l'. BeginsText work.redactor l l' held held) left (λ l. begun_nothing (BeginsRedaction work.redactor) (begins_nothing work.redactor some [] false) l held)

@@ -1,10 +1,10 @@
 -- What becomes of files that are replaced in place, one after another, and of a call that replaces them.
 use Rattle.std.proofs.Common.{◌≡◌, inl, inr, ℕ, List, [], ◌∷◌, ◌++◌, Option, true, false, refl, sym, ap, subst, ◌∙◌, append-nil, arith}
-use Rattle.std.specs.List.{All, concat}
-use Rattle.std.specs.Prelude.{Bool, ◌&&◌, Result, Ok, Err, IfOk, OnErr, OnOk, is_some, ◌⊎◌, MatchBool, IfErr}
+use Rattle.std.specs.List.{All}
+use Rattle.std.specs.Prelude.{Bool, ◌&&◌, Result, Ok, Err, IfOk, OnOk, is_some, ◌⊎◌, MatchBool, IfErr}
 use Rattle.std.specs.declared.io.traits.Read.{Ghosts as Readers}
 use Rattle.std.specs.declared.io.traits.Write.{Ghosts as Writers}
-use Rattle.std.proofs.lemmas.List.Elements.{All-cons, All-nil, All-weaker, All-head, All-tail}
+use Rattle.std.proofs.lemmas.List.Elements.{All-cons, All-nil}
 use Rattle.aho_cover.specs.Counting.{CountsThese}
 use Rattle.tool_parts.specs.Failures.{failure_of_stream}
 use Rattle.tool_parts.specs.Names.{IsOneOf}
@@ -19,9 +19,9 @@ use Rattle.acredact.specs.Calls.{Call, IsCountsFailure, IsCountsLine, MayFail, T
 use Rattle.acredact.specs.Counts.{zeros}
 use Rattle.acredact.specs.Doubts.{TellsDoubts, TellsWarnings}
 use Rattle.acredact.specs.Failures.{IsFailureLine}
-use Rattle.acredact.specs.Files.{AreCut, AreRedacted, FilesOutcome, IsDone, Work, are_none, unread_line}
-use Rattle.acredact.specs.InPlace.{AreInTurn, BeginInTurn, CalledPlaces, IsFreed, IsPlaceLine, IsPlaced, IsReplaced, IsSparedLine, IsSparedOf, KeepsCall, PlaceOutcome, PlacesOutcome, PlacesStatus, ReachesCall, SparesCall, TellsEnd}
-use Rattle.acredact.specs.Into.{IsSpared, TellsUnread}
+use Rattle.acredact.specs.Files.{AreCut, AreRedacted, FilesOutcome, IsDone, Work, unread_line}
+use Rattle.acredact.specs.InPlace.{AreInTurn, BeginInTurn, CalledPlaces, IsFreed, IsPlaceLine, IsPlaced, IsReplaced, IsSettled, IsSparedLine, IsSparedOf, KeepsCall, PlaceOutcome, PlacesOutcome, PlacesStatus, ReachesCall, TellsEnd}
+use Rattle.acredact.specs.Into.{TellsUnread}
 use Rattle.acredact.specs.Loading.{AreLoaded, Loaded, loaded_as}
 use Rattle.acredact.specs.Messages.{output_line}
 use Rattle.acredact.specs.Pieces.{TellsOfPieces}
@@ -29,8 +29,6 @@ use Rattle.acredact.specs.Ready.{CannotPrepare}
 use Rattle.acredact.specs.Secrets.{AreCleanBy}
 use Rattle.acredact.specs.Summaries.{no_volume}
 use Rattle.acredact.specs.Tables.{secrets_of}
-use Rattle.acredact.specs.Totals.{CountsOfNames}
-use Rattle.acredact.specs.Volumes.{ReadsVolume}
 use Rattle.acredact.specs.declared.arguments.Word.TheVariants.{Strict}
 use Rattle.acredact.specs.declared.failure.Failure.{Failure}
 use Rattle.acredact.specs.declared.failure.Failure.TheVariants.{Other}
@@ -38,13 +36,12 @@ use Rattle.acredact.specs.declared.outputs.Outputs.{Ghosts as Places}
 use Rattle.acredact.specs.declared.patterns.Rule.{Rule}
 use Rattle.acredact.specs.declared.streams.Streams.{Streams}
 use Rattle.acredact.specs.declared.summary.Volume.{Volume}
-use Rattle.acredact.proofs.Calls.{may_fail, none_are, tells_last, tells_same}
+use Rattle.acredact.proofs.Calls.{may_fail, none_are, some_all, some_behind, some_then, some_told, some_weaker, tells_both, tells_last, tells_same, tells_weaker}
 use Rattle.acredact.proofs.Done.{both_so, cut_of, redacted_of}
 use Rattle.acredact.proofs.Free.{free_of}
-use Rattle.acredact.proofs.Totals.{totals_told}
-use Rattle.acredact.proofs.Warned.{clean_pieces, doubts_may, may_prepare, some_behind, tells_both, warnings_may}
-use Rattle.acredact.proofs.RuledFiles.{some_all, some_then, some_weaker}
-use Rattle.acredact.proofs.Statuses.{tells_one}
+use Rattle.acredact.proofs.Metering.{VolumeSoFar, all_read, far_unread, far_volume}
+use Rattle.acredact.proofs.Totals.{CountedSoFar, all_counted, far_counted, far_uncounted, totals_told}
+use Rattle.acredact.proofs.Warned.{clean_pieces, doubts_may, may_prepare, warnings_may}
 
 -- what comes of files that were all read, where nothing is told
 pub all_redacted : {R W E : Type 0} {Reads : Readers R} (Writes : Writers W) (K : SinkGhosts E) (work : Work) (result : Result Bool StreamError) (streams streams' : Streams R W E Reads)
@@ -53,15 +50,6 @@ pub all_redacted : {R W E : Type 0} {Reads : Readers R} (Writes : Writers W) (K 
 all_redacted Writes K work result streams streams' files is =
     let (lines, is_all, (done, told)) = rw is at files.done in
     redacted_of work work.names lines _ _ _ _ (none_are lines (sym is_all)) done
-
--- what is not true is false
-pub not_true : {X : Type 0} (b : Bool) (result : Result Bool X) → result ≡ Ok b → (result ≡ Ok true → ⊥) → b ≡ false
-not_true true result is not = absurd (not is)
-not_true false result is not = refl
-
--- what is told may be told of more
-pub tells_weaker : {E : Type 0} (K : SinkGhosts E) (Less More : List ℕ → Type 0) (old new : Errors E) → ((line : List ℕ) → Less line → More line) → Tells K Less old new → Tells K More old new
-tells_weaker K Less More old new weaker tells = record { told = tells.told; are_lines = All-weaker Less More weaker tells.told tells.are_lines; written = tells.written }
 
 -- the lines that are told of one file say why it is spared
 module _ (work : Work) (name : List ℕ) where
@@ -82,10 +70,6 @@ pub record ToldOfOne {E : Type 0} (K : SinkGhosts E) (name : List ℕ) (done : R
   pub told : Tells K (IsSparedLine name) old mid
   pub partly : done ≡ Ok false → TellsSome K (IsSparedLine name) old mid
 
-some_told : {E : Type 0} (K : SinkGhosts E) (IsLine : List ℕ → Type 0) (old new : Errors E) (lines : List (List ℕ)) → All IsLine lines → TellsBytes K old new (concat lines) → false ≡ are_none lines → TellsSome K IsLine old new
-some_told K IsLine old new [] are told none = absurd (cc)
-some_told K IsLine old new (line ∷ lines) are told none = record { first = line; is_line = All-head IsLine line lines are; more = lines; are_lines = All-tail IsLine line lines are; written = told }
-
 pub told_of_one : {R W E : Type 0} {Reads : Readers R} (Writes : Writers W) (K : SinkGhosts E) (work : Work) (name : List ℕ) → work.names ≡ name ∷ [] → (done : Result Bool StreamError) (old mid : Streams R W E Reads)
     → FilesOutcome Writes K work done old mid → ToldOfOne K name done old.errors mid.errors
 told_of_one Writes K work name one (Ok all) old mid files =
@@ -102,41 +86,25 @@ told_of_one Writes K work name one (Err error) old mid files =
     }
 
 -- and behind that
-module _ {E : Type 0} (K : SinkGhosts E) (name : List ℕ) (done : Result Bool StreamError) (old mid new : Errors E) (of_one : ToldOfOne K name done old mid) where
-  pub partly_settled : ((done ≡ Ok false) × (new ≡ mid)) ⊎ TellsUnread K name mid new → TellsSome K (IsSparedLine name) old new
-  partly_settled (inl (part, same)) = subst (TellsSome K (IsSparedLine name) old) (sym same) (of_one.partly part)
-  partly_settled (inr (reason, line)) = tells_last K (IsSparedLine name) old mid new (unread_line name reason) of_one.told (inl (reason, refl)) line
-
-  pub told_settled : (result : Result Bool StreamError) → (result ≡ Ok true → new ≡ mid) → (result ≡ Ok false → ((done ≡ Ok false) × (new ≡ mid)) ⊎ TellsUnread K name mid new)
-      → OnErr result (new ≡ mid) → Tells K (IsSparedLine name) old new
-  told_settled (Ok true) quiet more cut = subst (Tells K (IsSparedLine name) old) (sym (quiet refl)) of_one.told
-  told_settled (Ok false) quiet more cut = some_all K (IsSparedLine name) (IsSparedLine name) old new (λ line is. is) (partly_settled (more refl))
-  told_settled (Err error) quiet more cut = subst (Tells K (IsSparedLine name) old) (sym cut) of_one.told
+partly_settled : {E : Type 0} (K : SinkGhosts E) (name : List ℕ) (done : Result Bool StreamError) (old mid new : Errors E) → ToldOfOne K name done old mid
+    → ((done ≡ Ok false) × (new ≡ mid)) ⊎ TellsUnread K name mid new → TellsSome K (IsSparedLine name) old new
+partly_settled K name done old mid new of_one (inl (part, same)) = subst (TellsSome K (IsSparedLine name) old) (sym same) (of_one.partly part)
+partly_settled K name done old mid new of_one (inr (reason, line)) = tells_last K (IsSparedLine name) old mid new (unread_line name reason) of_one.told (inl (reason, refl)) line
 
 -- one of two is not so
-not_both : (first second both : Bool) → both ≡ first && second → (both ≡ true → ⊥) → (first ≡ true → ⊥) ⊎ (second ≡ false)
-not_both first true both is not = inl (λ so. not (is ∙ ap (λ (b : Bool). b && true) so))
-not_both first false both is not = inr refl
+not_both : (first second both : Bool) → both ≡ first && second → both ≡ false → (first ≡ false) ⊎ (second ≡ false)
+not_both true second both is none = inr (sym is ∙ none)
+not_both false second both is none = inl refl
 
-module _ {O Z E : Type 0} (Writes : Writers Z) (K : SinkGhosts E) (U : Places O Z) (work : Work) where
-  -- what comes of a file that was not come to be replaced: it is told by a line
-  pub place_told : (name line : List ℕ) (outputs outputs' : O) (errors errors' : Errors E) → IsSparedLine name line → IsSpared U name outputs outputs' → TellsBytes K errors errors' line
-      → PlaceOutcome Writes U work K name (Ok false) outputs outputs' errors errors'
-  place_told name line outputs outputs' errors errors' is spared told =
-      let some = tells_one K (IsSparedLine name) errors errors' line is told in
-      record {
-        replaced = λ (is : Ok false ≡ Ok true). absurd (cc);
-        spared = λ not. spared;
-        partly = λ is. some;
-        told = some_all K (IsSparedLine name) (IsSparedLine name) errors errors' (λ line is. is) some;
-        memory = tt;
-      }
+-- what each became is what some did
+begun_all : {O : Type 0} (Is : List ℕ → (outputs outputs' : O) → Type 0) (names : List (List ℕ)) (outputs outputs' : O) → AreInTurn Is names outputs outputs' → BeginInTurn Is names outputs outputs'
+begun_all Is [] outputs outputs' all = all
+begun_all Is (name ∷ names) outputs outputs' (mid, is, others) = inr (mid, is, begun_all Is names mid outputs' others)
 
-  -- it was replaced or spared
-  come_to : (name : List ℕ) (result : Result Bool StreamError) (outputs outputs' : O) (errors errors' : Errors E) → PlaceOutcome Writes U work K name result outputs outputs' errors errors' → IsPlaced Writes U work name outputs outputs'
-  come_to name (Ok true) outputs outputs' errors errors' of = inl (of.replaced refl).0
-  come_to name (Ok false) outputs outputs' errors errors' of = inr (of.spared (λ (is : Ok false ≡ Ok true). cc))
-  come_to name (Err error) outputs outputs' errors errors' of = inr (of.spared (λ (is : Err error ≡ Ok true). cc))
+module _ {O Z : Type 0} (Writes : Writers Z) (U : Places O Z) (work : Work) where
+  placed_all : (names : List (List ℕ)) (outputs outputs' : O) → AreInTurn (IsReplaced Writes U work) names outputs outputs' → AreInTurn (IsPlaced Writes U work) names outputs outputs'
+  placed_all [] outputs outputs' all = all
+  placed_all (name ∷ names) outputs outputs' (mid, is, others) = (mid, inl is, placed_all names mid outputs' others)
 
   -- before any file
   begin_none : (names : List (List ℕ)) (outputs : O) → BeginInTurn (IsPlaced Writes U work) names outputs outputs
@@ -165,90 +133,118 @@ module _ {O Z E : Type 0} (Writes : Writers Z) (K : SinkGhosts E) (U : Places O 
     freed_all covers every clean names mid outputs' others,
   )
 
-  -- the files in front of what is left were come to: what comes of these is what comes of all
-  pub record PlacedSoFar (left : List (List ℕ)) (so : Bool) (first mid : O) (errors errors' : Errors E) : Type 0 where
-    pub all : so ≡ true → (last : O) → AreInTurn (IsReplaced Writes U work) left mid last → AreInTurn (IsReplaced Writes U work) work.names first last
+module _ {R O Z E : Type 0} {Reads : Readers R} (Writes : Writers Z) (K : SinkGhosts E) (U : Places O Z) (work : Work) where
+  -- what comes of a file for which a new one was made and filled, by what becomes of that
+  pub place_settled : (name : List ℕ) (done result : Result Bool StreamError) (outputs mid outputs' : O) (old filled new : Streams R Z E Reads) (counts counts' : List ℕ) (volume volume' : Volume) (held : Option (List ℕ))
+      → ToldOfOne K name done old.errors filled.errors
+      → (done ≡ Ok true → U.puts mid outputs' name (output_bytes Writes filled.output) → PlaceOutcome Writes U work K name (Ok true) outputs outputs' old filled counts counts' volume volume')
+      → U.makes outputs mid name held → new.input ≡ filled.input → IsSettled Writes K U name done result mid outputs' filled new
+      → PlaceOutcome Writes U work K name result outputs outputs' old new counts counts' volume volume'
+  place_settled name done (Ok true) outputs mid outputs' old filled new counts counts' volume volume' held of_one replaced made same (all, quiet, puts) =
+      let (is, untold, counted, read) = replaced all puts in (is, quiet ∙ untold, rw same counted, rw same read)
+  place_settled name done (Ok false) outputs mid outputs' old filled new counts counts' volume volume' held of_one replaced made same (kept, told) =
+      (inr (inr (record { held = held; meanwhile = mid; made = made; kept = kept })), partly_settled K name done old.errors filled.errors new.errors of_one told)
+  place_settled name done (Err error) outputs mid outputs' old filled new counts counts' volume volume' held of_one replaced made same (kept, cut, memory) =
+      (inr (inr (record { held = held; meanwhile = mid; made = made; kept = kept })), subst (Tells K (IsSparedLine name) old.errors) (sym cut) of_one.told, memory)
+
+  -- all files in front of what is left were replaced
+  pub record ReplacedSoFar (left : List (List ℕ)) (first mid : O) (old new : Streams R Z E Reads) (counts counts' : List ℕ) (volume volume' : Volume) : Type 0 where
+    pub replaced : (last : O) → AreInTurn (IsReplaced Writes U work) left mid last → AreInTurn (IsReplaced Writes U work) work.names first last
+    pub quiet : new.errors ≡ old.errors
+    pub counted : CountedSoFar work work.names left (bytes_left old.input) (bytes_left new.input) counts counts'
+    pub read : VolumeSoFar work.holds work.names left volume volume' (bytes_left old.input) (bytes_left new.input)
+
+  -- or they were come to: what comes of these is what comes of all
+  pub record PlacedSoFar (left : List (List ℕ)) (so : Bool) (first mid : O) (old new : Streams R Z E Reads) (counts counts' : List ℕ) (volume volume' : Volume) : Type 0 where
+    pub all : so ≡ true → ReplacedSoFar left first mid old new counts counts' volume volume'
     pub placed : (last : O) → AreInTurn (IsPlaced Writes U work) left mid last → AreInTurn (IsPlaced Writes U work) work.names first last
     pub begun : (last : O) → BeginInTurn (IsPlaced Writes U work) left mid last → BeginInTurn (IsPlaced Writes U work) work.names first last
-    pub partly : (so ≡ true → ⊥) → TellsSome K (IsSparedOf work.names) errors errors'
-    pub told : Tells K (IsSparedOf work.names) errors errors'
-    pub quiet : so ≡ true → errors' ≡ errors
+    pub partly : so ≡ false → TellsSome K (IsSparedOf work.names) old.errors new.errors
     pub among : (name : List ℕ) → IsOneOf name left → IsOneOf name work.names
 
-  pub placed_none : (outputs : O) (errors : Errors E) → PlacedSoFar work.names true outputs outputs errors errors
-  placed_none outputs errors = record {
-    all = λ so last are. are;
+  pub placed_none : (outputs : O) (streams : Streams R Z E Reads) (counts : List ℕ) (volume : Volume) → PlacedSoFar work.names true outputs outputs streams streams counts counts volume volume
+  placed_none outputs streams counts volume = record {
+    all = λ so. record {
+      replaced = λ last are. are;
+      quiet = refl;
+      counted = far_uncounted work work.names (bytes_left streams.input) counts;
+      read = far_unread work.holds work.names volume (bytes_left streams.input);
+    };
     placed = λ last are. are;
     begun = λ last are. are;
-    partly = λ none. absurd (none refl);
-    told = tells_same K (IsSparedOf work.names) errors errors refl;
-    quiet = λ so. refl;
+    partly = λ (is : true ≡ false). absurd (cc);
     among = λ name is. is;
   }
 
-  module _ (name : List ℕ) (left : List (List ℕ)) (so : Bool) (first mid new : O) (old errors after : Errors E) (far : PlacedSoFar (name ∷ left) so first mid old errors) where
+  module _ (name : List ℕ) (left : List (List ℕ)) (so : Bool) (first mid last : O) (old new after : Streams R Z E Reads) (counts half counts' : List ℕ) (volume between volume' : Volume)
+      (far : PlacedSoFar (name ∷ left) so first mid old new counts half volume between) where
     of_all : (line : List ℕ) → IsSparedLine name line → IsSparedOf work.names line
     of_all line is = (name, far.among name (inl refl), is)
 
-    told_more : Tells K (IsSparedLine name) errors after → Tells K (IsSparedOf work.names) old after
-    told_more told = tells_both K (IsSparedOf work.names) old errors after far.told (tells_weaker K (IsSparedLine name) (IsSparedOf work.names) errors after of_all told)
+    far_told : (b : Bool) → so ≡ b → Tells K (IsSparedOf work.names) old.errors new.errors
+    far_told true is = tells_same K (IsSparedOf work.names) old.errors new.errors (far.all is).quiet
+    far_told false is = some_all K (IsSparedOf work.names) (IsSparedOf work.names) old.errors new.errors (λ line is. is) (far.partly is)
 
-    -- a file more
-    pub placed_next : (whole both : Bool) → PlaceOutcome Writes U work K name (Ok whole) mid new errors after → both ≡ so && whole → PlacedSoFar left both first new old after
-    placed_next whole both of is =
-        let placed = come_to name (Ok whole) mid new errors after of in
-        record {
-          all = λ ends last rests. let parts = both_so so whole both is ends in far.all parts.0 last (new, (of.replaced (ap Ok parts.1)).0, rests);
-          placed = λ last rests. far.placed last (new, placed, rests);
-          begun = λ last rests. far.begun last (inr (new, placed, rests));
-          partly = λ none. elim (not_both so whole both is none) [
-            | inl before ↦ some_then K (IsSparedOf work.names) old errors after (far.partly before) (tells_weaker K (IsSparedLine name) (IsSparedOf work.names) errors after of_all of.told)
-            | inr spared ↦ some_behind K (IsSparedOf work.names) old errors after far.told
-                (some_weaker K (IsSparedLine name) (IsSparedOf work.names) errors after of_all (of.partly (ap Ok spared)))
-          ];
-          told = told_more of.told;
-          quiet = λ ends. let parts = both_so so whole both is ends in (of.replaced (ap Ok parts.1)).1 ∙ far.quiet parts.0;
-          among = λ other is. far.among other (inr is);
-        }
+    one_told : (whole : Bool) → PlaceOutcome Writes U work K name (Ok whole) mid last new after half counts' between volume' → Tells K (IsSparedOf work.names) new.errors after.errors
+    one_told true of = tells_same K (IsSparedOf work.names) new.errors after.errors of.1
+    one_told false of = some_all K (IsSparedLine name) (IsSparedOf work.names) new.errors after.errors of_all of.1
 
-    -- or memory ran out at it
-    pub placed_fails : (error : StreamError) → PlaceOutcome Writes U work K name (Err error) mid new errors after → PlacesOutcome Writes U work K (Err error) first new old after
-    placed_fails error of = record {
-      replaced = λ (is : Err error ≡ Ok true). absurd (cc);
-      placed = tt;
-      begun = far.begun new (inr (new, come_to name (Err error) mid new errors after of, begin_none left new));
-      partly = λ (is : Err error ≡ Ok false). absurd (cc);
-      told = told_more of.told;
-      memory = of.memory;
+    come_to : (whole : Bool) → PlaceOutcome Writes U work K name (Ok whole) mid last new after half counts' between volume' → IsPlaced Writes U work name mid last
+    come_to true of = inl of.0
+    come_to false of = inr of.0
+
+    one_more : ReplacedSoFar (name ∷ left) first mid old new counts half volume between → PlaceOutcome Writes U work K name (Ok true) mid last new after half counts' between volume'
+        → ReplacedSoFar left first last old after counts counts' volume volume'
+    one_more all (is, quiet, counted, read) = record {
+      replaced = λ end rests. all.replaced end (last, is, rests);
+      quiet = quiet ∙ all.quiet;
+      counted = far_counted work work.names _ counts name left _ _ half counts' all.counted counted;
+      read = far_volume work.holds work.names volume _ name left between volume' _ _ all.read read;
     }
 
+    -- a file more
+    pub placed_next : (whole both : Bool) → PlaceOutcome Writes U work K name (Ok whole) mid last new after half counts' between volume' → both ≡ so && whole
+        → PlacedSoFar left both first last old after counts counts' volume volume'
+    placed_next whole both of is = record {
+      all = λ ends. let (before, one) = both_so so whole both is ends in one_more (far.all before) (rw one at of);
+      placed = λ end rests. far.placed end (last, come_to whole of, rests);
+      begun = λ end rests. far.begun end (inr (last, come_to whole of, rests));
+      partly = λ none. elim (not_both so whole both is none) [
+        | inl before ↦ some_then K (IsSparedOf work.names) old.errors new.errors after.errors (far.partly before) (one_told whole of)
+        | inr spared ↦ some_behind K (IsSparedOf work.names) old.errors new.errors after.errors (far_told so refl)
+            (some_weaker K (IsSparedLine name) (IsSparedOf work.names) new.errors after.errors of_all (rw spared at of).1)
+      ];
+      among = λ other is. far.among other (inr is);
+    }
+
+    -- or memory ran out at it
+    pub placed_fails : (error : StreamError) → PlaceOutcome Writes U work K name (Err error) mid last new after half counts' between volume' → PlacesOutcome Writes U work K (Err error) first last old after counts counts' volume volume'
+    placed_fails error (spared, told, memory) = (
+      far.begun last (inr (last, inr spared, begin_none Writes U work left last)),
+      tells_both K (IsSparedOf work.names) old.errors new.errors after.errors (far_told so refl) (tells_weaker K (IsSparedLine name) (IsSparedOf work.names) new.errors after.errors of_all told),
+      memory,
+    )
+
   -- or that was all
-  pub placed_ends : (so : Bool) (first last : O) (old errors : Errors E) → PlacedSoFar [] so first last old errors → PlacesOutcome Writes U work K (Ok so) first last old errors
-  placed_ends so first last old errors far = record {
-    replaced = λ is. let ends : so ≡ true = cc in (far.all ends last refl, far.quiet ends);
-    placed = far.placed last refl;
-    begun = far.begun last refl;
-    partly = λ is. far.partly (λ (ends : so ≡ true). cc);
-    told = far.told;
-    memory = tt;
-  }
+  pub placed_ends : (so : Bool) (first last : O) (old new : Streams R Z E Reads) (counts counts' : List ℕ) (volume volume' : Volume) → PlacedSoFar [] so first last old new counts counts' volume volume'
+      → PlacesOutcome Writes U work K (Ok so) first last old new counts counts' volume volume'
+  placed_ends true first last old new counts counts' volume volume' far =
+      let all = far.all refl in
+      (all.replaced last refl, all.quiet, all_counted work work.names _ counts _ counts' all.counted, all_read work.holds work.names volume _ volume' _ all.read)
+  placed_ends false first last old new counts counts' volume volume' far = (far.placed last refl, far.partly refl)
+
+  -- each was placed then, and what was told says why some were not
+  places_all : (all : Bool) (outputs outputs' : O) (old new : Streams R Z E Reads) (counts counts' : List ℕ) (volume volume' : Volume) → PlacesOutcome Writes U work K (Ok all) outputs outputs' old new counts counts' volume volume'
+      → AreInTurn (IsPlaced Writes U work) work.names outputs outputs' × Tells K (IsSparedOf work.names) old.errors new.errors
+  places_all true outputs outputs' old new counts counts' volume volume' run =
+      (placed_all Writes U work work.names outputs outputs' run.0, tells_same K (IsSparedOf work.names) old.errors new.errors run.1)
+  places_all false outputs outputs' old new counts counts' volume volume' run =
+      (run.0, some_all K (IsSparedOf work.names) (IsSparedOf work.names) old.errors new.errors (λ line is. is) run.1)
 
 module _ {O Z E : Type 0} (Writes : Writers Z) (K : SinkGhosts E) (U : Places O Z) (call : Call) (left : Option (List ℕ)) where
   -- a call ends before a file is made
-  places_ended : (failure : Failure) (outputs : O) (old new : Errors E) → MayFail call ⊥ failure → Tells K (IsPlaceLine call) old new → CalledPlaces Writes K U call left (Err failure) outputs outputs old new
-  places_ended failure outputs old new may told = record {
-    replaces = λ (is : Err failure ≡ Ok true). absurd (cc);
-    strict = λ asked (is : Err failure ≡ Ok true). absurd (cc);
-    keeps = inl refl;
-    quiet = λ none (is : Err failure ≡ Ok true). absurd (cc);
-    counts = λ some (is : Err failure ≡ Ok true). absurd (cc);
-    partly = λ (is : Err failure ≡ Ok false). absurd (cc);
-    fails = record { may = may; ends = inl refl };
-    told = told;
-  }
-
   pub places_refused : (failure : Failure) (outputs : O) (errors : Errors E) → MayFail call ⊥ failure → CalledPlaces Writes K U call left (Err failure) outputs outputs errors errors
-  places_refused failure outputs errors may = places_ended failure outputs errors errors may (tells_same K (IsPlaceLine call) errors errors refl)
+  places_refused failure outputs errors may = (record { may = may; ends = inl refl }, tells_same K (IsPlaceLine call) errors errors refl)
 
   module _ (load : Loaded) (between : Option (List ℕ)) (loaded : AreLoaded (reading_by call) call.given load left between) where
     abbrev Warned : (errors errors' : Errors E) → Type 0
@@ -265,136 +261,124 @@ module _ {O Z E : Type 0} (Writes : Writers Z) (K : SinkGhosts E) (U : Places O 
     -- nothing is ready
     pub places_unready : (outputs : O) (old new : Errors E) (failure : Failure) → CannotPrepare call.given load failure → (new ≡ old) ⊎ TellsDoubts K (has Strict call.given) call.given load.secrets old new
         → CalledPlaces Writes K U call left (Err failure) outputs outputs old new
-    places_unready outputs old new failure cannot told = places_ended failure outputs old new (may_prepare call load left between loaded ⊥ failure cannot) (elim told [
-      | inl same ↦ tells_same K (IsPlaceLine call) old new same
-      | inr doubts ↦ doubts_may K call (IsPlaceLine call) (λ line is. inl (inr (inr (inr is)))) load left between loaded (has Strict call.given) refl old new doubts
-    ])
+    places_unready outputs old new failure cannot told = (
+      record { may = may_prepare call load left between loaded ⊥ failure cannot; ends = inl refl },
+      elim told [
+        | inl same ↦ tells_same K (IsPlaceLine call) old new same
+        | inr doubts ↦ doubts_may K call (IsPlaceLine call) (λ line is. inl (inr (inr (inr is)))) load left between loaded (has Strict call.given) refl old new doubts
+      ],
+    )
 
     -- there is no memory for the counts
     pub places_uncounted : (outputs : O) (first warned : Errors E) → Warned first warned → CalledPlaces Writes K U call left (Err (Other OutOfMemory)) outputs outputs first warned
-    places_uncounted outputs first warned warnings = places_ended (Other OutOfMemory) outputs first warned (may_fail call ⊥ (Other OutOfMemory) (inl refl)) (warned_tell first warned warnings)
-
-    -- a failure ends it behind some files
-    places_stopped : (failure : Failure) (outputs outputs' : O) (old new : Errors E) → MayFail call ⊥ failure → BeginInTurn (IsPlaced Writes U (work_by call load)) (names_asked call.given) outputs outputs'
-        → (failure ≡ Other OutOfMemory) ⊎ AreInTurn (IsPlaced Writes U (work_by call load)) (names_asked call.given) outputs outputs' → Tells K (IsPlaceLine call) old new → CalledPlaces Writes K U call left (Err failure) outputs outputs' old new
-    places_stopped failure outputs outputs' old new may begun ends told =
-        let spares : SparesCall Writes U call left outputs outputs' = record { load = load; between = between; loaded = loaded; done = begun } in
-        record {
-          replaces = λ (is : Err failure ≡ Ok true). absurd (cc);
-          strict = λ asked (is : Err failure ≡ Ok true). absurd (cc);
-          keeps = inr spares;
-          quiet = λ none (is : Err failure ≡ Ok true). absurd (cc);
-          counts = λ some (is : Err failure ≡ Ok true). absurd (cc);
-          partly = λ (is : Err failure ≡ Ok false). absurd (cc);
-          fails = record {
-            may = may;
-            ends = elim ends [
-              | inl memory ↦ inr (inr (memory, spares))
-              | inr all ↦ inr (inl (record { load = load; between = between; loaded = loaded; done = all }))
-            ];
-          };
-          told = told;
-        }
+    places_uncounted outputs first warned warnings = (record { may = may_fail call ⊥ (Other OutOfMemory) (inl refl); ends = inl refl }, warned_tell first warned warnings)
 
     -- memory ran out at a file
-    pub places_cut : (outputs outputs' : O) (first warned new : Errors E) → Warned first warned → (error : StreamError) → PlacesOutcome Writes U (work_by call load) K (Err error) outputs outputs' warned new
-        → CalledPlaces Writes K U call left (Err (Other (failure_of_stream error))) outputs outputs' first new
-    places_cut outputs outputs' first warned new warnings error run =
-        let memory : Other (failure_of_stream error) ≡ Other OutOfMemory = ap (λ (e : StreamError). Other (failure_of_stream e)) run.memory in
-        places_stopped (Other (failure_of_stream error)) outputs outputs' first new (may_fail call ⊥ (Other (failure_of_stream error)) (inl memory)) run.begun (inl memory)
-        (tells_both K (IsPlaceLine call) first warned new (warned_tell first warned warnings) (files_tell warned new run.told))
+    pub places_cut : {R : Type 0} {Reads : Readers R} (outputs outputs' : O) (first : Errors E) (warned new : Streams R Z E Reads) (counts counts' : List ℕ) (volume volume' : Volume) → Warned first warned.errors → (error : StreamError)
+        → PlacesOutcome Writes U (work_by call load) K (Err error) outputs outputs' warned new counts counts' volume volume' → CalledPlaces Writes K U call left (Err (Other (failure_of_stream error))) outputs outputs' first new.errors
+    places_cut outputs outputs' first warned new counts counts' volume volume' warnings error (begun, told, is) =
+        let memory : Other (failure_of_stream error) ≡ Other OutOfMemory = ap (λ (e : StreamError). Other (failure_of_stream e)) is in (
+          record {
+            may = may_fail call ⊥ (Other (failure_of_stream error)) (inl memory);
+            ends = inr (inr (memory, record { load = load; between = between; loaded = loaded; done = begun }));
+          },
+          tells_both K (IsPlaceLine call) first warned.errors new.errors (warned_tell first warned.errors warnings) (files_tell warned.errors new.errors told),
+        )
 
-  module _ (rules : List Rule) (key : Option (List ℕ)) (numbers : List ℕ) (volume : Volume) (between after : Option (List ℕ)) (loaded : AreLoaded (reading_by call) call.given (loaded_as rules key) left between) (outputs outputs' : O) (first warned mid new : Errors E)
-      (warnings : TellsWarnings K (has Strict call.given) call.given (secrets_of rules) (redactor_by_given call.given (loaded_as rules key)) first warned) where
-    abbrev Counted : Bool → Type 0
-    Counted all = all ≡ true → CountsOfNames between after (zeros (counts_asked call.given) rules) numbers (work_by call (loaded_as rules key)) (names_asked call.given)
-        × ReadsVolume call.holds (names_asked call.given) no_volume volume between after
+  module _ {R : Type 0} {Reads : Readers R} (rules : List Rule) (key : Option (List ℕ)) (numbers : List ℕ) (volume : Volume) (outputs outputs' : O) (first new : Errors E) (warned mid : Streams R Z E Reads)
+      (loaded : AreLoaded (reading_by call) call.given (loaded_as rules key) left (bytes_left warned.input))
+      (warnings : TellsWarnings K (has Strict call.given) call.given (secrets_of rules) (redactor_by_given call.given (loaded_as rules key)) first warned.errors) where
+    abbrev Ran : Bool → Type 0
+    Ran all = PlacesOutcome Writes U (work_by call (loaded_as rules key)) K (Ok all) outputs outputs' warned mid (zeros (counts_asked call.given) rules) numbers no_volume volume
 
     abbrev Told : Bool → Type 0
-    Told counted = MatchBool counted (TellsCounts K call.given rules numbers volume mid new) (new ≡ mid)
+    Told counted = MatchBool counted (TellsCounts K call.given rules numbers volume mid.errors new) (new ≡ mid.errors)
 
-    module _ (all : Bool) (run : PlacesOutcome Writes U (work_by call (loaded_as rules key)) K (Ok all) outputs outputs' warned mid) (told : Tells K (IsCountsLine call.given (secrets_of rules)) mid new) where
-      warned_told : Tells K (IsPlaceLine call) first warned
-      warned_told = warned_tell (loaded_as rules key) between loaded first warned warnings
+    warned_told : Tells K (IsPlaceLine call) first warned.errors
+    warned_told = warned_tell (loaded_as rules key) (bytes_left warned.input) loaded first warned.errors warnings
 
-      counts_told : Tells K (IsPlaceLine call) mid new
-      counts_told = tells_weaker K (IsCountsLine call.given (secrets_of rules)) (IsPlaceLine call) mid new (λ line is. inl (inr (inr (inl (loaded_as rules key, left, between, loaded, is))))) told
+    module _ (told : Tells K (IsCountsLine call.given (secrets_of rules)) mid.errors new) where
+      counts_told : Tells K (IsPlaceLine call) mid.errors new
+      counts_told =
+          tells_weaker K (IsCountsLine call.given (secrets_of rules)) (IsPlaceLine call) mid.errors new (λ line is. inl (inr (inr (inl (loaded_as rules key, left, bytes_left warned.input, loaded, is))))) told
 
       -- the counts are told
-      places_done : Counted all → Told (counts_asked call.given) → CalledPlaces Writes K U call left (Ok all) outputs outputs' first new
-      places_done grown are_told =
+      places_done : (all : Bool) → Ran all → Told (counts_asked call.given) → CalledPlaces Writes K U call left (Ok all) outputs outputs' first new
+      places_done true (all, quiet, (ranges, found, counted), read) are_told =
           let load = loaded_as rules key in
           record {
-            replaces = λ (is : Ok all ≡ Ok true). let so : all ≡ true = cc in record { load = load; between = between; loaded = loaded; done = (run.replaced (ap Ok so)).0 };
-            strict = λ asked (is : Ok all ≡ Ok true). let so : all ≡ true = cc in record {
+            replaces = record { load = load; between = bytes_left warned.input; loaded = loaded; done = all };
+            strict = λ asked. record {
               load = load;
-              between = between;
+              between = bytes_left warned.input;
               loaded = loaded;
-              done = freed_all Writes K U (work_by call load) asked.covers asked.all (clean_pieces K (has Strict call.given) (redactor_by_given call.given load) warnings.0 warned asked.strict warnings.2 asked.covers) (names_asked call.given) outputs outputs' (run.replaced (ap Ok so)).0;
+              done = freed_all Writes U (work_by call load) asked.covers asked.all (clean_pieces K (has Strict call.given) (redactor_by_given call.given load) warnings.0 warned.errors asked.strict warnings.2 asked.covers) (names_asked call.given) outputs outputs' all;
             };
-            keeps = inr (record { load = load; between = between; loaded = loaded; done = run.begun });
-            quiet = λ none (is : Ok all ≡ Ok true).
-                let same : new ≡ mid = subst (λ (b : Bool). Told b) none are_told in
-                let so : all ≡ true = cc in
+            quiet = λ none.
+                let same : new ≡ mid.errors = subst (λ (b : Bool). Told b) none are_told in
                 record {
                   load = load;
-                  between = between;
+                  between = bytes_left warned.input;
                   loaded = loaded;
-                  told = (warnings.0, warnings.1, subst (λ (e : Errors E). TellsOfPieces K (has Strict call.given) (redactor_by_given call.given load) warnings.0 e) (sym (same ∙ (run.replaced (ap Ok so)).1)) warnings.2);
+                  told = (warnings.0, warnings.1, subst (λ (e : Errors E). TellsOfPieces K (has Strict call.given) (redactor_by_given call.given load) warnings.0 e) (sym (same ∙ quiet)) warnings.2);
                 };
-            counts = λ some (is : Ok all ≡ Ok true).
-                let so : all ≡ true = cc in
-                let ((ranges, found, counted), read) = grown so in
-                record {
-                  load = load;
-                  between = between;
-                  loaded = loaded;
-                  after = after;
-                  ranges = ranges;
-                  found = found;
-                  meanwhile = warned;
-                  warned = warnings;
-                  volume = volume;
-                  read = read;
-                  counted = totals_told K call.given rules ranges numbers volume warned new (subst (λ (b : Bool). CountsThese ranges (zeros b rules) numbers) some counted)
-                      (subst (λ (e : Errors E). TellsCounts K call.given rules numbers volume e new) (run.replaced (ap Ok so)).1 (subst (λ (b : Bool). Told b) some are_told));
-                };
-            partly = λ (is : Ok all ≡ Ok false).
-                let so : all ≡ false = cc in (
-                  record { load = load; between = between; loaded = loaded; done = run.placed },
-                  some_behind K (IsPlaceLine call) first warned new warned_told
-                      (some_then K (IsPlaceLine call) warned mid new (some_weaker K (IsSparedOf (names_asked call.given)) (IsPlaceLine call) warned mid (λ line is. inr is) (run.partly (ap Ok so))) counts_told),
-                );
-            fails = tt;
-            told = tt;
+            counts = λ some. record {
+              load = load;
+              between = bytes_left warned.input;
+              loaded = loaded;
+              after = bytes_left mid.input;
+              ranges = ranges;
+              found = found;
+              meanwhile = warned.errors;
+              warned = warnings;
+              volume = volume;
+              read = read;
+              counted = totals_told K call.given rules ranges numbers volume warned.errors new (subst (λ (b : Bool). CountsThese ranges (zeros b rules) numbers) some counted)
+                  (subst (λ (e : Errors E). TellsCounts K call.given rules numbers volume e new) quiet (subst (λ (b : Bool). Told b) some are_told));
+            };
           }
+      places_done false (placed, partly) are_told = (
+        record { load = loaded_as rules key; between = bytes_left warned.input; loaded = loaded; done = placed },
+        some_behind K (IsPlaceLine call) first warned.errors new warned_told
+            (some_then K (IsPlaceLine call) warned.errors mid.errors new (some_weaker K (IsSparedOf (names_asked call.given)) (IsPlaceLine call) warned.errors mid.errors (λ line is. inr is) partly) counts_told),
+      )
 
       -- or they are not
-      places_untold : (failure : Failure) → IsCountsFailure (counts_asked call.given) failure → CalledPlaces Writes K U call left (Err failure) outputs outputs' first new
-      places_untold failure fails =
-          let may : MayFail call ⊥ failure = elim fails.1 [
-            | inl counts ↦ inr (inr (inl (counts, fails.0)))
-            | inr memory ↦ may_fail call ⊥ failure (inl memory)
-          ] in
-          places_stopped (loaded_as rules key) between loaded failure outputs outputs' first new may run.begun (inr run.placed)
-          (tells_both K (IsPlaceLine call) first warned new warned_told (tells_both K (IsPlaceLine call) warned mid new (files_tell (loaded_as rules key) between loaded warned mid run.told) counts_told))
+      places_untold : (all : Bool) (failure : Failure) → Ran all → IsCountsFailure (counts_asked call.given) failure → CalledPlaces Writes K U call left (Err failure) outputs outputs' first new
+      places_untold all failure run fails =
+          let load = loaded_as rules key in
+          let (placed, tells) = places_all Writes K U (work_by call load) all outputs outputs' warned mid _ numbers _ volume run in (
+            record {
+              may = elim fails.1 [
+                | inl counts ↦ inr (inr (inl (counts, fails.0)))
+                | inr memory ↦ may_fail call ⊥ failure (inl memory)
+              ];
+              ends = inr (inl (record { load = load; between = bytes_left warned.input; loaded = loaded; done = placed }));
+            },
+            tells_both K (IsPlaceLine call) first warned.errors new warned_told
+                (tells_both K (IsPlaceLine call) warned.errors mid.errors new (files_tell load (bytes_left warned.input) loaded warned.errors mid.errors tells) counts_told),
+          )
 
-    -- by what is answered of that
-    pub places_told : (all : Bool) (result : Result Bool Failure) → PlacesOutcome Writes U (work_by call (loaded_as rules key)) K (Ok all) outputs outputs' warned mid → Counted all
-        → IfOk result (λ done. done ≡ all) → OnOk result (Told (counts_asked call.given)) → IfErr result (IsCountsFailure (counts_asked call.given)) → Tells K (IsCountsLine call.given (secrets_of rules)) mid new
-        → CalledPlaces Writes K U call left result outputs outputs' first new
-    places_told all (Ok done) run grown same counts unknown told =
-        subst (λ (b : Bool). CalledPlaces Writes K U call left (Ok b) outputs outputs' first new) (sym same) (places_done all run told grown counts)
-    places_told all (Err failure) run grown same counts unknown told = places_untold all run told failure unknown
+      -- by what is answered of that
+      pub places_told : (all : Bool) (result : Result Bool Failure) → Ran all → IfOk result (λ done. done ≡ all) → OnOk result (Told (counts_asked call.given)) → IfErr result (IsCountsFailure (counts_asked call.given))
+          → CalledPlaces Writes K U call left result outputs outputs' first new
+      places_told all (Ok done) run same counts unknown = subst (λ (b : Bool). CalledPlaces Writes K U call left (Ok b) outputs outputs' first new) (sym same) (places_done all run counts)
+      places_told all (Err failure) run same counts unknown = places_untold all failure run unknown
 
   -- all were replaced
   pub places_zero : (outputs outputs' : O) (old new : Errors E) → CalledPlaces Writes K U call left (Ok true) outputs outputs' old new → PlacesStatus Writes K U call left 0 outputs outputs' old new
   places_zero outputs outputs' old new of = record {
-    replaces = λ zero. of.replaces refl;
-    strict = λ asked zero. of.strict asked refl;
-    keeps = of.keeps;
-    quiet = λ none zero. of.quiet none refl;
-    counts = λ some zero. of.counts some refl;
+    replaces = λ zero. of.replaces;
+    strict = λ asked zero. of.strict asked;
+    keeps = inr (record {
+      load = of.replaces.load;
+      between = of.replaces.between;
+      loaded = of.replaces.loaded;
+      done = begun_all (IsPlaced Writes U (work_by call of.replaces.load)) (names_asked call.given) outputs outputs'
+          (placed_all Writes U (work_by call of.replaces.load) (names_asked call.given) outputs outputs' of.replaces.done);
+    });
+    quiet = λ none zero. of.quiet none;
+    counts = λ some zero. of.counts some;
     tells = λ failed. absurd (failed refl);
     reaches = λ failed. absurd (failed refl);
   }
@@ -412,13 +396,24 @@ module _ {O Z E : Type 0} (Writes : Writers Z) (K : SinkGhosts E) (U : Places O 
     reaches = λ failed. reaches;
   }
 
+  -- each was replaced or spared
+  keeps_of : (outputs outputs' : O) → ReachesCall Writes U call left outputs outputs' → KeepsCall Writes U call left outputs outputs'
+  keeps_of outputs outputs' reaches =
+      inr (record { load = reaches.load; between = reaches.between; loaded = reaches.loaded; done = begun_all (IsPlaced Writes U (work_by call reaches.load)) (names_asked call.given) outputs outputs' reaches.done })
+
   -- since they were spared
   pub places_partly : (outputs outputs' : O) (old new : Errors E) → CalledPlaces Writes K U call left (Ok false) outputs outputs' old new → PlacesStatus Writes K U call left 2 outputs outputs' old new
-  places_partly outputs outputs' old new of = places_two outputs outputs' old new of.keeps (of.partly refl).1 (inl (of.partly refl).0)
+  places_partly outputs outputs' old new (reaches, tells) = places_two outputs outputs' old new (keeps_of outputs outputs' reaches) tells (inl reaches)
 
   -- or a failure ended the call, and that is told
   pub places_failed : (failure : Failure) (outputs outputs' : O) (old mid new : Errors E) (line : List ℕ) → CalledPlaces Writes K U call left (Err failure) outputs outputs' old mid → IsFailureLine failure line → TellsBytes K mid new line
       → PlacesStatus Writes K U call left 2 outputs outputs' old new
-  places_failed failure outputs outputs' old mid new line of is told =
-      places_two outputs outputs' old new of.keeps (tells_last K (IsPlaceLine call) old mid new line of.told (inl (inr (inl (failure, of.fails.may, is)))) told)
-      (inr (record { failure = failure; ends = of.fails; meanwhile = mid; told = of.told; line = line; is_line = is; last = told }))
+  places_failed failure outputs outputs' old mid new line (ended, tells) is told =
+      places_two outputs outputs' old new
+      (elim ended.ends [
+        | inl same ↦ inl same
+        | inr (inl reaches) ↦ keeps_of outputs outputs' reaches
+        | inr (inr (memory, spares)) ↦ inr spares
+      ])
+      (tells_last K (IsPlaceLine call) old mid new line tells (inl (inr (inl (failure, ended.may, is)))) told)
+      (inr (record { failure = failure; ends = ended; meanwhile = mid; told = tells; line = line; is_line = is; last = told }))

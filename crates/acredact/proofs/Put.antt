@@ -1,5 +1,5 @@
 -- What is told where a new file does not take a place.
-use Rattle.std.proofs.Common.{◌≡◌, inl, inr, ℕ, zero, suc, List, Option, refl, subst, true, false, arith, ◌≤◌}
+use Rattle.std.proofs.Common.{◌≡◌, inl, inr, ℕ, zero, suc, List, refl, subst, true, false, arith, ◌≤◌}
 use Rattle.std.specs.Prelude.{Bool, Some}
 use Rattle.std.specs.declared.io.traits.Read.{Ghosts as Readers}
 use Rattle.std.specs.declared.io.traits.Write.{Ghosts as Writers}
@@ -12,15 +12,11 @@ use Rattle.acredact.specs.Sums.{sums_of}
 use Rattle.acredact.specs.Arguments.{AsksAnyCheck, Given, all_asked, counts_asked}
 use Rattle.acredact.specs.Calls.{Call, CountsCall, IsCountsLine, IsLineOf, WarnsCall}
 use Rattle.acredact.specs.Files.{unread_line}
-use Rattle.acredact.specs.Into.{IsOutputLine, IsRuledOutputLine}
-use Rattle.acredact.specs.Ruled.{IsRuledTold, NotesByRules}
+use Rattle.acredact.specs.Into.{IsOutputLine}
 use Rattle.acredact.specs.declared.streams.Streams.{Streams}
-use Rattle.acredact.proofs.Calls.{tells_counts, tells_last}
+use Rattle.acredact.proofs.Calls.{some_weaker, tells_both, tells_counts, tells_last, tells_weaker}
 use Rattle.acredact.proofs.Given.{same_given}
-use Rattle.acredact.proofs.PlacedCalls.{tells_weaker}
-use Rattle.acredact.proofs.RuledCalls.{notes_told}
-use Rattle.acredact.proofs.RuledFiles.{some_weaker}
-use Rattle.acredact.proofs.Warned.{tells_both, warnings_may}
+use Rattle.acredact.proofs.Warned.{warnings_may}
 
 -- a status is 0, 1 or 2
 pub two_of : (status : ℕ) → status ≤ 2 → (status ≡ 1 → ⊥) → (status ≡ 0 → ⊥) → status ≡ 2
@@ -38,19 +34,19 @@ pub no_check_of : (arguments : List (List ℕ)) (given : List Given) → all_ask
     → ((items : List Given) × (all_asked arguments ≡ Some items) × AsksAnyCheck items) → ⊥
 no_check_of arguments given right none (items, mine, checks) = none (subst AsksAnyCheck (same_given (all_asked arguments) given items right mine) checks)
 
-module _ {E : Type 0} (K : SinkGhosts E) (call : Call) (fails : Type 0) (name : List ℕ) where
+module _ {E : Type 0} (K : SinkGhosts E) (IsTold : List ℕ → Type 0) (name : List ℕ) where
   -- what `run` tells of a failure
-  pub some_told : (old new : Errors E) → TellsSome K (IsLineOf call fails) old new → TellsSome K (IsOutputLine call fails name) old new
-  some_told old new some = some_weaker K (IsLineOf call fails) (IsOutputLine call fails name) old new (λ line is. inl is) some
+  pub some_told : (old new : Errors E) → TellsSome K IsTold old new → TellsSome K (IsOutputLine IsTold name) old new
+  some_told old new some = some_weaker K IsTold (IsOutputLine IsTold name) old new (λ line is. inl is) some
 
   -- or what it tells where all was done, and then why the new file does not take the place
-  pub put_told : (old mid new : Errors E) (reason : Reason) → Tells K (IsLineOf call fails) old mid → TellsBytes K mid new (unread_line name reason) → TellsSome K (IsOutputLine call fails name) old new
+  pub put_told : (old mid new : Errors E) (reason : Reason) → Tells K IsTold old mid → TellsBytes K mid new (unread_line name reason) → TellsSome K (IsOutputLine IsTold name) old new
   put_told old mid new reason first last =
-      tells_last K (IsOutputLine call fails name) old mid new (unread_line name reason) (tells_weaker K (IsLineOf call fails) (IsOutputLine call fails name) old mid (λ line is. inl is) first) (inr (inl (reason, refl))) last
+      tells_last K (IsOutputLine IsTold name) old mid new (unread_line name reason) (tells_weaker K IsTold (IsOutputLine IsTold name) old mid (λ line is. inl is) first) (inr (inl (reason, refl))) last
 
 module _ {R W E : Type 0} {Reads : Readers R} (Writes : Writers W) (K : SinkGhosts E) (call : Call) (fails : Type 0) (old new : Streams R W E Reads) where
   -- what is told where all was done
-  pub done_told : (counts_asked call.given ≡ false → WarnsCall K call (bytes_left old.input) old.errors new.errors) → (counts_asked call.given ≡ true → CountsCall Writes K call (bytes_left old.input) old new)
+  pub done_told : (counts_asked call.given ≡ false → WarnsCall K call (bytes_left old.input) old.errors new.errors) → (counts_asked call.given ≡ true → CountsCall Writes K call (bytes_left old.input) (bytes_left new.input) old.output new.output old.errors new.errors)
       → Tells K (IsLineOf call fails) old.errors new.errors
   done_told quiet counts = by (counts_asked call.given) refl
     where
@@ -63,14 +59,3 @@ module _ {R W E : Type 0} {Reads : Readers R} (Writes : Writers W) (K : SinkGhos
           tells_both K (IsLineOf call fails) old.errors counted.meanwhile new.errors (warnings_may K call (IsLineOf call fails) (λ line is. inr (inr (inr is))) load (bytes_left old.input) counted.between counted.loaded old.errors warned.0 counted.meanwhile warned.1 warned.2)
           (tells_weaker K (IsCountsLine call.given load.secrets) (IsLineOf call fails) counted.meanwhile new.errors (λ line is. inr (inr (inl (load, bytes_left old.input, counted.between, counted.loaded, is))))
           (tells_counts K call.given counted.meanwhile new.errors load.secrets (sums_of load.secrets counted.counted.counts) counted.volume some counted.counted.told))
-
--- the same of a call with rules
-module _ {E : Type 0} (K : SinkGhosts E) (call : Call) (name : List ℕ) where
-  pub ruled_some_told : (old new : Errors E) → TellsSome K (IsRuledTold call) old new → TellsSome K (IsRuledOutputLine call name) old new
-  ruled_some_told old new some = some_weaker K (IsRuledTold call) (IsRuledOutputLine call name) old new (λ line is. inl is) some
-
-  pub ruled_put_told : (left left' : Option (List ℕ)) (old mid new : Errors E) (reason : Reason) → NotesByRules K call left left' old mid → TellsBytes K mid new (unread_line name reason)
-      → TellsSome K (IsRuledOutputLine call name) old new
-  ruled_put_told left left' old mid new reason notes last =
-      tells_last K (IsRuledOutputLine call name) old mid new (unread_line name reason)
-      (tells_weaker K (IsRuledTold call) (IsRuledOutputLine call name) old mid (λ line is. inl is) (notes_told K call left left' old mid notes)) (inr (inl (reason, refl))) last

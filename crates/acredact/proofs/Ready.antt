@@ -28,7 +28,7 @@ use Rattle.acredact.specs.Loading.{AreGiven, AreRead, OptionGives, Reading, Rule
 use Rattle.acredact.specs.Looks.{CanLook}
 use Rattle.acredact.specs.Parts.{ArePartsBy, GivesPattern, line_secrets, secret_given}
 use Rattle.acredact.specs.Ready.{IsReadyFor}
-use Rattle.acredact.specs.Secrets.{CanRedact, Keyed, Redactor}
+use Rattle.acredact.specs.Secrets.{CanRedact}
 use Rattle.acredact.specs.Tables.{HaveNoEmpty, HoldsBy, Secret, patterns_in}
 use Rattle.acredact.specs.Values.{GiveEach, no_bytes, value_of_entry, whole_in}
 use Rattle.acredact.specs.declared.arguments.Word.{Word}
@@ -122,9 +122,6 @@ words_cover false has is = absurd (cc)
 covers_standard : (given : List Given) → covers_asked given ≡ true → kind_asked given ≡ Standard
 covers_standard given is = standard_by (last_value Kind given) is
 
-abbrev pub redactor_as : Patterns → (covers words : Bool) → List (List ℕ) → Option Keyed → Redactor
-redactor_as p covers words pieces key = record { patterns = p; covers = covers; words = words; pieces = pieces; key = key }
-
 -- a searcher of such patterns begins streams
 begins_of : (searcher : Searcher) (p : Patterns) → IsBuiltFrom searcher p → Answers searcher No → 1 ≤ shortest (map length p.words) → CanBegin of_searcher searcher
 begins_of searcher p built answers some =
@@ -161,13 +158,6 @@ module _ (given : List Given) (secrets : List Secret) (ready : Ready) (is : IsRe
         begins = begins_of ready.searcher p is.of is.answers (some_shortest secrets some);
         standard = λ asked. finds_by p ready.searcher is.of ∙ covers_standard given (words_cover (covers_asked given) (has AsWord given) (sym same ∙ asked));
       }
-
--- what is redacted is the same, by the same
-pub redactor_same : (p : Patterns) (covers covers' words words' : Bool) (pieces pieces' : List (List ℕ)) (key key' : Option Keyed) → covers ≡ covers' → words ≡ words' → pieces ≡ pieces' → key ≡ key'
-    → redactor_as p covers words pieces key ≡ redactor_as p covers' words' pieces' key'
-redactor_same p covers covers' words words' pieces pieces' key key' by chosen alike keyed =
-    ap (λ (b : Bool). redactor_as p b words pieces key) by ∙ ap (λ (b : Bool). redactor_as p covers' b pieces key) chosen
-    ∙ ap (λ (l : List (List ℕ)). redactor_as p covers' words' l key) alike ∙ ap (redactor_as p covers' words' pieces') keyed
 
 -- lists are read alike
 pub reading_from : {F X : Type 0} (D : Folders F X) (lists : Lists F) (folder : F) (rules : Rules) → lists.folder.now ≡ folder → rules_for lists ≡ rules → (P : Reading → Type 0)

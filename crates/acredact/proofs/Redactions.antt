@@ -1,9 +1,10 @@
 -- What a cover or a replacement of a stream writes is a redaction, and what it begins is begun.
-use Rattle.std.proofs.Common.{◌≡◌, ◌≢◌, ℕ, ◌<◌, ◌≤◌, ◌++◌, List, [], true, false, length, map, refl, sym, ap, subst, ◌∙◌, append-nil, arith, le_refl}
-use Rattle.std.specs.Prelude.{Bool, MatchBool, Option, None, Some, Result, Ok, Err, IfErr, OnErr, OnOk, is_some}
+use Rattle.std.proofs.Common.{◌≡◌, ◌≢◌, ◌⊎◌, inl, inr, ℕ, suc, ◌<◌, ◌≤◌, ◌∷◌, ◌++◌, List, [], true, false, length, map, refl, sym, ap, subst, ◌∙◌, append-nil, arith, le_refl}
+use Rattle.std.specs.Prelude.{Bool, MatchBool, Option, None, Some, Result, Ok, Err, IfErr, OnErr, OnOk, is_some, slice_index_or}
 use Rattle.std.specs.Io.{StartsWith}
 use Rattle.std.specs.Io.KnownBytes.{Appends}
 use Rattle.std.proofs.Math.Seq.{take-length}
+use Rattle.std.proofs.lemmas.Result.{IfErr-weaker, on_err_weaker, on_ok_weaker}
 use Rattle.aho_core.specs.Cover.{AreRuns, AreRunsOf}
 use Rattle.aho_core.specs.Iteration.{AreFinds}
 use Rattle.aho_core.specs.Laws.{shortest}
@@ -13,11 +14,10 @@ use Rattle.aho_core.specs.Replacement.{replaced, replaced_by}
 use Rattle.aho_core.specs.Search.{plain_search}
 use Rattle.aho_core.specs.declared.error.MatchErrorKind.{MatchErrorKind}
 use Rattle.aho_core.specs.declared.error.stream.StreamError.{StreamError}
-use Rattle.aho_core.specs.declared.error.stream.StreamError.TheVariants.{Match as Refused, Read, Write, WriteZero, Memory, PositionLimit}
+use Rattle.aho_core.specs.declared.error.stream.StreamError.TheVariants.{Match as Refused, Memory}
 use Rattle.aho_core.specs.declared.search.Anchored.TheVariants.{No}
-use Rattle.aho_devices.specs.Counts.{counted}
 use Rattle.aho_devices.specs.Errors.{CountsErrors}
-use Rattle.aho_devices.specs.Refusals.{is_read_fault, is_write_fault, is_write_of_nothing}
+use Rattle.aho_devices.specs.Refusals.{IsFillRefusal}
 use Rattle.aho_devices.specs.declared.device.Sink.{Ghosts as SinkGhosts}
 use Rattle.aho_devices.specs.declared.device.Source.{Ghosts as SourceGhosts}
 use Rattle.aho_laws.proofs.CoverClean.{cover-free}
@@ -25,6 +25,8 @@ use Rattle.aho_laws.proofs.CoverKept.{kept-uncovered}
 use Rattle.aho_laws.proofs.CoverRuns.{Covers}
 use Rattle.aho_laws.proofs.Iterations.{finds-exist}
 use Rattle.aho_automaton.specs.declared.automaton.Automaton.{Ghosts}
+use Rattle.aho_backward.specs.Searcher.{IsBackwardOf}
+use Rattle.aho_backward.specs.declared.backward.Backward.{Backward}
 use Rattle.aho_stream.specs.After.{greatest_position}
 use Rattle.aho_stream.specs.Refills.{is_limit}
 use Rattle.aho_stream.specs.Replacing.{BeginsReplacing, GaveAsMany, IsStreamFault, MayBe, ReplacesStream}
@@ -38,8 +40,8 @@ use Rattle.aho_cover.proofs.Chosen.{all-are, all-covers, all-made}
 use Rattle.acredact.specs.Pseudonyms.{pseudonym_rule}
 use Rattle.acredact.specs.Secrets.{AreCleanBy, AreReplaced, BeginsRedaction, CountsFor, IsRedaction, Keyed, NoByteIsKept, NoneIsWhole, NoneOccurs, Redactor, rule_by, rule_of}
 use Rattle.acredact.specs.Streams.{ReachesStream, RedactsStream, StartsStream, StreamOutcome}
-use Rattle.acredact.specs.Totals.{CountsOfStream}
-use Rattle.acredact.proofs.Covered.{none_left}
+use Rattle.acredact.specs.Totals.{CountsOfStream, DoesStream}
+use Rattle.acredact.proofs.Covered.{touched_from}
 use Rattle.acredact.proofs.MadeClean.{made-free}
 use Rattle.acredact.proofs.NoneSpelled.{pseudonyms_clean}
 
@@ -63,24 +65,21 @@ module _ (r : Redactor) (text : List ℕ) where
   safe_by : (covers : Bool) (ranges : List Occurrence) → 1 ≤ shortest (map length r.patterns.words) → MatchBool covers (AreRunsOf (CountsFor r text) ranges) (AreFinds r.patterns (plain_search text) None ranges)
       → MatchBool covers (NoByteIsKept r text ranges) (NoneIsWhole r.patterns text ranges)
   safe_by true ranges some found = runs_hide ranges found
-  safe_by false ranges some found = none_left r.patterns some text ranges found
+  safe_by false ranges some found = record { touched = λ o occurs. touched_from r.patterns some text ranges 0 None found o occurs }
 
   ranges_exist : (covers : Bool) → (ranges : List Occurrence) × MatchBool covers (AreRunsOf (CountsFor r text) ranges) (AreFinds r.patterns (plain_search text) None ranges)
   ranges_exist true = (all_runs r.words r.patterns text, all-made r.patterns text r.words)
   ranges_exist false = finds-exist r.patterns (plain_search text) None (le_refl (length text))
 
--- what is replaced where there is no cover, and where there is one
-pub of_finds : (r : Redactor) → r.covers ≡ false → (text : List ℕ) (ms : List Occurrence) → AreFinds r.patterns (plain_search text) None ms → AreReplaced r text ms
-of_finds r plain text ms found = subst (λ (b : Bool). MatchBool b (AreRunsOf (CountsFor r text) ms) (AreFinds r.patterns (plain_search text) None ms)) (sym plain) found
+-- what is replaced where there is a cover, or where there is none
+abbrev pub AreBy : Redactor → Bool → List ℕ → List Occurrence → Type 0
+AreBy r covers text ranges = MatchBool covers (AreRunsOf (CountsFor r text) ranges) (AreFinds r.patterns (plain_search text) None ranges)
 
-pub to_finds : (r : Redactor) → r.covers ≡ false → (text : List ℕ) (ms : List Occurrence) → AreReplaced r text ms → AreFinds r.patterns (plain_search text) None ms
-to_finds r plain text ms found = subst (λ (b : Bool). MatchBool b (AreRunsOf (CountsFor r text) ms) (AreFinds r.patterns (plain_search text) None ms)) plain found
+pub of_way : (r : Redactor) (covers : Bool) → r.covers ≡ covers → (text : List ℕ) (ranges : List Occurrence) → AreBy r covers text ranges → AreReplaced r text ranges
+of_way r covers is text ranges found = subst (λ (b : Bool). AreBy r b text ranges) (sym is) found
 
-of_runs : (r : Redactor) → r.covers ≡ true → (text : List ℕ) (ms : List Occurrence) → AreRunsOf (CountsFor r text) ms → AreReplaced r text ms
-of_runs r covers text ms found = subst (λ (b : Bool). MatchBool b (AreRunsOf (CountsFor r text) ms) (AreFinds r.patterns (plain_search text) None ms)) (sym covers) found
-
-to_runs : (r : Redactor) → r.covers ≡ true → (text : List ℕ) (ms : List Occurrence) → AreReplaced r text ms → AreRunsOf (CountsFor r text) ms
-to_runs r covers text ms found = subst (λ (b : Bool). MatchBool b (AreRunsOf (CountsFor r text) ms) (AreFinds r.patterns (plain_search text) None ms)) covers found
+pub to_way : (r : Redactor) (covers : Bool) → r.covers ≡ covers → (text : List ℕ) (ranges : List Occurrence) → AreReplaced r text ranges → AreBy r covers text ranges
+to_way r covers is text ranges found = subst (λ (b : Bool). AreBy r b text ranges) is found
 
 -- a text with ranges replaced
 abbrev pub redacted : Redactor → List ℕ → List Occurrence → List ℕ
@@ -105,7 +104,7 @@ module _ (r : Redactor) (some : 1 ≤ shortest (map length r.patterns.words)) wh
     found = found;
     safe = safe_by r text r.covers ranges some found;
     is = refl;
-    clean = λ covers all are m. clean_by r.key r.patterns r.pieces are text ranges (plain_runs r text ranges all (to_runs r covers text ranges found)) m;
+    clean = λ covers all are m. clean_by r.key r.patterns r.pieces are text ranges (plain_runs r text ranges all (to_way r true covers text ranges found)) m;
   }
 
   -- what begins the replacement of each text that may come begins its redaction
@@ -140,6 +139,25 @@ module _ {R W : Type 0} {S : SourceGhosts R} {K : SinkGhosts W} {r : Redactor} {
     written = whole.written;
   }
 
+module _ {R W : Type 0} (S : SourceGhosts R) (K : SinkGhosts W) (r : Redactor) (source source' : R) (sink sink' : W) where
+  begun_or : (result : Result (Unit {0}) StreamError) → OnOk result (RedactsStream S K r source source' sink sink') → OnErr result (StartsStream S K r source source' sink sink')
+      → StartsStream S K r source source' sink sink'
+  begun_or (Ok x) whole begun = starts_whole whole
+  begun_or (Err error) whole begun = begun
+
+  -- what comes of a stream, by whether it has ended
+  pub comes_of : (result : Result (Unit {0}) StreamError) → OnOk result (RedactsStream S K r source source' sink sink') → OnErr result (StartsStream S K r source source' sink sink')
+      → (r.covers ≡ true → IfErr result (λ error. IsFillRefusal error → ReachesStream S K r source source' sink sink')) → CountsErrors S K source source' sink sink' result
+      → (is_limit result ≡ true → GaveAsMany S source source' greatest_position) → IfErr result IsStreamEnd → StreamOutcome S K r result source source' sink sink'
+  comes_of result whole begun near errors limit only = record {
+    redacted = whole;
+    begun = begun_or result whole begun;
+    near = near;
+    errors = errors;
+    limit = limit;
+    only = only;
+  }
+
 -- what replaces the finds of the patterns that are searched for redacts by these
 module _ {R W : Type 0} (S : SourceGhosts R) (K : SinkGhosts W) (r : Redactor) (plain : r.covers ≡ false) (unkeyed : r.key ≡ None) (AreSearched : Patterns → Type 0) (of : AreSearched r.patterns)
     (some : 1 ≤ shortest (map length r.patterns.words)) (source source' : R) (sink sink' : W) where
@@ -150,7 +168,7 @@ module _ {R W : Type 0} (S : SourceGhosts R) (K : SinkGhosts W) (r : Redactor) (
         text = whole.given;
         gives = whole.gives;
         redaction = redacted r whole.given finds.0;
-        redacts = redaction_by r some whole.given finds.0 (of_finds r plain whole.given finds.0 finds.1);
+        redacts = redaction_by r some whole.given finds.0 (of_way r false plain whole.given finds.0 finds.1);
         written = subst (Appends (K.taken sink) (K.taken sink')) (sym (redacted_alike r unkeyed whole.given finds.0)) (whole.writes r.patterns finds.0 of finds.1);
       }
 
@@ -161,66 +179,44 @@ module _ {R W : Type 0} (S : SourceGhosts R) (K : SinkGhosts W) (r : Redactor) (
     gives = begun.gives;
     part = begun.written;
     begins = begins_by r some begun.given begun.ended begun.written (λ text ms may found.
-        subst (λ (bytes : List ℕ). StartsWith bytes begun.written) (sym (redacted_alike r unkeyed text ms)) (begun.beginning r.patterns text ms of may (to_finds r plain text ms found)));
+        subst (λ (bytes : List ℕ). StartsWith bytes begun.written) (sym (redacted_alike r unkeyed text ms)) (begun.beginning r.patterns text ms of may (to_way r false plain text ms found)));
     written = begun.writes;
   }
+
+  pub outcome_plain : (result : Result (Unit {0}) StreamError) → OnOk result (ReplacesStream S K AreSearched r.pieces source source' sink sink') → OnErr result (BeginsReplacing S K AreSearched r.pieces source source' sink sink')
+      → CountsErrors S K source source' sink sink' result → (is_limit result ≡ true → GaveAsMany S source source' greatest_position) → IfErr result IsStreamEnd → StreamOutcome S K r result source source' sink sink'
+  outcome_plain result whole begun errors limit only =
+      comes_of S K r source source' sink sink' result (on_ok_weaker result whole_by whole) (on_err_weaker result begun_by begun) (λ covers. absurd (no_cover r plain covers)) errors limit only
 
 -- no pattern is empty of an automaton that can search streams
 pub some_of : {A : Type 0} (G : Ghosts A) (automaton : A) (p : Patterns) → G.lengths automaton ≡ map length p.words → CanBegin G automaton → 1 ≤ shortest (map length p.words)
 some_of G automaton p are can = subst (λ (ns : List ℕ). 1 ≤ shortest ns) are can.1
 
-module _ {A R W : Type 0} (G : Ghosts A) (S : SourceGhosts R) (K : SinkGhosts W) (automaton : A) (r : Redactor) (plain : r.covers ≡ false) (unkeyed : r.key ≡ None) (of : G.is_of automaton r.patterns)
-    (are : G.lengths automaton ≡ map length r.patterns.words) (can : CanBegin G automaton) (source source' : R) (sink sink' : W) where
-  pub some_by : 1 ≤ shortest (map length r.patterns.words)
-  some_by = some_of G automaton r.patterns are can
-
-  -- what suits is not refused
-  never_refused : (result : Result (Unit {0}) StreamError) (error : StreamError) → result ≡ Err error
-      → ((sid : ℕ) (reason : MatchErrorKind) → 1 ≤ shortest (G.lengths automaton) → G.start automaton No ≡ Ok sid → result ≢ Err (Refused reason)) → IsStreamEnd error
-  never_refused result (Refused reason) is suits = absurd (suits can.0 reason can.1 can.2 is)
-  never_refused result (Read fault) is suits = tt
-  never_refused result (Write fault) is suits = tt
-  never_refused result WriteZero is suits = tt
-  never_refused result Memory is suits = tt
-  never_refused result PositionLimit is suits = tt
-
-  pub outcome_of : (result : Result (Unit {0}) StreamError) → OnOk result (ReplacesStream S K (G.is_of automaton) r.pieces source source' sink sink')
-      → OnErr result (BeginsReplacing S K (G.is_of automaton) r.pieces source source' sink sink')
-      → S.failures source' ≡ counted (is_read_fault result) (S.failures source)
-      → K.failures sink' ≡ counted (is_write_fault result) (K.failures sink)
-      → K.empty_writes sink' ≡ counted (is_write_of_nothing result) (K.empty_writes sink)
-      → (is_limit result ≡ true → GaveAsMany S source source' greatest_position)
-      → ((sid : ℕ) (reason : MatchErrorKind) → 1 ≤ shortest (G.lengths automaton) → G.start automaton No ≡ Ok sid → result ≢ Err (Refused reason))
-      → StreamOutcome S K r result source source' sink sink'
-  outcome_of (Ok x) whole begun read_failed write_failed took_nothing limit suits = record {
-    redacted = whole_by S K r plain unkeyed (G.is_of automaton) of some_by source source' sink sink' whole;
-    begun = starts_whole (whole_by S K r plain unkeyed (G.is_of automaton) of some_by source source' sink sink' whole);
-    near = λ covers. tt;
-    read_failed = read_failed;
-    write_failed = write_failed;
-    took_nothing = took_nothing;
-    limit = limit;
-    only = tt;
-  }
-  outcome_of (Err error) whole begun read_failed write_failed took_nothing limit suits = record {
-    redacted = tt;
-    begun = begun_by S K r plain unkeyed (G.is_of automaton) of some_by source source' sink sink' begun;
-    near = λ covers. absurd (no_cover r plain covers);
-    read_failed = read_failed;
-    write_failed = write_failed;
-    took_nothing = took_nothing;
-    limit = limit;
-    only = never_refused (Err error) error refl suits;
-  }
+-- what suits is not refused
+pub never_refused : {A : Type 0} (G : Ghosts A) (automaton : A) → CanBegin G automaton → (result : Result (Unit {0}) StreamError)
+    → ((sid : ℕ) (reason : MatchErrorKind) → 1 ≤ shortest (G.lengths automaton) → G.start automaton No ≡ Ok sid → result ≢ Err (Refused reason)) → IfErr result IsStreamEnd
+never_refused G automaton can (Ok x) suits = tt
+never_refused G automaton can (Err (Refused reason)) suits = absurd (suits can.0 reason can.1 can.2 refl)
+never_refused G automaton can (Err error) suits = tt
 
 -- what ends a stream that was begun
 fault_ends : (error : StreamError) → IsStreamFault error → IsStreamEnd error
 fault_ends (Refused cause) is = absurd is
-fault_ends (Read fault) is = tt
-fault_ends (Write fault) is = tt
-fault_ends WriteZero is = tt
-fault_ends Memory is = tt
-fault_ends PositionLimit is = tt
+fault_ends error is = tt
+
+-- and one that is replaced by a walk backward
+pub back_ends : (error : StreamError) → (error ≡ Memory) ⊎ IsStreamFault error → IsStreamEnd error
+back_ends error (inl memory) = subst IsStreamEnd (sym memory) tt
+back_ends error (inr fault) = fault_ends error fault
+
+-- words of which none is empty
+some_words : (words : List (List ℕ)) → ((number : ℕ) → number < length words → 0 < length (slice_index_or words number [])) → 1 ≤ shortest (map length words)
+some_words [] full = omega arith
+some_words (word ∷ words) full = omega (arith, full 0 (omega arith), some_words words (λ number within. full (suc number) (omega (arith, within))))
+
+-- none is of a searcher by a walk backward
+pub some_back : {A : Type 0} (G : Ghosts A) (searcher : Backward A) (p : Patterns) → IsBackwardOf G searcher p → 1 ≤ shortest (map length p.words)
+some_back G searcher p is = some_words p.words is.turned_from.full
 
 -- no pattern is empty where a cover can begin
 pub some_cover : {A : Type 0} (G : Ghosts A) (automaton : A) {words : Bool} {progress : CoverProgress} (p : Patterns) → G.lengths automaton ≡ map length p.words → IsUnbegunWith words G automaton progress
@@ -237,7 +233,7 @@ module _ {R W : Type 0} (S : SourceGhosts R) (K : SinkGhosts W) (r : Redactor) (
         text = whole.given;
         gives = whole.gives;
         redaction = whole.output;
-        redacts = subst (IsRedaction r whole.given) (sym cover.2) (redaction_by r some whole.given cover.0 (of_runs r covers whole.given cover.0 cover.1));
+        redacts = subst (IsRedaction r whole.given) (sym cover.2) (redaction_by r some whole.given cover.0 (of_way r true covers whole.given cover.0 cover.1));
         written = whole.writes;
       }
 
@@ -248,7 +244,7 @@ module _ {R W : Type 0} (S : SourceGhosts R) (K : SinkGhosts W) (r : Redactor) (
     gives = begun.gives;
     part = begun.written;
     begins = begins_by r some begun.given begun.ended begun.written
-        (λ text runs may found. begun.beginning r.patterns text (redacted r text runs) of may (runs, to_runs r covers text runs found, refl));
+        (λ text runs may found. begun.beginning r.patterns text (redacted r text runs) of may (runs, to_way r true covers text runs found, refl));
     written = begun.writes;
   }
 
@@ -260,49 +256,35 @@ module _ {R W : Type 0} (S : SourceGhosts R) (K : SinkGhosts W) (r : Redactor) (
     place = up.place;
     within = up.within;
     prompt = λ at behind before out. up.prompt r.patterns at of behind before out;
-    written = λ text ranges may found. up.writes r.patterns text ranges of may (to_runs r covers text ranges found);
+    written = λ text ranges may found. up.writes r.patterns text ranges of may (to_way r true covers text ranges found);
   }
 
-  pub outcome_of_cover : (result : Result (Unit {0}) StreamError) → LeavesCoveredWith S K AreSearched r.words (rule_of r) source source' sink sink' result
-      → CountsErrors S K source source' sink sink' result
-      → IfErr result IsStreamFault
-      → StreamOutcome S K r result source source' sink sink'
-  outcome_of_cover (Ok x) leaves errors only = record {
-    redacted = covered_of leaves.covered;
-    begun = starts_whole (covered_of leaves.covered);
-    near = λ covering. tt;
-    read_failed = errors.read_failed;
-    write_failed = errors.write_failed;
-    took_nothing = errors.took_nothing;
-    limit = leaves.limit;
-    only = tt;
-  }
-  outcome_of_cover (Err error) leaves errors only = record {
-    redacted = tt;
-    begun = covering_of leaves.begun;
-    near = λ covering fills. reaching_of (leaves.near fills);
-    read_failed = errors.read_failed;
-    write_failed = errors.write_failed;
-    took_nothing = errors.took_nothing;
-    limit = leaves.limit;
-    only = fault_ends error only;
+  -- what a cover counts
+  runs_counted : (counts counts' : List ℕ) → CountsRunsWith S AreSearched r.words source source' counts counts' → CountsOfStream S r source source' counts counts'
+  runs_counted counts counts' whole =
+      let runs = all_runs r.words r.patterns whole.given in
+      let are = all-made r.patterns whole.given r.words in
+      record { text = whole.given; gives = whole.gives; ranges = runs; found = of_way r true covers whole.given runs are; counted = whole.counted r.patterns runs of are }
+
+  pub does_cover : (result : Result (Unit {0}) StreamError) (counts counts' : List ℕ) → LeavesCoveredWith S K AreSearched r.words (rule_of r) source source' sink sink' result
+      → OnOk result (CountsRunsWith S AreSearched r.words source source' counts counts') → CountsErrors S K source source' sink sink' result → IfErr result IsStreamFault
+      → DoesStream S K result source source' sink sink' counts counts' r
+  does_cover result counts counts' leaves counted errors only = record {
+    outcome = comes_of S K r source source' sink sink' result (on_ok_weaker result covered_of leaves.covered) (on_err_weaker result covering_of leaves.begun) (λ covering. IfErr-weaker result _ _ (λ error up fills. reaching_of (up fills)) leaves.near)
+        errors leaves.limit (IfErr-weaker result IsStreamFault IsStreamEnd fault_ends only);
+    counted = on_ok_weaker result (runs_counted counts counts') counted;
   }
 
--- what a cover counts
-pub counts_of_cover : {R : Type 0} (S : SourceGhosts R) (r : Redactor) → r.covers ≡ true → (AreSearched : Patterns → Type 0) → AreSearched r.patterns → (source source' : R) (counts counts' : List ℕ)
-    → CountsRunsWith S AreSearched r.words source source' counts counts' → CountsOfStream S r source source' counts counts'
-counts_of_cover S r covers AreSearched of source source' counts counts' whole =
-    let runs = all_runs r.words r.patterns whole.given in
-    let are = all-made r.patterns whole.given r.words in
-    record { text = whole.given; gives = whole.gives; ranges = runs; found = of_runs r covers whole.given runs are; counted = whole.counted r.patterns runs of are }
-
--- and where there are no counts
-pub uncounted : {R W : Type 0} (S : SourceGhosts R) {K : SinkGhosts W} (r : Redactor) (source source' : R) (sink sink' : W) (counts : List ℕ) → length counts ≡ 0 → RedactsStream S K r source source' sink sink'
-    → CountsOfStream S r source source' counts counts
-uncounted S r source source' sink sink' counts none whole = record {
-  text = whole.text;
-  gives = whole.gives;
-  ranges = whole.redacts.ranges;
-  found = whole.redacts.found;
-  counted = record { as_many = refl; grown = λ number (within : number < length counts). absurd (omega (arith, within, none)) };
+-- where there are no counts
+pub uncounted : {R W : Type 0} (S : SourceGhosts R) (K : SinkGhosts W) (r : Redactor) (result : Result (Unit {0}) StreamError) (source source' : R) (sink sink' : W) (counts : List ℕ) → length counts ≡ 0
+    → StreamOutcome S K r result source source' sink sink' → DoesStream S K result source source' sink sink' counts counts r
+uncounted S K r result source source' sink sink' counts none outcome = record {
+  outcome = outcome;
+  counted = on_ok_weaker result (λ whole. record {
+    text = whole.text;
+    gives = whole.gives;
+    ranges = whole.redacts.ranges;
+    found = whole.redacts.found;
+    counted = record { as_many = refl; grown = λ number (within : number < length counts). absurd (omega (arith, within, none)) };
+  }) outcome.redacted;
 }

@@ -1,9 +1,10 @@
 -- What comes of a call with rules, and its status.
-use Rattle.std.proofs.Common.{◌≡◌, ◌<◌, inl, inr, ℕ, ◌-◌, List, [], ◌∷◌, Option, true, false, refl, sym, ap, subst, ◌+◌, ◌++◌, ◌∙◌, append-nil, length, length-append, map, arith}
+use Rattle.std.proofs.Common.{◌≡◌, ◌<◌, inl, inr, ℕ, ◌-◌, List, [], ◌∷◌, Option, true, false, refl, sym, ap, subst, ◌+◌, ◌++◌, ◌∙◌, length, length-append, map, arith}
 use Rattle.std.specs.Prelude.{Bool, MatchBool, Result, Ok, Err, IfOk, IsErr, OnOk, min, replicate, slice_index, ◌^◌, ◌==◌, if◌then◌else◌}
 use Rattle.std.proofs.KnownBytes.{Keeps-refl}
 use Rattle.std.proofs.lemmas.List.{get_or-replicate, length-map, length-replicate}
-use Rattle.std.proofs.lemmas.List.Elements.{All-cons, All-nil}
+use Rattle.std.proofs.lemmas.List.Elements.{All-nil}
+use Rattle.std.proofs.lemmas.Result.{IfOk-weaker}
 use Rattle.aho_core.specs.Occurrence.{Occurrence}
 use Rattle.std.specs.Borrow.{Bor}
 use Rattle.aho_cover.specs.Counting.{CountsThese, runs_named}
@@ -15,44 +16,25 @@ use Rattle.secret_rules.specs.declared.error.LineError.{LineError}
 use Rattle.secret_rules.specs.declared.rule.Rule.{Rule}
 use Rattle.acredact.specs.Arguments.{Given, counts_asked, has}
 use Rattle.acredact.specs.Calls.{Call, IsUnreadLine, names_asked, pieces_asked, reading_by, text_asked}
-use Rattle.acredact.specs.Doubts.{TellsDoubts, all_doubt_lines, last_of}
-use Rattle.acredact.specs.Failures.{IsFailureLine}
+use Rattle.acredact.specs.Doubts.{TellsDoubts, last_of}
 use Rattle.acredact.specs.LineRules.{most_asked}
 use Rattle.acredact.specs.RuleLines.{IsRuledLine, too_long_line}
 use Rattle.acredact.specs.Loading.{key_lent}
 use Rattle.acredact.specs.LongLines.{long_told, whole_number}
 use Rattle.acredact.specs.RunCounts.{CountsAllRuns, IsRunsLine, TellsAnyTotals, TellsRunCounts, TellsRunTotals, run_totals_text}
-use Rattle.acredact.specs.Ruled.{AreRuledLoaded, CountsByRules, IsRuledNotice, IsRuledTold, LinedFiles, NotesByRules, NumbersOf, RuledCall, RuledLoad, RuledOutcome, RuledStatus, RuledWork, own_text, patterns_by_case, rule_asked, ruled_by, ruled_load, ruling_as, ruling_by, texts_asked}
+use Rattle.acredact.specs.Ruled.{AreRuledLoaded, CountsByRules, IsRuledTold, LinedFiles, NotesByRules, NumbersOf, RuledCall, RuledLoad, RuledOutcome, RuledStatus, own_text, patterns_by_case, rule_asked, ruled_by, ruled_load, ruling_as, ruling_by, texts_asked}
 use Rattle.acredact.specs.Summaries.{no_volume}
 use Rattle.acredact.specs.Tables.{Secret, patterns_in, piece_by, secret_of, secrets_of}
 use Rattle.acredact.specs.Totals.{AreTotals}
 use Rattle.acredact.specs.Volumes.{ReadsVolume}
-use Rattle.acredact.specs.declared.failure.Failure.{Failure}
 use Rattle.acredact.specs.declared.arguments.Word.TheVariants.{AsWord}
 use Rattle.acredact.specs.declared.patterns.Rule.{Rule as PatternRule}
 use Rattle.acredact.specs.declared.ruled_failure.RuledFailure.{RuledFailure}
-use Rattle.acredact.specs.declared.ruled_failure.RuledFailure.TheVariants.{Plain}
 use Rattle.acredact.specs.declared.summary.Volume.{Volume}
-use Rattle.acredact.proofs.Calls.{tells_last, tells_same}
+use Rattle.acredact.proofs.Calls.{some_behind, some_then, some_weaker, tells_both, tells_last, tells_line, tells_same, tells_weaker}
 use Rattle.acredact.proofs.LongLines.{long_of_runs}
-use Rattle.acredact.proofs.PlacedCalls.{tells_weaker}
-use Rattle.acredact.proofs.RuledFiles.{none_begun, some_then, some_weaker}
-use Rattle.acredact.proofs.Warned.{all_members, some_behind, tells_both}
-
-abbrev done_as : Bool → Result Bool RuledFailure
-done_as all = Ok all
-
-ok_is : (a b : Bool) → done_as a ≡ done_as b → a ≡ b
-ok_is a b same = let is = same in cc
-
--- what a call answers is what its files answered
-answers_all : (all done : Bool) (result : Result Bool RuledFailure) → IfOk result (λ done. done ≡ all) → result ≡ Ok done → all ≡ done
-answers_all all done (Ok other) same is = sym same ∙ ok_is other done is
-answers_all all done (Err failure) same is = absurd (cc)
-
-on_all : {P : Type 0} (done : Bool) (result : Result Bool RuledFailure) → OnOk result P → result ≡ Ok done → P
-on_all done (Ok other) holds is = holds
-on_all done (Err failure) holds is = absurd (cc)
+use Rattle.acredact.proofs.RuledFiles.{none_begun, told_any, told_as}
+use Rattle.acredact.proofs.Warned.{doubts_tell}
 
 -- counts that were zero are those of all runs
 totals_of : (last size : ℕ) (runs : List Occurrence) (zeros counts' : List ℕ) → zeros ≡ replicate size 0 → size ≡ last + 1 → CountsThese runs zeros counts' → AreTotals (last + 1) runs counts'
@@ -72,17 +54,10 @@ last_total last runs counts' totals =
     let place : length counts' - 1 ≡ last = omega (arith, totals.one_each) in
     ap (slice_index counts') place ∙ totals.each last (omega arith)
 
-whole_is : (given : List Given) (load : RuledLoad) → whole_number (ruling_by given load).covering ≡ length load.secrets + length load.rules
-whole_is given load = ap (λ (n : ℕ). n + length load.rules) (length-map load.secrets (λ secret. secret.pattern))
-
 -- the counts were told
 pub runs_told : {E : Type 0} (K : SinkGhosts E) (given : List Given) (secrets : List Secret) (rules : List Rule) (counts : List ℕ) (volume : Volume) (errors errors' : Errors E) → counts_asked given ≡ true
     → TellsBytes K errors errors' (run_totals_text given secrets rules counts volume) → Tells K (IsRunsLine given) errors errors'
-runs_told K given secrets rules counts volume errors errors' is told = record {
-  told = run_totals_text given secrets rules counts volume ∷ [];
-  are_lines = All-cons (IsRunsLine given) (run_totals_text given secrets rules counts volume) [] (is, secrets, rules, counts, volume, refl) (All-nil (IsRunsLine given));
-  written = subst (TellsBytes K errors errors') (sym (append-nil (run_totals_text given secrets rules counts volume))) told;
-}
+runs_told K given secrets rules counts volume errors errors' is told = tells_line K (IsRunsLine given) errors errors' (run_totals_text given secrets rules counts volume) (is, secrets, rules, counts, volume, refl) told
 
 -- there is a text for each pattern, each rule, and lines that are too long
 pub texts_many : (given : List Given) (load : RuledLoad) → length (texts_asked given load) ≡ length load.secrets + length load.rules + 1
@@ -110,56 +85,26 @@ pub ruling_same : (given : List Given) (secrets : List PatternRule) (rules : Lis
     → words ≡ has AsWord given → most ≡ most_asked given → texts ≡ texts_asked given (ruled_load secrets rules key) → rule ≡ rule_asked given texts (key_lent key) (length secrets)
     → ruling_as words rules most rule (patterns_by_case given (patterns_in (secrets_of secrets))) ≡ ruling_by given (ruled_load secrets rules key)
 ruling_same given secrets rules key words most texts rule is_words is_most are is_rule =
-    let p = patterns_by_case given (patterns_in (secrets_of secrets)) in
-    let asked : rule ≡ rule_asked given (texts_asked given (ruled_load secrets rules key)) (key_lent key) (length (secrets_of secrets)) =
-    is_rule
-    ∙ ap (λ (l : List (List ℕ)). rule_asked given l (key_lent key) (length secrets)) are
-    ∙ ap (λ (n : ℕ). rule_asked given (texts_asked given (ruled_load secrets rules key)) (key_lent key) n) (sym (length-map secrets secret_of)) in
-    ap (λ (w : Bool). ruling_as w rules most rule p) is_words
-    ∙ ap (λ (m : ℕ). ruling_as (has AsWord given) rules m rule p) is_most
-    ∙ ap (λ (r : PieceRule). ruling_as (has AsWord given) rules (most_asked given) r p) asked
-
-module _ {E : Type 0} (K : SinkGhosts E) (result : Result Bool LineError) (counts counts' : List ℕ) (left left' held held' : Option (List ℕ)) (errors errors' : Errors E) where
-  -- and so is what comes of it
-  pub files_same : (work work' : RuledWork) (names names' : List (List ℕ)) → work ≡ work' → names ≡ names' → LinedFiles K work names result counts counts' left left' held held' errors errors'
-      → LinedFiles K work' names' result counts counts' left left' held held' errors errors'
-  files_same work work' names names' same alike files =
-      subst (λ (l : List (List ℕ)). LinedFiles K work' l result counts counts' left left' held held' errors errors') alike
-      (subst (λ (w : RuledWork). LinedFiles K w names result counts counts' left left' held held' errors errors') same files)
+    rw (is_words, is_most, is_rule, are, length-map secrets secret_of) refl
 
 module _ {E : Type 0} (K : SinkGhosts E) (call : Call) where
   -- it ended before a file was read
   pub ruled_early : (failure : RuledFailure) (left left' held : Option (List ℕ)) (errors errors' : Errors E) → Tells K (IsRuledTold call) errors errors' → RuledCall K call (Err failure) left left' held held errors errors'
-  ruled_early failure left left' held errors errors' told = record {
-    whole = λ (is : Err failure ≡ Ok true). absurd (cc);
-    begun = inl (Keeps-refl held);
-    tells = record { told = told; partly = λ (is : Err failure ≡ Ok false). absurd (cc) };
-    notes = λ (is : Err failure ≡ Ok true). absurd (cc);
-  }
+  ruled_early failure left left' held errors errors' told = record { whole = tt; begun = inl (Keeps-refl held); tells = record { told = told; partly = tt }; notes = tt }
 
   -- the same of what was loaded
   pub ruled_none : (load : RuledLoad) (result : Result Bool RuledFailure) (left held : Option (List ℕ)) (errors : Errors E) → IsErr result → RuledOutcome K call load result left left held held errors errors
   ruled_none load (Ok all) left held errors is = absurd (cc)
   ruled_none load (Err failure) left held errors is = record {
-    whole = λ (is : Err failure ≡ Ok true). absurd (cc);
+    whole = tt;
     begun = none_begun (ruled_by call load) (names_asked call.given) left held;
-    tells = record { told = tells_same K (IsRuledTold call) errors errors refl; partly = λ (is : Err failure ≡ Ok false). absurd (cc) };
-    notes = λ (is : Err failure ≡ Ok true). absurd (cc);
+    tells = record { told = tells_same K (IsRuledTold call) errors errors refl; partly = tt };
+    notes = tt;
   }
 
   -- doubtful patterns of lists may be told
-  doubts_told : (secrets : List Secret) (errors errors' : Errors E) → TellsDoubts K false call.given secrets errors errors' → Tells K (IsRuledNotice call) errors errors'
-  doubts_told secrets errors errors' told = record {
-    told = all_doubt_lines call.given secrets;
-    are_lines = all_members (IsRuledNotice call) (all_doubt_lines call.given secrets) (λ line is. inl (secrets, is));
-    written = told;
-  }
-
-  notice_told : (line : List ℕ) → IsRuledNotice call line → IsRuledTold call line
-  notice_told line is = inr (inr is)
-
   pub all_doubts_told : (secrets : List Secret) (errors errors' : Errors E) → TellsDoubts K false call.given secrets errors errors' → Tells K (IsRuledTold call) errors errors'
-  all_doubts_told secrets errors errors' told = tells_weaker K (IsRuledNotice call) (IsRuledTold call) errors errors' notice_told (doubts_told secrets errors errors' told)
+  all_doubts_told secrets errors errors' told = doubts_tell K (IsRuledTold call) false call.given secrets errors errors' (λ lax line member. inr (inr (inl (secrets, member)))) told
 
   -- behind what is told of them what was loaded decides what comes of the call
   pub ruled_behind : (load : RuledLoad) (result : Result Bool RuledFailure) (left between left' held held' : Option (List ℕ)) (errors meanwhile errors' : Errors E)
@@ -168,13 +113,13 @@ module _ {E : Type 0} (K : SinkGhosts E) (call : Call) where
   ruled_behind load result left between left' held held' errors meanwhile errors' loaded doubted of =
       let before = all_doubts_told load.secrets errors meanwhile doubted in
       record {
-        whole = λ is. record { load = load; between = between; loaded = loaded; redacted = of.whole is };
-        begun = inr (record { load = load; between = between; loaded = loaded; begun = of.begun });
+        whole = IfOk-weaker result _ _ (λ all whole is. record { load = load; between = between; loaded = loaded; is = whole is }) of.whole;
+        begun = inr (record { load = load; between = between; loaded = loaded; is = of.begun });
         tells = record {
           told = tells_both K (IsRuledTold call) errors meanwhile errors' before of.tells.told;
-          partly = λ is. some_behind K (IsRuledTold call) errors meanwhile errors' before (of.tells.partly is);
+          partly = IfOk-weaker result _ _ (λ all partly is. some_behind K (IsRuledTold call) errors meanwhile errors' before (partly is)) of.tells.partly;
         };
-        notes = λ is. record { load = load; between = between; loaded = loaded; notes = record { meanwhile = meanwhile; doubted = doubted; numbers = of.notes is } };
+        notes = IfOk-weaker result _ _ (λ all notes is. record { load = load; between = between; loaded = loaded; is = record { meanwhile = meanwhile; doubted = doubted; numbers = notes is } }) of.notes;
       }
 
   -- how many lines were too long may be told
@@ -183,11 +128,7 @@ module _ {E : Type 0} (K : SinkGhosts E) (call : Call) where
     where
       by : (b : Bool) → TellsBytes K errors errors' (if b then [] else too_long_line (most_asked call.given) count) → Tells K (IsRuledTold call) errors errors'
       by true none = record { told = []; are_lines = All-nil (IsRuledTold call); written = none }
-      by false line = record {
-        told = too_long_line (most_asked call.given) count ∷ [];
-        are_lines = All-cons (IsRuledTold call) (too_long_line (most_asked call.given) count) [] (inr (inr (inr (inl (count, refl))))) (All-nil (IsRuledTold call));
-        written = subst (TellsBytes K errors errors') (sym (append-nil (too_long_line (most_asked call.given) count))) line;
-      }
+      by false line = tells_line K (IsRuledTold call) errors errors' (too_long_line (most_asked call.given) count) (inr (inr (inr (inl (count, refl))))) line
 
   -- and then the counts
   counts_lines : (errors errors' : Errors E) → Tells K (IsRunsLine call.given) errors errors' → Tells K (IsRuledTold call) errors errors'
@@ -203,7 +144,7 @@ module _ {E : Type 0} (K : SinkGhosts E) (call : Call) where
   -- what is told where all was redacted
   pub notes_told : (left left' : Option (List ℕ)) (errors errors' : Errors E) → NotesByRules K call left left' errors errors' → Tells K (IsRuledTold call) errors errors'
   notes_told left left' errors errors' of =
-      let notes = of.notes in
+      let notes = of.is in
       let numbers = notes.numbers in
       let doubts = all_doubts_told of.load.secrets errors notes.meanwhile notes.doubted in
       let long = long_lines (min numbers.long.count (2 ^ 64 - 1)) notes.meanwhile numbers.meanwhile numbers.long.told in
@@ -213,7 +154,7 @@ module _ {E : Type 0} (K : SinkGhosts E) (call : Call) where
   -- and the counts, where they are asked for
   pub counts_by_rules : (left left' : Option (List ℕ)) (errors errors' : Errors E) → counts_asked call.given ≡ true → NotesByRules K call left left' errors errors' → CountsByRules K call left left' errors'
   counts_by_rules left left' errors errors' is of =
-      let numbers = of.notes.numbers in
+      let numbers = of.is.numbers in
       record {
         load = of.load;
         between = of.between;
@@ -239,7 +180,7 @@ module _ {E : Type 0} (K : SinkGhosts E) (call : Call) where
         long = record {
           count = runs_named (whole_number covering) runs;
           have = long_of_runs covering call.holds (names_asked call.given) runs left left' have;
-          told = subst (λ (n : ℕ). TellsBytes K errors second (long_told (most_asked call.given) n)) (last_total (length load.secrets + length load.rules) runs counts' totals ∙ ap (λ (n : ℕ). min (runs_named n runs) (2 ^ 64 - 1)) (sym (whole_is call.given load))) long;
+          told = subst (λ (n : ℕ). TellsBytes K errors second (long_told (most_asked call.given) n)) (last_total (length load.secrets + length load.rules) runs counts' totals ∙ ap (λ (n : ℕ). min (runs_named n runs) (2 ^ 64 - 1)) (sym (ap (λ (n : ℕ). n + length load.rules) (length-map load.secrets (λ secret. secret.pattern))))) long;
         };
         runs = runs;
         have = have;
@@ -254,35 +195,38 @@ module _ {E : Type 0} (K : SinkGhosts E) (call : Call) where
       → (all ≡ true → ReadsVolume call.holds (names_asked call.given) no_volume volume left left')
       → TellsBytes K first second (long_told (most_asked call.given) (last_of counts')) → IfOk result (λ done. done ≡ all) → OnOk result (TellsCountsAny K call.given load counts' volume second errors')
       → Tells K (IsRunsLine call.given) second errors' → RuledOutcome K call load result left left' held held' errors errors'
-  files_done load all result size zeros counts' volume left left' held held' errors first second errors' files are sized read long same told lines =
-      let unread = λ (line : List ℕ) (is : IsUnreadLine (names_asked call.given) line). inl is in
-      let later = tells_both K (IsRuledTold call) first second errors' (long_lines (last_of counts') first second long) (counts_lines second errors' lines) in
-      record {
-        whole = λ is. files.whole (ap Ok (answers_all all true result same is));
+  files_done load all result size zeros counts' volume left left' held held' errors first second errors' files are sized read long same told lines = by result same told
+    where
+      later : Tells K (IsRuledTold call) first errors'
+      later = tells_both K (IsRuledTold call) first second errors' (long_lines (last_of counts') first second long) (counts_lines second errors' lines)
+
+      all_told : Tells K (IsRuledTold call) errors errors'
+      all_told = tells_both K (IsRuledTold call) errors first errors' (told_any {X = LineError} K (names_asked call.given) (IsRuledTold call) (Ok all) errors first (λ line is. inl is) files.told) later
+
+      by : (result : Result Bool RuledFailure) → IfOk result (λ done. done ≡ all) → OnOk result (TellsCountsAny K call.given load counts' volume second errors') → RuledOutcome K call load result left left' held held' errors errors'
+      by (Ok done) same told = record {
+        whole = λ is. (files.whole (sym same ∙ is)).0;
         begun = files.begun;
         tells = record {
-          told = tells_both K (IsRuledTold call) errors first errors' (tells_weaker K (IsUnreadLine (names_asked call.given)) (IsRuledTold call) errors first unread files.told) later;
+          told = all_told;
           partly = λ is. some_then K (IsRuledTold call) errors first errors'
-              (some_weaker K (IsUnreadLine (names_asked call.given)) (IsRuledTold call) errors first unread (files.partly (ap Ok (answers_all all false result same is)))) later;
+              (some_weaker K (IsUnreadLine (names_asked call.given)) (IsRuledTold call) errors first (λ line unread. inl unread) (told_as LineError K (names_asked call.given) all false errors first (sym same ∙ is) files.told)) later;
         };
         notes = λ is.
-            let whole = answers_all all true result same is in
-            numbers_of load size zeros counts' volume left left' errors second errors' are sized (files.counted (ap Ok whole)) (read whole)
-            (subst (λ (e : Errors E). TellsBytes K e second (long_told (most_asked call.given) (last_of counts'))) (files.quiet (ap Ok whole)) long)
-            (on_all true result told is);
+            let whole = sym same ∙ is in
+            numbers_of load size zeros counts' volume left left' errors second errors' are sized (files.whole whole).1 (read whole)
+            (subst (λ (e : Errors E). TellsBytes K e second (long_told (most_asked call.given) (last_of counts'))) (told_as LineError K (names_asked call.given) all true errors first whole files.told) long) told;
       }
+      by (Err failure) same told = record { whole = tt; begun = files.begun; tells = record { told = all_told; partly = tt }; notes = tt }
 
   -- or not all of them
   pub files_failed : (load : RuledLoad) (error : LineError) (failure : RuledFailure) (counts counts' : List ℕ) (left left' held held' : Option (List ℕ)) (errors errors' : Errors E)
       → LinedFiles K (ruled_by call load) (names_asked call.given) (Err error) counts counts' left left' held held' errors errors' → RuledOutcome K call load (Err failure) left left' held held' errors errors'
   files_failed load error failure counts counts' left left' held held' errors errors' files = record {
-    whole = λ (is : Err failure ≡ Ok true). absurd (cc);
+    whole = tt;
     begun = files.begun;
-    tells = record {
-      told = tells_weaker K (IsUnreadLine (names_asked call.given)) (IsRuledTold call) errors errors' (λ line is. inl is) files.told;
-      partly = λ (is : Err failure ≡ Ok false). absurd (cc);
-    };
-    notes = λ (is : Err failure ≡ Ok true). absurd (cc);
+    tells = record { told = told_any {X = LineError} K (names_asked call.given) (IsRuledTold call) (Err error) errors errors' (λ line is. inl is) files.told; partly = tt };
+    notes = tt;
   }
 
   -- all was done
@@ -312,9 +256,3 @@ module _ {E : Type 0} (K : SinkGhosts E) (call : Call) where
     tells = λ two. tells_last K (IsRuledTold call) errors meanwhile errors' line of.tells.told (inr (inl (failure, is))) told;
     notes = λ (none : 2 ≡ 0). absurd (omega (arith, none));
   }
-
-  -- the arguments were refused, or there was no memory to read them
-  pub ruled_refused : (left held : Option (List ℕ)) (failure : Failure) (errors errors' : Errors E) (line : List ℕ) → IsFailureLine failure line → TellsBytes K errors errors' line
-      → RuledStatus K call 2 left left held held errors errors'
-  ruled_refused left held failure errors errors' line is told =
-      ruled_failed (Plain failure) line left left held held errors errors errors' (ruled_early (Plain failure) left left held errors errors (tells_same K (IsRuledTold call) errors errors refl)) is told

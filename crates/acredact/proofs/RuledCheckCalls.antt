@@ -1,13 +1,13 @@
 -- What comes of a check by rules, from what is seen of its files up to its status.
-use Rattle.std.proofs.Common.{◌≡◌, inl, inr, ℕ, List, Option, true, false, refl, sym, ap, subst, ◌∙◌, arith}
-use Rattle.std.specs.Prelude.{Bool, ◌<◌, ◌≤◌, Result, Ok, Err, IsErr}
+use Rattle.std.proofs.Common.{◌≡◌, inl, inr, ℕ, List, Option, true, false, refl, sym, subst, arith}
+use Rattle.std.specs.Prelude.{Bool, ◌≤◌, Result, Ok, Err, IsErr}
 use Rattle.std.specs.Io.KnownBytes.{Keeps}
 use Rattle.std.specs.declared.io.traits.Write.{Ghosts as Writers}
 use Rattle.std.proofs.KnownBytes.{Keeps-refl}
 use Rattle.aho_devices.specs.declared.adapters.FromWrite.{FromWrite}
 use Rattle.aho_devices.specs.declared.device.Sink.{Ghosts as SinkGhosts}
 use Rattle.tool_parts.specs.Streams.{output_bytes}
-use Rattle.tool_parts.specs.Telling.{Tells, TellsBytes}
+use Rattle.tool_parts.specs.Telling.{Tells}
 use Rattle.tool_parts.specs.declared.errors.Errors.{Errors}
 use Rattle.secret_rules.specs.Covering.{covering_by}
 use Rattle.secret_rules.specs.declared.error.LineError.{LineError}
@@ -15,23 +15,18 @@ use Rattle.secret_rules.specs.declared.rule.Rule.{Rule}
 use Rattle.acredact.specs.Arguments.{has}
 use Rattle.acredact.specs.Calls.{Call, IsUnreadLine, names_asked, reading_by}
 use Rattle.acredact.specs.Doubts.{TellsDoubts}
-use Rattle.acredact.specs.Failures.{IsFailureLine}
-use Rattle.acredact.specs.RuleLines.{IsRuledLine}
 use Rattle.acredact.specs.LineRules.{most_asked}
 use Rattle.acredact.specs.Ruled.{AreRulesGiven, IsRuledTold, patterns_by_case}
-use Rattle.acredact.specs.RuledChecks.{BeginsLoadedCheck, BeginsRuledCheck, CheckLoad, CheckedLines, LineQuest, RuledCheck, RuledCheckStatus, SeenFiles, TellsRuledCheck, line_quest_by}
+use Rattle.acredact.specs.RuledChecks.{BeginAllTelling, BeginsLoadedCheck, BeginsRuledCheck, CheckLoad, CheckedLines, LineQuest, RuledCheck, RuledCheckStatus, SeesByRules, SeenFiles, line_quest_by}
 use Rattle.acredact.specs.Statuses.{check_status}
 use Rattle.acredact.specs.Tables.{patterns_in}
 use Rattle.acredact.specs.declared.arguments.Word.TheVariants.{AsWord, Summary}
-use Rattle.acredact.specs.declared.failure.Failure.{Failure}
 use Rattle.acredact.specs.declared.look.Verdict.{Verdict}
 use Rattle.acredact.specs.declared.ruled_failure.RuledFailure.{RuledFailure}
-use Rattle.acredact.specs.declared.ruled_failure.RuledFailure.TheVariants.{Plain}
-use Rattle.acredact.proofs.Calls.{tells_last, tells_same}
-use Rattle.acredact.proofs.PlacedCalls.{tells_weaker}
+use Rattle.acredact.proofs.Calls.{some_behind, some_weaker, tells_both, tells_same}
+use Rattle.acredact.proofs.Checks.{says_seen}
 use Rattle.acredact.proofs.RuledCalls.{all_doubts_told}
-use Rattle.acredact.proofs.RuledFiles.{some_weaker}
-use Rattle.acredact.proofs.Warned.{some_behind, tells_both}
+use Rattle.acredact.proofs.RuledFiles.{told_any, told_as}
 
 -- what is looked for by such parts is that of the call
 abbrev pub quest_as : Call → CheckLoad → Bool → List Rule → ℕ → List (List ℕ) → LineQuest
@@ -44,17 +39,7 @@ quest_as call load words told most texts = record {
 pub quest_same : (call : Call) (load : CheckLoad) (words : Bool) (told : List Rule) (most : ℕ) (texts : List (List ℕ)) → words ≡ has AsWord call.given → told ≡ load.rules → most ≡ most_asked call.given
     → texts ≡ patterns_in load.secrets → quest_as call load words told most texts ≡ line_quest_by call load
 quest_same call load words told most texts is_words is_told is_most is_texts =
-    ap (λ (w : Bool). quest_as call load w told most texts) is_words
-    ∙ ap (λ (t : List Rule). quest_as call load (has AsWord call.given) t most texts) is_told
-    ∙ ap (λ (m : ℕ). quest_as call load (has AsWord call.given) load.rules m texts) is_most
-    ∙ ap (λ (l : List (List ℕ)). quest_as call load (has AsWord call.given) load.rules (most_asked call.given) l) is_texts
-
-module _ {E : Type 0} (K : SinkGhosts E) (result : Result Verdict LineError) (left left' held held' : Option (List ℕ)) (errors errors' : Errors E) where
-  -- and so is what is seen
-  pub seen_same : (quest quest' : LineQuest) (names names' : List (List ℕ)) → quest ≡ quest' → names ≡ names' → SeenFiles K quest names result left left' held held' errors errors' → SeenFiles K quest' names' result left left' held held' errors errors'
-  seen_same quest quest' names names' same alike files =
-      subst (λ (l : List (List ℕ)). SeenFiles K quest' l result left left' held held' errors errors') alike
-      (subst (λ (q : LineQuest). SeenFiles K q names result left left' held held' errors errors') same files)
+    rw (is_words, is_told, is_most, is_texts) refl
 
 -- the same output holds the same
 pub same_kept : {W : Type 0} (Writes : Writers W) (output output' : FromWrite W) → output' ≡ output → Keeps (output_bytes Writes output) (output_bytes Writes output')
@@ -76,62 +61,43 @@ module _ {E : Type 0} (K : SinkGhosts E) (call : Call) where
   check_none load (Ok verdict) left held errors is = absurd (cc)
   check_none load (Err failure) left held errors is = record { whole = tt; begun = inl (Keeps-refl held); tells = record { told = tells_same K (IsRuledTold call) errors errors refl; partly = tt }; quiet = tt }
 
-  unread : (line : List ℕ) → IsUnreadLine (names_asked call.given) line → IsRuledTold call line
-  unread line is = inl is
+  module _ (load : CheckLoad) (left left' held held' seen seen' : Option (List ℕ)) (errors errors' : Errors E)
+      (told : has Summary call.given ≡ true → (seen ≡ held) × (seen' ≡ held')) (untold : has Summary call.given ≡ false → Keeps held held') where
+    -- where that is asked for it was told what was found
+    begun_told : BeginAllTelling (line_quest_by call load) (names_asked call.given) left left' seen seen' → BeginsLoadedCheck call left left' held held' load
+    begun_told begun = by (has Summary call.given) refl
+      where
+        by : (b : Bool) → has Summary call.given ≡ b → BeginsLoadedCheck call left left' held held' load
+        by true is = let same = told is in inr (rw same.1 at (rw same.0 at begun))
+        by false is = inl (untold is)
 
-  -- the files were looked at, and where that is asked for it was told what was found
-  pub files_looked : (load : CheckLoad) (verdict : Verdict) (left left' held held' seen seen' : Option (List ℕ)) (errors errors' : Errors E)
-      → SeenFiles K (line_quest_by call load) (names_asked call.given) (Ok verdict) left left' seen seen' errors errors'
-      → (has Summary call.given ≡ true → (seen ≡ held) × (seen' ≡ held')) → (has Summary call.given ≡ false → Keeps held held')
-      → CheckedLines K call load (Ok verdict) left left' held held' errors errors'
-  files_looked load verdict left left' held held' seen seen' errors errors' files told untold = by (has Summary call.given) refl
-    where
-      by : (b : Bool) → has Summary call.given ≡ b → CheckedLines K call load (Ok verdict) left left' held held' errors errors'
-      by true is =
-          let same = told is in
-          let mine = subst (λ (h : Option (List ℕ)). SeenFiles K (line_quest_by call load) (names_asked call.given) (Ok verdict) left left' held h errors errors') same.1
-          (subst (λ (h : Option (List ℕ)). SeenFiles K (line_quest_by call load) (names_asked call.given) (Ok verdict) left left' h seen' errors errors') same.0 files) in
-          record {
-            whole = λ all. let sees = mine.whole all in record { runs = sees.runs; have = sees.have; found_is = sees.found_is; told = λ summary. sees.told };
-            begun = inr mine.begun;
-            tells = record {
-              told = tells_weaker K (IsUnreadLine (names_asked call.given)) (IsRuledTold call) errors errors' unread mine.told;
-              partly = λ none. some_weaker K (IsUnreadLine (names_asked call.given)) (IsRuledTold call) errors errors' unread (mine.partly none);
-            };
-            quiet = mine.quiet;
-          }
-      by false is = record {
-        whole = λ all. let sees = files.whole all in record {
-          runs = sees.runs;
-          have = sees.have;
-          found_is = sees.found_is;
-          told = λ summary. let clash : true ≡ false = sym summary ∙ is in absurd (cc);
-        };
-        begun = inl (untold is);
-        tells = record {
-          told = tells_weaker K (IsUnreadLine (names_asked call.given)) (IsRuledTold call) errors errors' unread files.told;
-          partly = λ none. some_weaker K (IsUnreadLine (names_asked call.given)) (IsRuledTold call) errors errors' unread (files.partly none);
-        };
-        quiet = files.quiet;
-      }
+    -- the files were looked at
+    pub files_looked : (verdict : Verdict) → SeenFiles K (line_quest_by call load) (names_asked call.given) (Ok verdict) left left' seen seen' errors errors' → CheckedLines K call load (Ok verdict) left left' held held' errors errors'
+    files_looked verdict files = record {
+      whole = λ all. let sees = files.whole all in record {
+        runs = sees.runs;
+        have = sees.have;
+        found_is = sees.found_is;
+        told = λ summary. let same = told summary in rw same.1 at (rw same.0 at sees.told);
+      };
+      begun = begun_told files.begun;
+      tells = record {
+        told = told_any {X = LineError} K (names_asked call.given) (IsRuledTold call) (Ok verdict.all) errors errors' (λ line is. inl is) files.told;
+        partly = λ none. some_weaker K (IsUnreadLine (names_asked call.given)) (IsRuledTold call) errors errors' (λ line is. inl is)
+            (told_as LineError K (names_asked call.given) verdict.all false errors errors' none files.told);
+      };
+      quiet = λ all. told_as LineError K (names_asked call.given) verdict.all true errors errors' all files.told;
+    }
 
-  -- or not all of them
-  pub files_unlooked : (load : CheckLoad) (error : LineError) (failure : RuledFailure) (left left' held held' seen seen' : Option (List ℕ)) (errors errors' : Errors E)
-      → SeenFiles K (line_quest_by call load) (names_asked call.given) (Err error) left left' seen seen' errors errors'
-      → (has Summary call.given ≡ true → (seen ≡ held) × (seen' ≡ held')) → (has Summary call.given ≡ false → Keeps held held')
-      → CheckedLines K call load (Err failure) left left' held held' errors errors'
-  files_unlooked load error failure left left' held held' seen seen' errors errors' files told untold = by (has Summary call.given) refl
-    where
-      tells : TellsRuledCheck K call (Err failure) errors errors'
-      tells = record { told = tells_weaker K (IsUnreadLine (names_asked call.given)) (IsRuledTold call) errors errors' unread files.told; partly = tt }
-
-      by : (b : Bool) → has Summary call.given ≡ b → CheckedLines K call load (Err failure) left left' held held' errors errors'
-      by true is =
-          let same = told is in
-          let mine = subst (λ (h : Option (List ℕ)). SeenFiles K (line_quest_by call load) (names_asked call.given) (Err error) left left' held h errors errors') same.1
-          (subst (λ (h : Option (List ℕ)). SeenFiles K (line_quest_by call load) (names_asked call.given) (Err error) left left' h seen' errors errors') same.0 files) in
-          record { whole = tt; begun = inr mine.begun; tells = tells; quiet = tt }
-      by false is = record { whole = tt; begun = inl (untold is); tells = tells; quiet = tt }
+    -- or not all of them
+    pub files_unlooked : (error : LineError) (failure : RuledFailure) → SeenFiles K (line_quest_by call load) (names_asked call.given) (Err error) left left' seen seen' errors errors'
+        → CheckedLines K call load (Err failure) left left' held held' errors errors'
+    files_unlooked error failure files = record {
+      whole = tt;
+      begun = begun_told files.begun;
+      tells = record { told = told_any {X = LineError} K (names_asked call.given) (IsRuledTold call) (Err error) errors errors' (λ line is. inl is) files.told; partly = tt };
+      quiet = tt;
+    }
 
   -- behind what is told of doubtful patterns what was loaded decides what comes of the call
   pub check_behind : (load : CheckLoad) (result : Result Verdict RuledFailure) (left between left' held held' : Option (List ℕ)) (errors meanwhile errors' : Errors E)
@@ -144,25 +110,17 @@ module _ {E : Type 0} (K : SinkGhosts E) (call : Call) where
 
       begun : BeginsLoadedCheck call between left' held held' load → BeginsRuledCheck call left left' held held'
       begun (inl none) = inl none
-      begun (inr begins) = inr (record { load = load; between = between; loaded = loaded; begun = begins })
+      begun (inr begins) = inr (record { load = load; between = between; loaded = loaded; is = begins })
 
       by : (result : Result Verdict RuledFailure) → CheckedLines K call load result between left' held held' meanwhile errors' → RuledCheck K call result left left' held held' errors errors'
       by (Ok verdict) of = record {
-        whole = λ all. let sees = of.whole all in record {
-          load = load;
-          between = between;
-          loaded = loaded;
-          runs = sees.runs;
-          have = sees.have;
-          found_is = sees.found_is;
-          told = sees.told;
-        };
+        whole = λ all. record { load = load; between = between; loaded = loaded; is = of.whole all };
         begun = begun of.begun;
         tells = record {
           told = tells_both K (IsRuledTold call) errors meanwhile errors' before of.tells.told;
           partly = λ none. some_behind K (IsRuledTold call) errors meanwhile errors' before (of.tells.partly none);
         };
-        quiet = λ all. record { load = load; between = between; loaded = loaded; doubts = subst (TellsDoubts K false call.given load.secrets errors) (sym (of.quiet all)) doubted };
+        quiet = λ all. record { load = load; between = between; loaded = loaded; is = subst (TellsDoubts K false call.given load.secrets errors) (sym (of.quiet all)) doubted };
       }
       by (Err failure) of = record {
         whole = tt;
@@ -172,47 +130,8 @@ module _ {E : Type 0} (K : SinkGhosts E) (call : Call) where
       }
 
   -- the status tells what was seen
-  pub check_done : (found all : Bool) (left left' held held' : Option (List ℕ)) (errors errors' : Errors E) → RuledCheck K call (Ok (record { found = found; all = all })) left left' held held' errors errors'
-      → RuledCheckStatus K call (check_status (record { found = found; all = all })) left left' held held' errors errors'
-  check_done true true left left' held held' errors errors' of = record {
-    unmatched = λ (is : 1 ≡ 0). absurd (omega (arith, is));
-    matched = λ is. of.whole refl;
-    begins = of.begun;
-    tells = λ (is : 1 ≡ 2). absurd (omega (arith, is));
-    quiet = λ less. of.quiet refl;
-    bound = omega arith;
-  }
-  check_done false true left left' held held' errors errors' of = record {
-    unmatched = λ is. of.whole refl;
-    matched = λ (is : 0 ≡ 1). absurd (omega (arith, is));
-    begins = of.begun;
-    tells = λ (is : 0 ≡ 2). absurd (omega (arith, is));
-    quiet = λ less. of.quiet refl;
-    bound = omega arith;
-  }
-  check_done found false left left' held held' errors errors' of = record {
-    unmatched = λ (is : 2 ≡ 0). absurd (omega (arith, is));
-    matched = λ (is : 2 ≡ 1). absurd (omega (arith, is));
-    begins = of.begun;
-    tells = λ is. of.tells.partly refl;
-    quiet = λ (less : 2 < 2). absurd (omega (arith, less));
-    bound = omega arith;
-  }
-
-  -- the call ended early, and that is told
-  pub check_failed : (failure : RuledFailure) (line : List ℕ) (left left' held held' : Option (List ℕ)) (errors meanwhile errors' : Errors E) → RuledCheck K call (Err failure) left left' held held' errors meanwhile
-      → IsRuledLine failure line → TellsBytes K meanwhile errors' line → RuledCheckStatus K call 2 left left' held held' errors errors'
-  check_failed failure line left left' held held' errors meanwhile errors' of is told = record {
-    unmatched = λ (none : 2 ≡ 0). absurd (omega (arith, none));
-    matched = λ (none : 2 ≡ 1). absurd (omega (arith, none));
-    begins = of.begun;
-    tells = λ two. tells_last K (IsRuledTold call) errors meanwhile errors' line of.tells.told (inr (inl (failure, is))) told;
-    quiet = λ (less : 2 < 2). absurd (omega (arith, less));
-    bound = omega arith;
-  }
-
-  -- the arguments were refused, or there was no memory to read them
-  pub check_by_rules_refused : (left held : Option (List ℕ)) (failure : Failure) (errors errors' : Errors E) (line : List ℕ) → IsFailureLine failure line → TellsBytes K errors errors' line
-      → RuledCheckStatus K call 2 left left held held errors errors'
-  check_by_rules_refused left held failure errors errors' line is told =
-      check_failed (Plain failure) line left left held held errors errors errors' (check_early (Plain failure) left left held errors errors (tells_same K (IsRuledTold call) errors errors refl)) is told
+  pub check_done : (verdict : Verdict) (left left' held held' : Option (List ℕ)) (errors errors' : Errors E) → RuledCheck K call (Ok verdict) left left' held held' errors errors'
+      → RuledCheckStatus K call (check_status verdict) left left' held held' errors errors'
+  check_done verdict left left' held held' errors errors' of =
+      let sees = λ (all : verdict.all ≡ true) (found : Bool) (is : verdict.found ≡ found). subst (λ (b : Bool). SeesByRules call b left left' held held') is (of.whole all) in
+      says_seen _ _ _ _ verdict (λ all. (sees all false, sees all true, of.quiet all)) of.tells.partly

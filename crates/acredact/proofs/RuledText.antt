@@ -6,7 +6,7 @@ use Rattle.std.specs.Io.KnownBytes.{Consumes, IsAtEnd, Keeps}
 use Rattle.std.proofs.lemmas.Result.{IfErr-weaker, on_ok_weaker}
 use Rattle.aho_core.specs.Occurrence.{Occurrence}
 use Rattle.aho_core.specs.Patterns.{Patterns}
-use Rattle.aho_core.specs.declared.error.stream.StreamError.TheVariants.{Match, Read, Write, WriteZero, Memory, PositionLimit}
+use Rattle.aho_core.specs.declared.error.stream.StreamError.TheVariants.{Read}
 use Rattle.aho_automaton.specs.declared.automaton.Automaton.{Ghosts as Automata}
 use Rattle.aho_cover.specs.Pieces.{PieceRule}
 use Rattle.aho_cover.specs.declared.pieces.Pieces.{Ghosts as PieceGhosts}
@@ -20,7 +20,7 @@ use Rattle.secret_rules.specs.Lines.{Line, stream_lines}
 use Rattle.secret_rules.specs.Ready.{CanCoverLines, CoversTheSame, most_of, rules_of, searched_automaton, words_of}
 use Rattle.secret_rules.specs.Writing.{line_cover}
 use Rattle.secret_rules.specs.declared.error.LineError.{LineError}
-use Rattle.secret_rules.specs.declared.error.LineError.TheVariants.{Mark, Stream}
+use Rattle.secret_rules.specs.declared.error.LineError.TheVariants.{Stream}
 use Rattle.secret_rules.specs.declared.rule.Rule.{Rule}
 use Rattle.secret_rules.proofs.LineRuns.{lines_cover-append}
 use Rattle.acredact.specs.Ruled.{BeginsLinesText, IsLined, LeavesLined, LinesOutcome, RedactsLines, Ruling, WritesLines, ruling_as, unread_of}
@@ -47,13 +47,8 @@ begins_cover rule lines runs part all all_runs same is =
 -- no reason is answered only where a stream has ended
 pub read_whole : {P : Type 0} (done : Result (Unit {0}) LineError) → unread_of done ≡ Ok None → OnOk done P → P
 read_whole (Ok x) is holds = holds
-read_whole (Err (Stream (Match cause))) is holds = absurd (cc)
 read_whole (Err (Stream (Read fault))) is holds = absurd (cc)
-read_whole (Err (Stream (Write fault))) is holds = absurd (cc)
-read_whole (Err (Stream WriteZero)) is holds = absurd (cc)
-read_whole (Err (Stream Memory)) is holds = absurd (cc)
-read_whole (Err (Stream PositionLimit)) is holds = absurd (cc)
-read_whole (Err (Mark error)) is holds = absurd (cc)
+read_whole (Err error) is holds = absurd (cc)
 
 module _ {R W : Type 0} (S : SourceGhosts R) (K : SinkGhosts W) (Searched : Patterns → Type 0) (words : Bool) (rules : List Rule) (most : ℕ) (rule : PieceRule) (p : Patterns) (sought : Searched p)
     (source source' : R) (sink sink' : W) (counts counts' : List ℕ) (before : Option (List ℕ))
@@ -172,12 +167,8 @@ pub still_lined : {A P : Type 0} (G : Automata A) (Q : PieceGhosts P) (old new :
     → Q.rule new.pieces ≡ Q.rule old.pieces → IsLined G Q old ruling → IsLined G Q new ruling
 still_lined G Q old new ruling can same rule is = record {
   can = can;
-  searched = subst (λ o. AreSearchedFor G o ruling.covering.patterns) (sym same.automaton) is.searched;
-  is = is.is
-      ∙ ap (λ w. ruling_as w (rules_of old.cover) (most_of old.cover) (Q.rule old.pieces) ruling.covering.patterns) (sym same.words)
-      ∙ ap (λ r. ruling_as (words_of new.cover) r (most_of old.cover) (Q.rule old.pieces) ruling.covering.patterns) (sym same.rules)
-      ∙ ap (λ m. ruling_as (words_of new.cover) (rules_of new.cover) m (Q.rule old.pieces) ruling.covering.patterns) (sym same.most)
-      ∙ ap (λ r. ruling_as (words_of new.cover) (rules_of new.cover) (most_of new.cover) r ruling.covering.patterns) (sym rule);
+  searched = rw same.automaton is.searched;
+  is = rw (same.words, same.rules, same.most, rule) is.is;
 }
 
 -- what covers lines by such parts does so by these
@@ -187,10 +178,7 @@ pub lined_by : {A P : Type 0} (G : Automata A) (Q : PieceGhosts P) (lined : Line
 lined_by G Q lined words rules most rule p can searched is_words is_rules is_most is_rule = record {
   can = can;
   searched = searched;
-  is = ap (λ w. ruling_as w rules most rule p) (sym is_words)
-      ∙ ap (λ r. ruling_as (words_of lined.cover) r most rule p) (sym is_rules)
-      ∙ ap (λ m. ruling_as (words_of lined.cover) (rules_of lined.cover) m rule p) (sym is_most)
-      ∙ ap (λ r. ruling_as (words_of lined.cover) (rules_of lined.cover) (most_of lined.cover) r p) (sym is_rule);
+  is = rw (is_words, is_rules, is_most, is_rule) refl;
 }
 
 -- an automaton without a pattern is of none

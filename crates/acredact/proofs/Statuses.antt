@@ -1,5 +1,5 @@
 -- What the exit status says, by what is answered.
-use Rattle.std.proofs.Common.{◌≡◌, inl, inr, ℕ, ◌≤◌, List, true, false, refl, sym, ap, ◌∙◌, arith}
+use Rattle.std.proofs.Common.{◌≡◌, inl, inr, ℕ, ◌≤◌, List, true, false, refl, sym, ◌∙◌, arith}
 use Rattle.std.specs.Prelude.{Bool, ◌⊎◌, ◌&&◌, not, Ok, Err}
 use Rattle.std.specs.declared.io.traits.Read.{Ghosts as Readers}
 use Rattle.std.specs.declared.io.traits.Write.{Ghosts as Writers}
@@ -7,117 +7,41 @@ use Rattle.aho_devices.specs.declared.device.Sink.{Ghosts as SinkGhosts}
 use Rattle.tool_parts.specs.Streams.{bytes_left}
 use Rattle.tool_parts.specs.Telling.{TellsBytes, TellsSome}
 use Rattle.tool_parts.specs.declared.errors.Errors.{Errors}
-use Rattle.acredact.specs.Arguments.{AsksAnyCheck, AsksForRules, AsksForRulesCheck, AsksToCheck, AsksToRedact, Given, GivesNoPattern, any_check_asked, checks_asked, gives_rules, has, rules_asked, rules_check_asked}
+use Rattle.acredact.specs.Arguments.{AsksAnyCheck, AsksForRules, AsksForRulesCheck, AsksToRedact, Given, GivesNoPattern, any_check_asked, checks_asked, gives_rules, has, rules_asked, rules_check_asked}
 use Rattle.acredact.specs.Calls.{Call, CallOutcome, IsLineOf, OutputFails}
 use Rattle.acredact.specs.Failures.{IsFailureLine}
 use Rattle.acredact.specs.Statuses.{CallStatus, IsIdle}
 use Rattle.acredact.specs.declared.arguments.Word.TheVariants.{Check, Help, Version}
 use Rattle.acredact.specs.declared.failure.Failure.{Failure}
 use Rattle.acredact.specs.declared.streams.Streams.{Streams}
-use Rattle.acredact.proofs.Calls.{begins_told, tells_last, tells_same}
+use Rattle.acredact.proofs.Calls.{tells_last, tells_same}
 
 -- a line alone
 pub tells_one : {E : Type 0} (K : SinkGhosts E) (IsLine : List ℕ → Type 0) (old new : Errors E) (line : List ℕ) → IsLine line → TellsBytes K old new line → TellsSome K IsLine old new
 tells_one K IsLine old new line is told = tells_last K IsLine old old new line (tells_same K IsLine old old refl) is told
 
--- whether a check is asked for
-pub asks_check : (given : List Given) → AsksToCheck given → checks_asked given ≡ true
-asks_check given asks =
-    ap (λ (b : Bool). b && not (has Help given) && not (has Version given) && not (gives_rules given)) asks.check
-    ∙ ap (λ (b : Bool). true && not b && not (has Version given) && not (gives_rules given)) asks.no_help
-    ∙ ap (λ (b : Bool). true && not false && not b && not (gives_rules given)) asks.no_version
-    ∙ ap (λ (b : Bool). true && not false && not false && not b) asks.no_rules
-
-asks_none : (given : List Given) → AsksToRedact given → checks_asked given ≡ false
-asks_none given asks = ap (λ (b : Bool). b && not (has Help given) && not (has Version given) && not (gives_rules given)) asks.no_check
-
-pub no_redaction : (given : List Given) → checks_asked given ≡ true → AsksToRedact given → ⊥
-no_redaction given checks asks = let clash : true ≡ false = sym checks ∙ asks_none given asks in cc
-
-pub no_checking : (given : List Given) → checks_asked given ≡ false → AsksToCheck given → ⊥
-no_checking given none asks = let clash : true ≡ false = sym (asks_check given asks) ∙ none in cc
-
-check_parts : (check help version rules : Bool) → (check && not help && not version && not rules) ≡ true → (help ≡ false) × (version ≡ false) × (check ≡ true) × (rules ≡ false)
-check_parts true false false false is = (refl, refl, refl, refl)
-check_parts true false false true is = absurd (cc)
-check_parts true false true rules is = absurd (cc)
-check_parts true true version rules is = absurd (cc)
-check_parts false help version rules is = absurd (cc)
-
-checks_of : (given : List Given) → checks_asked given ≡ true → AsksToCheck given
-checks_of given is =
-    let parts = check_parts (has Check given) (has Help given) (has Version given) (gives_rules given) is in
-    record { no_help = parts.0; no_version = parts.1; check = parts.2; no_rules = parts.3 }
-
--- whether rules are asked for
-rules_part : (rules help version check : Bool) → (rules && not help && not version && not check) ≡ true → rules ≡ true
-rules_part true help version check is = refl
-rules_part false help version check is = absurd (cc)
-
-pub asks_rules : (given : List Given) → AsksForRules given → rules_asked given ≡ true
-asks_rules given asks =
-    ap (λ (b : Bool). b && not (has Help given) && not (has Version given) && not (has Check given)) asks.rules
-    ∙ ap (λ (b : Bool). true && not b && not (has Version given) && not (has Check given)) asks.no_help
-    ∙ ap (λ (b : Bool). true && not false && not b && not (has Check given)) asks.no_version
-    ∙ ap (λ (b : Bool). true && not false && not false && not b) asks.no_check
-
--- a call with rules is no other, and one without them is no call with rules
-pub ruled_redacts : (given : List Given) → rules_asked given ≡ true → AsksToRedact given → ⊥
-ruled_redacts given is asks =
-    let clash : true ≡ false = sym (rules_part (gives_rules given) (has Help given) (has Version given) (has Check given) is) ∙ asks.no_rules in cc
-
-pub ruled_checks : (given : List Given) → rules_asked given ≡ true → AsksToCheck given → ⊥
-ruled_checks given is asks =
-    let clash : true ≡ false = sym (rules_part (gives_rules given) (has Help given) (has Version given) (has Check given) is) ∙ asks.no_rules in cc
-
+-- what a call does not ask for
 pub unruled : (given : List Given) → rules_asked given ≡ false → AsksForRules given → ⊥
-unruled given none asks = let clash : true ≡ false = sym (asks_rules given asks) ∙ none in cc
-
--- whether a check by rules is asked for
-asks_rules_check : (given : List Given) → AsksForRulesCheck given → rules_check_asked given ≡ true
-asks_rules_check given asks =
-    ap (λ (b : Bool). b && gives_rules given && not (has Help given) && not (has Version given)) asks.check
-    ∙ ap (λ (b : Bool). true && b && not (has Help given) && not (has Version given)) asks.rules
-    ∙ ap (λ (b : Bool). true && true && not b && not (has Version given)) asks.no_help
-    ∙ ap (λ (b : Bool). true && true && not false && not b) asks.no_version
-
-rules_check_parts : (check rules help version : Bool) → (check && rules && not help && not version) ≡ true → (help ≡ false) × (version ≡ false) × (check ≡ true) × (rules ≡ true)
-rules_check_parts true true false false is = (refl, refl, refl, refl)
-rules_check_parts true true false true is = absurd (cc)
-rules_check_parts true true true version is = absurd (cc)
-rules_check_parts true false help version is = absurd (cc)
-rules_check_parts false rules help version is = absurd (cc)
-
-pub rules_check_of : (given : List Given) → rules_check_asked given ≡ true → AsksForRulesCheck given
-rules_check_of given is =
-    let parts = rules_check_parts (has Check given) (gives_rules given) (has Help given) (has Version given) is in
-    record { no_help = parts.0; no_version = parts.1; check = parts.2; rules = parts.3 }
-
--- it is no other call, and a call that does not ask for it is none
-pub rules_check_redacts : (given : List Given) → rules_check_asked given ≡ true → AsksToRedact given → ⊥
-rules_check_redacts given is asks = let clash : true ≡ false = sym (rules_check_of given is).check ∙ asks.no_check in cc
-
-pub rules_check_checks : (given : List Given) → rules_check_asked given ≡ true → AsksToCheck given → ⊥
-rules_check_checks given is asks = let clash : true ≡ false = sym (rules_check_of given is).rules ∙ asks.no_rules in cc
-
-pub rules_check_rules : (given : List Given) → rules_check_asked given ≡ true → AsksForRules given → ⊥
-rules_check_rules given is asks = let clash : true ≡ false = sym (rules_check_of given is).check ∙ asks.no_check in cc
+unruled given none asks = let clash : true ≡ false = rw (asks.rules, asks.no_help, asks.no_version, asks.no_check) at none in cc
 
 pub unruled_check : (given : List Given) → rules_check_asked given ≡ false → AsksForRulesCheck given → ⊥
-unruled_check given none asks = let clash : true ≡ false = sym (asks_rules_check given asks) ∙ none in cc
+unruled_check given none asks = let clash : true ≡ false = rw (asks.check, asks.rules, asks.no_help, asks.no_version) at none in cc
 
 -- either is a check
-any_parts : (check help version : Bool) → check ≡ true → help ≡ false → version ≡ false → (check && not help && not version) ≡ true
-any_parts check help version is no_help no_version =
-    ap (λ (b : Bool). b && not help && not version) is ∙ ap (λ (b : Bool). true && not b && not version) no_help ∙ ap (λ (b : Bool). true && not false && not b) no_version
-
 pub check_is_any : (given : List Given) → checks_asked given ≡ true → any_check_asked given ≡ true
-check_is_any given is =
-    let asks = checks_of given is in any_parts (has Check given) (has Help given) (has Version given) asks.check asks.no_help asks.no_version
+check_is_any given is = by (any_check_asked given) (not (gives_rules given)) is
+  where
+    by : (first second : Bool) → (first && second) ≡ true → first ≡ true
+    by true second is = refl
+    by false second is = absurd (cc)
 
 pub rules_check_is_any : (given : List Given) → rules_check_asked given ≡ true → any_check_asked given ≡ true
-rules_check_is_any given is =
-    let asks = rules_check_of given is in any_parts (has Check given) (has Help given) (has Version given) asks.check asks.no_help asks.no_version
+rules_check_is_any given is = by (has Check given) (gives_rules given) (not (has Help given)) (not (has Version given)) is
+  where
+    by : (check rules help version : Bool) → (check && rules && help && version) ≡ true → (check && help && version) ≡ true
+    by true true help version is = is
+    by true false help version is = absurd (cc)
+    by false rules help version is = absurd (cc)
 
 any_part : (check help version : Bool) → (check && not help && not version) ≡ true → (help ≡ false) × (version ≡ false) × (check ≡ true)
 any_part true false false is = (refl, refl, refl)
@@ -171,7 +95,7 @@ flushed_by {P} given not_check flushed = by_checks {P = P} given (λ asks. absur
 
 module _ {R : Type 0} {Reads : Readers R} {W E : Type 0} (Writes : Writers W) (K : SinkGhosts E) (call : Call) (old new : Streams R W E Reads) where
   -- all was done
-  pub status_done : (GivesNoPattern call.given → ⊥) → CallOutcome Writes K call (bytes_left old.input) (Ok true) old new → CallStatus Writes K call 0 old new
+  pub status_done : (GivesNoPattern call.given → ⊥) → CallOutcome Writes K call (bytes_left old.input) (bytes_left new.input) (Ok true) old.output new.output old.errors new.errors → CallStatus Writes K call 0 old new
   status_done some of = record {
     patternless = λ none. absurd (some none);
     idle = λ none. absurd (some none);
@@ -185,7 +109,7 @@ module _ {R : Type 0} {Reads : Readers R} {W E : Type 0} (Writes : Writers W) (K
   }
 
   -- some file was not read to its end
-  pub status_partly : (GivesNoPattern call.given → IsIdle old new) → CallOutcome Writes K call (bytes_left old.input) (Ok false) old new → CallStatus Writes K call 2 old new
+  pub status_partly : (GivesNoPattern call.given → IsIdle old new) → CallOutcome Writes K call (bytes_left old.input) (bytes_left new.input) (Ok false) old.output new.output old.errors new.errors → CallStatus Writes K call 2 old new
   status_partly idle of = record {
     patternless = λ none. refl;
     idle = idle;
@@ -199,13 +123,13 @@ module _ {R : Type 0} {Reads : Readers R} {W E : Type 0} (Writes : Writers W) (K
   }
 
   -- the call ended early, and that is told
-  pub status_failed : (GivesNoPattern call.given → IsIdle old new) → (failure : Failure) (errors : Errors E) (line : List ℕ) → CallOutcome Writes K call (bytes_left old.input) (Err failure) old new → IsFailureLine failure line → TellsBytes K new.errors errors line
-      → CallStatus Writes K call 2 old (record new { errors = errors })
+  pub status_failed : (GivesNoPattern call.given → IsIdle old new) → (failure : Failure) (errors : Errors E) (line : List ℕ)
+      → CallOutcome Writes K call (bytes_left old.input) (bytes_left new.input) (Err failure) old.output new.output old.errors new.errors → IsFailureLine failure line → TellsBytes K new.errors errors line → CallStatus Writes K call 2 old (record new { errors = errors })
   status_failed idle failure errors line of is told = record {
     patternless = λ none. refl;
     idle = λ none. record { unread = (idle none).unread; unwritten = (idle none).unwritten };
     redacts = λ (is : 2 ≡ 0). absurd (omega arith);
-    begins = begins_told Writes K call _ old new errors of.begins;
+    begins = of.begins;
     strict = λ asked (is : 2 ≡ 0). absurd (omega arith);
     quiet = λ none (is : 2 ≡ 0). absurd (omega arith);
     counts = λ counted (is : 2 ≡ 0). absurd (omega arith);

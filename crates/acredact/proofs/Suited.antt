@@ -1,7 +1,6 @@
 -- How an automaton redacts streams.
 use Rattle.std.proofs.Common.{◌≡◌, inl, ℕ, ◌≤◌, List, [], ◌∷◌, Option, true, false, length, map, refl, sym, ap, subst, ◌∙◌, arith}
 use Rattle.std.specs.Prelude.{Bool, ◌&&◌, None, Some, Ok, Err, if◌then◌else◌}
-use Rattle.std.specs.Borrow.{Bor}
 use Rattle.std.specs.declared.io.traits.Read.{Ghosts as Readers}
 use Rattle.std.specs.declared.io.traits.Write.{Ghosts as Writers}
 use Rattle.std.proofs.KnownBytes.{Keeps-refl}
@@ -22,64 +21,26 @@ use Rattle.aho_cover.specs.declared.progress.CoverProgress.{CoverProgress}
 use Rattle.aho_devices.specs.declared.device.Sink.{Ghosts as SinkGhosts}
 use Rattle.aho_stream.specs.Replacing.{IsMakingRefusal}
 use Rattle.aho_stream.specs.StreamRun.{CanBegin}
-use Rattle.acredact.specs.Files.{AreCut, FilesOutcome, Work, key_for}
-use Rattle.acredact.specs.Secrets.{CanRedact, Keyed, Redactor, rule_by, rule_of}
-use Rattle.acredact.specs.Ways.{IsCoverer, IsCovering, IsNamedCover, IsRedactor}
-use Rattle.acredact.specs.Pseudonyms.{pseudonym_rule}
+use Rattle.tool_parts.proofs.Tellings.{tells-nothing}
+use Rattle.acredact.specs.Back.{DoesJob}
+use Rattle.acredact.specs.Files.{AreCut, CanDo, FilesOutcome, Work, key_for, redactor_of, rule_for, work_of}
+use Rattle.acredact.specs.Secrets.{CanRedact, Redactor}
+use Rattle.acredact.specs.Ways.{IsCoverer, IsCovering, IsRedactor}
+use Rattle.acredact.specs.declared.files.Job.{Job}
+use Rattle.acredact.specs.declared.folder.Folder.{Ghosts as Folders}
 use Rattle.acredact.specs.declared.streams.Streams.{Streams}
-use Rattle.acredact.specs.declared.ways.Key.{Key}
-use Rattle.acredact.proofs.Done.{tells_none}
+use Rattle.acredact.specs.declared.summary.Volume.{Volume}
 use Rattle.acredact.proofs.OneFile.{named_none}
+use Rattle.acredact.proofs.Redactions.{some_of}
 
 module _ {A : Type 0} (G : Ghosts A) where
-  -- a cover counts what it was asked to
-  pub begun_as : (automaton : A) (progress : CoverProgress) (words : Bool) → IsUnbegunWith words G automaton progress → IsUnbegunWith progress.words G automaton progress
-  begun_as automaton progress words unbegun = subst (λ (b : Bool). IsUnbegunWith b G automaton progress) (sym unbegun.chosen) unbegun
-
   -- a cover is as before after a stream
-  pub covering_still : (automaton automaton' : A) (progress progress' : CoverProgress) (replacements : List (Bor (List ℕ))) (r : Redactor) → automaton' ≡ automaton
-      → IsUnbegunWith progress.words G automaton' progress' → IsCovering G automaton progress replacements r → IsCovering G automaton' progress' replacements r
-  covering_still automaton automaton' progress progress' replacements r same unbegun is = record {
-    redactor = rw (same, unbegun.chosen) is.redactor;
-    unbegun = begun_as automaton' progress' progress.words unbegun;
-  }
-
-  -- an automaton that suits redacts by its patterns
-  pub redactor_is : (automaton : A) (p : Patterns) (covers wanted words chosen : Bool) (replacements : List (Bor (List ℕ))) (key : Option Keyed) → G.is_of automaton p → covers ≡ wanted → words ≡ chosen → key ≡ None
-      → CanRedact G automaton covers replacements → IsRedactor G automaton wanted chosen replacements (record { patterns = p; covers = covers; words = words; pieces = pieces_of replacements; key = key })
-  redactor_is automaton p covers wanted words chosen replacements key of is alike none ready = record {
-    of = of;
-    is = ap (λ (b : Bool). record { patterns = p; covers = b; words = words; pieces = pieces_of replacements; key = key }) is
-        ∙ ap (λ (b : Bool). record { patterns = p; covers = wanted; words = b; pieces = pieces_of replacements; key = key }) alike
-        ∙ ap (λ (k : Option Keyed). record { patterns = p; covers = wanted; words = chosen; pieces = pieces_of replacements; key = k }) none;
-    ready = subst (λ (b : Bool). CanRedact G automaton b replacements) is ready;
-  }
-
-  -- and by a cover that has not begun
-  pub covering_is : (automaton automaton' : A) (p : Patterns) (covers words wanted : Bool) (replacements : List (Bor (List ℕ))) (key : Option Keyed) (progress : CoverProgress) → G.is_of automaton p → covers ≡ true → words ≡ wanted → key ≡ None
-      → CanRedact G automaton covers replacements → automaton' ≡ automaton → IsUnbegunWith wanted G automaton progress
-      → IsCovering G automaton' progress replacements (record { patterns = p; covers = covers; words = words; pieces = pieces_of replacements; key = key })
-  covering_is automaton automaton' p covers words wanted replacements key progress of is alike none ready same unbegun = record {
-    redactor = subst (λ (a : A). IsRedactor G a true progress.words replacements (record { patterns = p; covers = covers; words = words; pieces = pieces_of replacements; key = key })) (sym same)
-        (redactor_is automaton p covers true words progress.words replacements key of is (alike ∙ sym unbegun.chosen) none ready);
-    unbegun = subst (λ (a : A). IsUnbegunWith progress.words G a progress) (sym same) (begun_as automaton progress wanted unbegun);
-  }
-
-  -- or one by pieces that a key makes
-  pub naming_is : (automaton automaton' : A) (wanted : Bool) (rule : PieceRule) (r : Redactor) (progress : CoverProgress) → G.is_of automaton r.patterns → r.covers ≡ true → r.words ≡ wanted → rule_of r ≡ rule
-      → automaton' ≡ automaton → IsUnbegunWith wanted G automaton progress → IsNamedCover G automaton' progress rule r
-  naming_is automaton automaton' wanted rule r progress of covers alike is same unbegun = record {
-    coverer = subst (λ (a : A). IsCoverer G a progress.words rule r) (sym same) (record { of = of; covers = covers; chosen = alike ∙ sym unbegun.chosen; is = is });
-    unbegun = subst (λ (a : A). IsUnbegunWith progress.words G a progress) (sym same) (begun_as automaton progress wanted unbegun);
-  }
-
-  -- it is as before after a stream
-  pub naming_still : (automaton automaton' : A) (progress progress' : CoverProgress) (rule rule' : PieceRule) (r : Redactor) → automaton' ≡ automaton → rule' ≡ rule
-      → IsUnbegunWith progress.words G automaton' progress' → IsNamedCover G automaton progress rule r → IsNamedCover G automaton' progress' rule' r
-  naming_still automaton automaton' progress progress' rule rule' r same alike unbegun is = record {
+  pub covering_still : (automaton automaton' : A) (progress progress' : CoverProgress) (rule rule' : PieceRule) (r : Redactor) → automaton' ≡ automaton → rule' ≡ rule
+      → IsUnbegunWith progress.words G automaton' progress' → IsCovering G automaton progress rule r → IsCovering G automaton' progress' rule' r
+  covering_still automaton automaton' progress progress' rule rule' r same alike unbegun is = record {
     coverer = subst (λ (a : A). IsCoverer G a progress'.words rule' r) (sym same)
         (record { of = is.coverer.of; covers = is.coverer.covers; chosen = is.coverer.chosen ∙ sym unbegun.chosen; is = is.coverer.is ∙ sym alike });
-    unbegun = begun_as automaton' progress' progress.words unbegun;
+    unbegun = rw unbegun.chosen unbegun;
   }
 
   -- by a standard automaton without empty patterns no cover is refused
@@ -106,27 +67,44 @@ module _ {R W E : Type 0} {Reads : Readers R} (Writes : Writers W) (K : SinkGhos
   pub files_memory : (streams : Streams R W E Reads) → FilesOutcome Writes K work (Err Memory) streams streams
   files_memory streams = record {
     done = tt;
-    cut = ([], (cut_none work some work.names _ _, tells_none K streams.errors));
+    cut = ([], (cut_none work some work.names _ _, tells-nothing K streams.errors));
     quiet = λ (is : Err Memory ≡ Ok true). absurd (cc);
     fails = record { write_failed = refl; took_nothing = refl; only = tt };
   }
 
--- words alone count of covers, and of a cover where that is asked for
-pub words_of_plain : (covers words : Bool) → covers ≡ false → (covers && words) ≡ false
-words_of_plain covers words is = ap (λ (b : Bool). b && words) is
+module _ {A F : Type 0} (G : Ghosts A) (automaton : A) (job : Job F) (p : Patterns) (of : G.is_of automaton p) where
+  -- an automaton that suits redacts a job by its patterns, without a cover
+  pub redactor_is : CanDo G automaton job → job.covers ≡ false → IsRedactor G automaton job.replacements.now (redactor_of job p)
+  redactor_is ready plain = record {
+    of = of;
+    is = ap (λ (b : Bool). record { patterns = p; covers = b; words = b && job.words; pieces = pieces_of job.replacements.now; key = key_for b job.key }) plain;
+    ready = subst (λ (b : Bool). CanRedact G automaton b job.replacements.now) plain ready;
+  }
 
-pub words_of_cover : (covers words : Bool) → covers ≡ true → (covers && words) ≡ words
-words_of_cover covers words is = ap (λ (b : Bool). b && words) is
+  -- and covers it by its pieces, where it has not begun
+  pub covering_is : (automaton' : A) (rule : PieceRule) (progress : CoverProgress) → job.covers ≡ true → rule ≡ rule_for job → automaton' ≡ automaton → IsUnbegunWith job.words G automaton progress
+      → IsCovering G automaton' progress rule (redactor_of job p)
+  covering_is automaton' rule progress covers made same unbegun = record {
+    coverer = record { of = rw same of; covers = covers; chosen = ap (λ (b : Bool). b && job.words) covers ∙ sym unbegun.chosen; is = sym made };
+    unbegun = rw (same, unbegun.chosen) unbegun;
+  }
 
--- without a cover there is no key
-pub key_of_plain : (covers : Bool) (key : Option Key) → covers ≡ false → key_for covers key ≡ None
-key_of_plain covers key is = ap (λ (b : Bool). key_for b key) is
+module _ {R W E F X : Type 0} {Reads : Readers R} (Writes : Writers W) (K : SinkGhosts E) (D : Folders F X) (job : Job F) (streams streams' : Streams R W E Reads) (counts counts' : List ℕ) (volume volume' : Volume) (r : Redactor) where
+  -- a failure ends the files of a job
+  pub job_cut : (error : StreamError) → FilesOutcome Writes K (work_of D job r) (Err error) streams streams' → DoesJob Writes K D job (Err error) streams streams' counts counts' volume volume' r
+  job_cut error cut = record {
+    outcome = cut;
+    counted = λ (is : Err error ≡ Ok true). absurd (cc);
+    read = λ (is : Err error ≡ Ok true). absurd (cc);
+    most = tt;
+    flushed = tt;
+  }
 
-pub key_of_none : (covers : Bool) (key : Option Key) → covers ≡ true → key ≡ None → key_for covers key ≡ None
-key_of_none covers key is none = ap (λ (b : Bool). key_for b key) is ∙ ap (λ (k : Option Key). key_for true k) none
-
--- by a key of a cover pieces are pseudonyms
-pub key_of_some : (covers : Bool) (key : Option Key) (one : Key) (pieces : List (List ℕ)) → covers ≡ true → key ≡ Some one
-    → rule_by (key_for covers key) pieces ≡ pseudonym_rule one.ignore_case one.bytes.now
-key_of_some covers key one pieces is some =
-    ap (λ (b : Bool). rule_by (key_for b key) pieces) is ∙ ap (λ (k : Option Key). rule_by (key_for true k) pieces) some
+-- where a cover cannot begin, memory ran out before the first file
+pub job_unbegun : {R W E F X A T : Type 0} {Reads : Readers R} (Writes : Writers W) (K : SinkGhosts E) (D : Folders F X) (G : Ghosts A) (automaton : A) (job : Job F) (streams : Streams R W E Reads) (counts : List ℕ) (volume : Volume) (p : Patterns)
+    → G.lengths automaton ≡ map length p.words → CanDo G automaton job → job.covers ≡ true → (error : StreamError) → IsMakingRefusal error
+    → RefusesStreamCover {T = T} (cover_refusal (G.kind automaton) (G.lengths automaton) (G.start automaton No)) (Err error)
+    → DoesJob Writes K D job (Err error) streams streams counts counts volume volume (redactor_of job p)
+job_unbegun Writes K D G automaton job streams counts volume p are ready covers error making refuses =
+    rw (only_memory G automaton error ready.begins (ready.standard covers) making refuses)
+    (job_cut Writes K D job streams streams counts counts volume volume (redactor_of job p) Memory (files_memory Writes K (work_of D job (redactor_of job p)) (some_of G automaton p are ready.begins) streams))

@@ -8,10 +8,11 @@ use Rattle.std.proofs.KnownBytes.{Appends-nil, Appends-trans}
 use Rattle.std.proofs.Math.Bool.{or-false, or_assoc}
 use Rattle.std.proofs.Math.Seq.{take-length}
 use Rattle.std.proofs.lemmas.List.{take-append-drop}
+use Rattle.std.proofs.lemmas.Result.{IfOk-weaker}
 use Rattle.aho_core.specs.Occurrence.{Occurrence}
 use Rattle.aho_core.specs.Patterns.{Patterns}
 use Rattle.aho_core.specs.declared.error.stream.StreamError.{StreamError}
-use Rattle.aho_core.specs.declared.error.stream.StreamError.TheVariants.{Match, Read, Write, WriteZero, Memory, PositionLimit}
+use Rattle.aho_core.specs.declared.error.stream.StreamError.TheVariants.{Read, PositionLimit}
 use Rattle.aho_devices.specs.declared.device.Sink.{Ghosts as SinkGhosts}
 use Rattle.aho_devices.specs.declared.device.Source.{Ghosts as SourceGhosts}
 use Rattle.aho_cover.proofs.Copied.{begins_with}
@@ -19,10 +20,11 @@ use Rattle.secret_rules.specs.Covering.{Covering, covering_by}
 use Rattle.secret_rules.specs.Lines.{Line, stream_lines}
 use Rattle.secret_rules.specs.Visits.{BeginsVisiting, LeavesVisited, StopsWithin, VisitsEach, VisitsLines, taken_line}
 use Rattle.secret_rules.specs.declared.error.LineError.{LineError}
-use Rattle.secret_rules.specs.declared.error.LineError.TheVariants.{Mark, Stream}
+use Rattle.secret_rules.specs.declared.error.LineError.TheVariants.{Stream}
 use Rattle.secret_rules.specs.declared.rule.Rule.{Rule}
 use Rattle.secret_rules.specs.declared.visitor.LineVisitor.{Ghosts as VisitorGhosts}
-use Rattle.acredact.specs.RuledChecks.{BeginsGiven, IfLooked, IsAtFirst, LookedText, SeesText, StopsTelling, TellsGiven, TellsLine, SaysLines, findings_behind, findings_of, found_of, is_some_line, is_some_run, labels_of, lines_findings, look_of_lines}
+use Rattle.acredact.specs.Looks.{verdict_of}
+use Rattle.acredact.specs.RuledChecks.{BeginsGiven, IsAtFirst, LookedText, SeesText, StopsTelling, TellsGiven, TellsLine, SaysLines, findings_behind, findings_of, found_of, is_some_line, is_some_run, labels_of, lines_findings, look_of_lines}
 use Rattle.acredact.specs.declared.findings.Findings.{Findings}
 use Rattle.acredact.proofs.OneFile.{ends_by}
 use Rattle.acredact.proofs.RuledText.{begins_behind}
@@ -113,12 +115,14 @@ module _ {V W : Type 0} (L : VisitorGhosts V) (K : SinkGhosts W) (most : ℕ) (o
           given = whole.given;
           ended = true;
           gives = whole.gives;
-          lines = stream_lines whole.given;
-          runs = whole.runs;
-          are = whole.runs_are p sought;
-          first = λ bytes may. ([], ap stream_lines (may.1 ∙ ap (λ l. whole.given ++ l) may.2 ∙ append-nil whole.given) ∙ sym (append-nil (stream_lines whole.given)));
           part = told;
-          begins = take-length told;
+          begins = record {
+            lines = stream_lines whole.given;
+            runs = whole.runs;
+            are = whole.runs_are p sought;
+            first = λ bytes may. ([], ap stream_lines (may.1 ∙ ap (λ l. whole.given ++ l) may.2 ∙ append-nil whole.given) ∙ sym (append-nil (stream_lines whole.given)));
+            begins = take-length told;
+          };
           written = subst (Appends (K.taken (output_of visitor).now) (K.taken (output_of visitor').now)) (from_first whole.runs) each.told;
         }
 
@@ -149,12 +153,8 @@ module _ {V W : Type 0} (L : VisitorGhosts V) (K : SinkGhosts W) (most : ℕ) (o
             given = begun.given;
             ended = begun.ended;
             gives = begun.gives;
-            lines = begun.lines;
-            runs = begun.runs;
-            are = begun.runs_are p sought;
-            first = begun.first;
             part = stop.part;
-            begins = subst (λ l. StartsWith l stop.part) (from_first begun.runs) stop.begins;
+            begins = record { lines = begun.lines; runs = begun.runs; are = begun.runs_are p sought; first = begun.first; begins = subst (λ l. StartsWith l stop.part) (from_first begun.runs) stop.begins };
             written = stop.written;
           };
         }
@@ -189,35 +189,23 @@ module _ {R W : Type 0} (S : SourceGhosts R) (K : SinkGhosts W) (findings : Find
     told = whole.told;
   }
 
-  looks : (P : Bool → Type 0) (result : Result Bool LineError) → IfOk result P → IfLooked (look_of_lines result) P
-  looks P (Ok true) is = is
-  looks P (Ok false) is = is
-  looks P (Err (Stream (Match cause))) is = tt
-  looks P (Err (Stream (Read fault))) is = tt
-  looks P (Err (Stream (Write fault))) is = tt
-  looks P (Err (Stream WriteZero)) is = tt
-  looks P (Err (Stream Memory)) is = tt
-  looks P (Err (Stream PositionLimit)) is = tt
-  looks P (Err (Mark error)) is = tt
-
-  if_ok : (P Q : Bool → Type 0) (result : Result Bool LineError) → ((found : Bool) → P found → Q found) → IfOk result P → IfOk result Q
-  if_ok P Q (Ok found) of is = of found is
-  if_ok P Q (Err error) of is = tt
+  looks : (P : Bool → Type 0) (result : Result Bool LineError) → IfOk result P → IfOk (look_of_lines result) (λ look. (verdict_of look).all ≡ true → P (verdict_of look).found)
+  looks P (Ok true) is = λ all. is
+  looks P (Ok false) is = λ all. is
+  looks P (Err (Stream (Read fault))) is = λ (all : false ≡ true). absurd (cc)
+  looks P (Err (Stream PositionLimit)) is = λ (all : false ≡ true). absurd (cc)
+  looks P (Err error) is = tt
 
   pub looked_text : (result : Result Bool LineError) → SaysLines S K findings result source source' output output' covering
       → LookedText covering (labels_of findings.legend) findings.name.now (look_of_lines result) before (S.remaining source') (K.taken output) (K.taken output')
   looked_text result tells = record {
     whole = looks (λ found. SeesText covering (labels_of findings.legend) findings.name.now found before (S.remaining source') (K.taken output) (K.taken output')) result
-        (if_ok (λ found. TellsGiven S K findings found source source' output output' covering) _ result sees_text tells.whole);
+        (IfOk-weaker result _ _ sees_text tells.whole);
     begun = record {
       given = tells.begun.given;
       ended = tells.begun.ended;
       read = subst (λ bytes. Consumes bytes (S.remaining source') tells.begun.given) left tells.begun.gives.bytes;
       at_end = ends_by (S.empty_reads source) (S.empty_reads source') tells.begun.ended none ends tells.begun.gives.end;
-      lines = tells.begun.lines;
-      runs = tells.begun.runs;
-      are = tells.begun.are;
-      first = tells.begun.first;
       part = tells.begun.part;
       begins = tells.begun.begins;
       written = tells.begun.written;

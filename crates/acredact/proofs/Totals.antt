@@ -19,7 +19,7 @@ use Rattle.acredact.specs.Tables.{secret_of, secrets_of}
 use Rattle.acredact.specs.Totals.{AreTotals, CountsOfName, CountsOfNames, CountsOfStream, CountsOfText, HasRanges, NameHasRanges, NamesHaveRanges}
 use Rattle.acredact.specs.declared.patterns.Rule.{Rule}
 use Rattle.acredact.specs.declared.summary.Volume.{Volume}
-use Rattle.acredact.proofs.OneFile.{ends_by, known_read, of_folder, of_input}
+use Rattle.acredact.proofs.OneFile.{ends_by, known_read, of_folder}
 
 -- a stream that has ended gave a text
 pub text_counts : {R : Type 0} (S : SourceGhosts R) (r : Redactor) (source source' : R) (before : Option (List ℕ)) (counts counts' : List ℕ)
@@ -42,16 +42,11 @@ known_ranges : (r : Redactor) (ranges : List Occurrence) (told left left' : Opti
 known_ranges r ranges told left left' kept has =
     record { text = has.text; reads = record { read = known_read told left left' has.text kept has.reads.read; ended = has.reads.ended }; found = has.found }
 
-module _ (work : Work) (name : List ℕ) (left left' : Option (List ℕ)) (counts counts' : List ℕ) where
-  -- that of the input
-  pub input_counts : is_input name ≡ true → CountsOfText left left' counts counts' work.redactor → CountsOfName left left' counts counts' work name
-  input_counts is (ranges, has, counted) = (ranges, of_input work.holds name (HasRanges work.redactor ranges) left left' is has, counted)
-
-  -- or of the folder
-  pub opened_counts : is_input name ≡ false → left' ≡ left → (opened rest : Option (List ℕ)) → Keeps (work.holds name) opened → CountsOfText opened rest counts counts' work.redactor
-      → CountsOfName left left' counts counts' work name
-  opened_counts is same opened rest kept (ranges, has, counted) =
-      (ranges, of_folder work.holds name (HasRanges work.redactor ranges) left left' is same rest (known_ranges work.redactor ranges (work.holds name) opened rest kept has), counted)
+-- those of the file of a name that the folder opened
+pub opened_counts : (work : Work) (name : List ℕ) (left left' : Option (List ℕ)) (counts counts' : List ℕ) → is_input name ≡ false → left' ≡ left → (opened rest : Option (List ℕ)) → Keeps (work.holds name) opened → CountsOfText opened rest counts counts' work.redactor
+    → CountsOfName left left' counts counts' work name
+opened_counts work name left left' counts counts' is same opened rest kept (ranges, has, counted) =
+    (ranges, of_folder work.holds name (HasRanges work.redactor ranges) left left' is same rest (known_ranges work.redactor ranges (work.holds name) opened rest kept has), counted)
 
 -- the ranges of one file alone
 pub one_counts : (work : Work) (name : List ℕ) (left left' : Option (List ℕ)) (counts counts' : List ℕ) → CountsOfNames left left' counts counts' work (name ∷ []) → CountsOfName left left' counts counts' work name

@@ -1,18 +1,18 @@
 -- What comes of a call whose pieces were looked at.
-use Rattle.std.proofs.Common.{◌≡◌, inl, inr, ℕ, List, [], ◌∷◌, Option, true, false, refl, sym, subst, ◌∙◌, append-nil}
-use Rattle.std.specs.Prelude.{◌⊎◌, Bool, None, Some, Result, Ok, Err, Vec, is_some, option_map}
+use Rattle.std.proofs.Common.{◌≡◌, inl, inr, ℕ, List, [], ◌∷◌, Option, true, false, refl, sym, subst, ◌∙◌}
+use Rattle.std.specs.Prelude.{◌⊎◌, Bool, None, Some, Result, Err, Vec, is_some, option_map}
 use Rattle.std.specs.List.{All}
 use Rattle.std.specs.declared.io.traits.Read.{Ghosts as Readers}
 use Rattle.std.specs.declared.io.traits.Write.{Ghosts as Writers}
 use Rattle.std.proofs.lemmas.List.Elements.{All-cons, All-nil}
-use Rattle.std.proofs.lemmas.Result.{IfErr-weaker, on_err_weaker}
+use Rattle.std.proofs.lemmas.Result.{on_err_weaker}
 use Rattle.aho_core.specs.Listing.{IsMember}
 use Rattle.aho_core.specs.Patterns.{Patterns}
+use Rattle.aho_devices.specs.declared.adapters.FromWrite.{FromWrite}
 use Rattle.aho_devices.specs.declared.device.Sink.{Ghosts as SinkGhosts}
 use Rattle.tool_parts.specs.Streams.{bytes_left}
-use Rattle.tool_parts.specs.Telling.{Tells, TellsBytes}
+use Rattle.tool_parts.specs.Telling.{Tells}
 use Rattle.tool_parts.specs.declared.errors.Errors.{Errors}
-use Rattle.tool_parts.specs.declared.failure.Failure.TheVariants.{OutOfMemory}
 use Rattle.acredact.specs.Arguments.{Given, has}
 use Rattle.acredact.specs.Calls.{Call, CallOutcome, IsLineOf, IsWarningLine, IsWordLine, MayFail, OutputFails, RestOutcome, TellsAnyNumbers, TellsNumbers, keyed_as, names_asked, reading_by, redactor_by_given, work_by}
 use Rattle.acredact.specs.Doubts.{TellsDoubts, all_doubt_lines}
@@ -25,21 +25,14 @@ use Rattle.acredact.specs.Tables.{Secret}
 use Rattle.acredact.specs.declared.arguments.Word.TheVariants.{Strict}
 use Rattle.acredact.specs.declared.clean.Unclean.{Unclean}
 use Rattle.acredact.specs.declared.failure.Failure.{Failure}
-use Rattle.acredact.specs.declared.failure.Failure.TheVariants.{Other, Unclean as UncleanPiece}
 use Rattle.acredact.specs.declared.streams.Streams.{Streams}
-use Rattle.acredact.proofs.Calls.{build_other, call_refused, may_fail, tells_same}
-pub use Rattle.acredact.proofs.Calls.{some_behind, tells_both}
+use Rattle.acredact.proofs.Calls.{call_ended, may_fail, some_behind, tells_both, tells_line, tells_same}
 use Rattle.acredact.proofs.Free.{free_of}
 
 -- where they are to be refused, nothing is told and they are clean
 pub clean_pieces : {E : Type 0} (K : SinkGhosts E) (strict : Bool) (r : Redactor) (old new : Errors E) → strict ≡ true → TellsOfPieces K strict r old new → r.covers ≡ true → AreCleanBy (is_some r.key) r.patterns r.pieces
 clean_pieces K strict r old new is (None, judged, same) = judged
 clean_pieces K strict r old new is (Some unclean, judged, (lax, told)) = let clash : true ≡ false = sym is ∙ lax in absurd (cc)
-
--- where patterns of lists are to be refused, nothing was told of them
-same_strict : {E : Type 0} (K : SinkGhosts E) (strict : Bool) (given : List Given) (secrets : List Secret) (old new : Errors E) → strict ≡ true → TellsDoubts K strict given secrets old new → new ≡ old
-same_strict K true given secrets old new is doubts = doubts.1
-same_strict K false given secrets old new is doubts = let clash : false ≡ true = is in absurd (cc)
 
 -- what is answered of pieces is so where these, the way and the key are asked for
 judged_by : {Z : Type 0} (p : Patterns) (covers ignore_case : Bool) (key : Option (Vec ℕ Z)) (pieces : List (List ℕ)) (answer : Option Unclean)
@@ -62,25 +55,23 @@ pub all_members : (Is : List ℕ → Type 0) (lines : List (List ℕ)) → ((lin
 all_members Is [] each = All-nil Is
 all_members Is (line ∷ lines) each = All-cons Is line lines (each line (inl refl)) (all_members Is lines (λ other is. each other (inr is)))
 
--- what is told of patterns of lists may be told, where such a line may be
+-- what is told of patterns of lists is one line after another
+pub doubts_tell : {E : Type 0} (K : SinkGhosts E) (IsLine : List ℕ → Type 0) (strict : Bool) (given : List Given) (secrets : List Secret) (old new : Errors E) → (strict ≡ false → (line : List ℕ) → IsMember (all_doubt_lines given secrets) line → IsLine line)
+    → TellsDoubts K strict given secrets old new → Tells K IsLine old new
+doubts_tell K IsLine true given secrets old new may doubts = tells_same K IsLine old new doubts.1
+doubts_tell K IsLine false given secrets old new may doubts = record { told = all_doubt_lines given secrets; are_lines = all_members IsLine (all_doubt_lines given secrets) (may refl); written = doubts }
+
+-- it may be told, where such a line may be
 module _ {E : Type 0} (K : SinkGhosts E) (call : Call) (IsLine : List ℕ → Type 0) (may : (line : List ℕ) → IsWarningLine call line → IsLine line)
     (load : Loaded) (left between : Option (List ℕ)) (loaded : AreLoaded (reading_by call) call.given load left between) where
   pub doubts_may : (strict : Bool) → has Strict call.given ≡ strict → (old new : Errors E) → TellsDoubts K strict call.given load.secrets old new → Tells K IsLine old new
-  doubts_may true is old new doubts = tells_same K IsLine old new doubts.1
-  doubts_may false is old new doubts = record {
-    told = all_doubt_lines call.given load.secrets;
-    are_lines = all_members IsLine (all_doubt_lines call.given load.secrets) (λ line member. may line (is, load, left, between, loaded, inl member));
-    written = doubts;
-  }
+  doubts_may strict is old new doubts = doubts_tell K IsLine strict call.given load.secrets old new (λ lax line member. may line (is ∙ lax, load, left, between, loaded, inl member)) doubts
 
   -- and so may what is told of pieces
   pieces_may : (old new : Errors E) → TellsOfPieces K (has Strict call.given) (redactor_by_given call.given load) old new → Tells K IsLine old new
   pieces_may old new (None, judged, same) = tells_same K IsLine old new same
-  pieces_may old new (Some unclean, judged, (lax, told)) = record {
-    told = unclean_line unclean ∷ [];
-    are_lines = All-cons IsLine (unclean_line unclean) [] (may (unclean_line unclean) (lax, load, left, between, loaded, inr (unclean, judged.0, judged.1, refl))) (All-nil IsLine);
-    written = subst (TellsBytes K old new) (sym (append-nil (unclean_line unclean))) told;
-  }
+  pieces_may old new (Some unclean, judged, (lax, told)) =
+      tells_line K IsLine old new (unclean_line unclean) (may (unclean_line unclean) (lax, load, left, between, loaded, inr (unclean, judged.0, judged.1, refl))) told
 
   -- one after the other
   pub warnings_may : (old mid new : Errors E) → TellsDoubts K (has Strict call.given) call.given load.secrets old mid → TellsOfPieces K (has Strict call.given) (redactor_by_given call.given load) mid new → Tells K IsLine old new
@@ -95,7 +86,7 @@ module _ {E : Type 0} (K : SinkGhosts E) (call : Call) (load : Loaded) (left bet
     load = load;
     between = between;
     loaded = loaded;
-    numbers = record {
+    is = record {
       counts = numbers.counts;
       volume = numbers.volume;
       bounded = numbers.bounded;
@@ -113,78 +104,58 @@ module _ (call : Call) (load : Loaded) (left between : Option (List ℕ)) (loade
   may_prepare fails failure (inr (inr (inl refused))) = inr (inr (inr (inr (inl (load, left, between, loaded, refused)))))
   may_prepare fails failure (inr (inr (inr memory))) = may_fail call fails failure (inl memory)
 
-strictly : (given : List Given) (load : Loaded) (failure : Failure) (unclean : Unclean) → CannotPrepare given load failure → failure ≡ UncleanPiece unclean → has Strict given ≡ true
-strictly given load failure unclean (inl doubted) is = doubted.0
-strictly given load failure unclean (inr (inl strict)) is = strict.2
-strictly given load failure unclean (inr (inr (inl refused))) is = absurd (build_other _ failure unclean refused is)
-strictly given load failure unclean (inr (inr (inr memory))) is = let clash : Other OutOfMemory ≡ UncleanPiece unclean = sym memory ∙ is in absurd (cc)
-
-module _ {R : Type 0} {Reads : Readers R} {W E : Type 0} (Writes : Writers W) (K : SinkGhosts E) (call : Call) (left : Option (List ℕ)) where
-  module _ (load : Loaded) (old : Streams R W E Reads) (loaded : AreLoaded (reading_by call) call.given load left (bytes_left old.input)) (first : Errors E) (doubts : TellsDoubts K (has Strict call.given) call.given load.secrets first old.errors) where
-    -- no file is read, behind what is told of patterns of lists
-    call_behind : (failure : Failure) → ((unclean : Unclean) → failure ≡ UncleanPiece unclean → has Strict call.given ≡ true) → MayFail call (OutputFails old.output old.output) failure
-        → CallOutcome Writes K call left (Err failure) (record old { errors = first }) old
-    call_behind failure strictly fails = record {
-      redacts = λ (is : Err failure ≡ Ok true). absurd (cc);
-      strict = λ asked (is : Err failure ≡ Ok true). absurd (cc);
-      refused = λ unclean is. record { output = refl; errors = same_strict K (has Strict call.given) call.given load.secrets first old.errors (strictly unclean is) doubts };
-      begins = inl refl;
-      quiet = λ none (is : Err failure ≡ Ok true). absurd (cc);
-      counts = λ some (is : Err failure ≡ Ok true). absurd (cc);
-      partly = λ (is : Err failure ≡ Ok false). absurd (cc);
-      fails = fails;
-      told = doubts_may K call (IsLineOf call (OutputFails old.output old.output)) (λ line is. inr (inr (inr is))) load left (bytes_left old.input) loaded (has Strict call.given) refl first old.errors doubts;
-      numbers = inl (doubts_may K call (IsWordLine call) (λ line is. inr is) load left (bytes_left old.input) loaded (has Strict call.given) refl first old.errors doubts);
-    }
-
-    -- what comes of the files comes behind what is told of the pieces
-    pub call_warned : (new : Streams R W E Reads) (errors : Errors E) (result : Result Bool Failure) → TellsOfPieces K (has Strict call.given) (redactor_by_given call.given load) old.errors errors
-        → RestOutcome Writes K call load result (record old { errors = errors }) new → CallOutcome Writes K call left result (record old { errors = first }) new
-    call_warned new errors result told rest =
-        let warns = λ (fails : Type 0). warnings_may K call (IsLineOf call fails) (λ line is. inr (inr (inr is))) load left (bytes_left old.input) loaded first old.errors errors doubts told in
-        record {
-          redacts = λ is. record { load = load; between = bytes_left old.input; loaded = loaded; redacted = rest.redacts is };
-          strict = λ asked is. record {
-            load = load;
-            between = bytes_left old.input;
-            loaded = loaded;
-            free = free_of (work_by call load) asked.covers asked.all (clean_pieces K (has Strict call.given) (redactor_by_given call.given load) old.errors errors asked.strict told asked.covers) (names_asked call.given) _ _ _ _ (rest.redacts is);
-          };
-          refused = IfErr-weaker result _ _ (λ failure other unclean is. absurd (other unclean is)) rest.other;
-          begins = elim rest.begins [
-            | inl same ↦ inl same
-            | inr cut ↦ inr (record { load = load; between = bytes_left old.input; loaded = loaded; lines = cut.0; cut = cut.1 })
-          ];
-          quiet = λ none is. record {
-            load = load;
-            between = bytes_left old.input;
-            loaded = loaded;
-            told = (old.errors, doubts, subst (λ (e : Errors E). TellsOfPieces K (has Strict call.given) (redactor_by_given call.given load) old.errors e) (sym (rest.quiet none is)) told);
-          };
-          counts = λ some is. let (ranges, found, volume, read, counted) = rest.counts some is in record {
-            load = load;
-            between = bytes_left old.input;
-            loaded = loaded;
-            redacted = rest.redacts is;
-            ranges = ranges;
-            found = found;
-            meanwhile = errors;
-            warned = (old.errors, doubts, told);
-            volume = volume;
-            read = read;
-            counted = counted;
-          };
-          partly = λ is. some_behind K (IsLineOf call (OutputFails old.output new.output)) first errors new.errors (warns _) (rest.partly is);
-          fails = rest.fails;
-          numbers = numbers_warned K call load left (bytes_left old.input) loaded (bytes_left new.input) first errors new.errors (warnings_may K call (IsWordLine call) (λ line is. inr is) load left (bytes_left old.input) loaded first old.errors errors doubts told) rest.numbers;
-          told = on_err_weaker result (λ later. tells_both K (IsLineOf call (OutputFails old.output new.output)) first errors new.errors (warns _) later) rest.told;
-        }
+module _ {W E : Type 0} (Writes : Writers W) (K : SinkGhosts E) (call : Call) (left : Option (List ℕ)) (load : Loaded) where
+  -- what comes of the files comes behind what is told of patterns of lists and of the pieces
+  pub call_warned : {R : Type 0} {Reads : Readers R} (old new : Streams R W E Reads) (first mid : Errors E) (result : Result Bool Failure) → AreLoaded (reading_by call) call.given load left (bytes_left old.input)
+      → TellsDoubts K (has Strict call.given) call.given load.secrets first mid → TellsOfPieces K (has Strict call.given) (redactor_by_given call.given load) mid old.errors → RestOutcome Writes K call load result old new
+      → CallOutcome Writes K call left (bytes_left new.input) result old.output new.output first new.errors
+  call_warned old new first mid result loaded doubts told rest =
+      let warns = λ (fails : Type 0). warnings_may K call (IsLineOf call fails) (λ line is. inr (inr (inr is))) load left (bytes_left old.input) loaded first mid old.errors doubts told in
+      record {
+        redacts = λ is. record { load = load; between = bytes_left old.input; loaded = loaded; is = rest.redacts is };
+        strict = λ asked is. record {
+          load = load;
+          between = bytes_left old.input;
+          loaded = loaded;
+          is = free_of (work_by call load) asked.covers asked.all (clean_pieces K (has Strict call.given) (redactor_by_given call.given load) mid old.errors asked.strict told asked.covers) (names_asked call.given) _ _ _ _ (rest.redacts is);
+        };
+        begins = elim rest.begins [
+          | inl same ↦ inl same
+          | inr cut ↦ inr (record { load = load; between = bytes_left old.input; loaded = loaded; is = cut })
+        ];
+        quiet = λ none is. record {
+          load = load;
+          between = bytes_left old.input;
+          loaded = loaded;
+          told = (mid, doubts, subst (λ (e : Errors E). TellsOfPieces K (has Strict call.given) (redactor_by_given call.given load) mid e) (sym (rest.quiet none is)) told);
+        };
+        counts = λ some is. let (ranges, found, volume, read, counted) = rest.counts some is in record {
+          load = load;
+          between = bytes_left old.input;
+          loaded = loaded;
+          redacted = rest.redacts is;
+          ranges = ranges;
+          found = found;
+          meanwhile = old.errors;
+          warned = (mid, doubts, told);
+          volume = volume;
+          read = read;
+          counted = counted;
+        };
+        partly = λ is. some_behind K (IsLineOf call (OutputFails old.output new.output)) first old.errors new.errors (warns _) (rest.partly is);
+        fails = rest.fails;
+        numbers = numbers_warned K call load left (bytes_left old.input) loaded (bytes_left new.input) first old.errors new.errors (warnings_may K call (IsWordLine call) (λ line is. inr is) load left (bytes_left old.input) loaded first mid old.errors doubts told) rest.numbers;
+        told = on_err_weaker result (λ later. tells_both K (IsLineOf call (OutputFails old.output new.output)) first old.errors new.errors (warns _) later) rest.told;
+      }
 
   -- nothing is ready
-  pub call_unready : (load : Loaded) (old : Streams R W E Reads) → AreLoaded (reading_by call) call.given load left (bytes_left old.input) → (errors : Errors E) (failure : Failure) → CannotPrepare call.given load failure
-      → (errors ≡ old.errors) ⊎ TellsDoubts K (has Strict call.given) call.given load.secrets old.errors errors → CallOutcome Writes K call left (Err failure) old (record old { errors = errors })
-  call_unready load old loaded errors failure cannot (inl same) =
-      subst (λ (e : Errors E). CallOutcome Writes K call left (Err failure) old (record old { errors = e })) (sym same)
-      (call_refused Writes K call left old.input old failure (may_prepare call load left (bytes_left old.input) loaded _ failure cannot))
-  call_unready load old loaded errors failure cannot (inr doubts) =
-      call_behind load (record old { errors = errors }) loaded old.errors doubts failure (λ unclean. strictly call.given load failure unclean cannot) (may_prepare call load left (bytes_left old.input) loaded _ failure cannot)
+  pub call_unready : (left' : Option (List ℕ)) (failure : Failure) (output : FromWrite W) (errors errors' : Errors E) → AreLoaded (reading_by call) call.given load left left' → CannotPrepare call.given load failure
+      → (errors' ≡ errors) ⊎ TellsDoubts K (has Strict call.given) call.given load.secrets errors errors' → CallOutcome Writes K call left left' (Err failure) output output errors errors'
+  call_unready left' failure output errors errors' loaded cannot told =
+      call_ended Writes K call left left' failure output errors errors' (may_prepare call load left left' loaded _ failure cannot) (lines _ (λ line is. inr (inr (inr is)))) (lines _ (λ line is. inr is))
+    where
+      lines : (IsLine : List ℕ → Type 0) → ((line : List ℕ) → IsWarningLine call line → IsLine line) → Tells K IsLine errors errors'
+      lines IsLine may = elim told [
+        | inl same ↦ tells_same K IsLine errors errors' same
+        | inr doubts ↦ doubts_may K call IsLine may load left left' loaded (has Strict call.given) refl errors errors' doubts
+      ]

@@ -1,5 +1,5 @@
--- By what a stream is redacted by a walk backward.
-use Rattle.std.specs.Prelude.{ℕ, Bool, List, Result, false}
+-- What comes of the files of a job, and by what a stream is redacted by a walk backward.
+use Rattle.std.specs.Prelude.{◌≡◌, ℕ, Bool, List, OnOk, Result, false, true}
 use Rattle.std.specs.Borrow.{Bor}
 use Rattle.std.specs.declared.io.traits.Read.{Ghosts as Readers}
 use Rattle.std.specs.declared.io.traits.Write.{Ghosts as Writers}
@@ -10,14 +10,17 @@ use Rattle.aho_backward.specs.Searcher.{IsBackwardOf}
 use Rattle.aho_backward.specs.declared.backward.Backward.{Backward}
 use Rattle.aho_devices.specs.declared.device.Sink.{Ghosts as SinkGhosts}
 use Rattle.aho_devices.specs.declared.device.Source.{Ghosts as SourceGhosts}
+use Rattle.acredact.specs.Bounds.{JobNumbers}
 use Rattle.acredact.specs.Files.{FilesOutcome, redactor_of, work_of}
-use Rattle.acredact.specs.Secrets.{IfOf, Redactor, redactor_by}
+use Rattle.acredact.specs.Secrets.{Redactor, redactor_by}
 use Rattle.acredact.specs.Streams.{StreamOutcome}
-use Rattle.acredact.specs.Totals.{JobCounts}
+use Rattle.acredact.specs.Totals.{CountsJob}
+use Rattle.acredact.specs.Volumes.{JobVolume}
 use Rattle.acredact.specs.Ways.{IsRedactor}
 use Rattle.acredact.specs.declared.files.Job.{Job}
 use Rattle.acredact.specs.declared.folder.Folder.{Ghosts as Folders}
 use Rattle.acredact.specs.declared.streams.Streams.{Streams}
+use Rattle.acredact.specs.declared.summary.Volume.{Volume}
 
 -- what comes of a stream that it redacts by its patterns, with these replacements
 abbrev pub BackStream : {A R W : Type 0} → Ghosts A → SourceGhosts R → SinkGhosts W → Backward A → List (Bor (List ℕ)) → Result (Unit {0}) StreamError → (source source' : R) (sink sink' : W) → Type 0
@@ -27,19 +30,27 @@ BackStream G S K searcher replacements result source source' sink sink' =
 -- it and an automaton redact so, with these replacements
 pub record IsBacking {A B : Type 0} (G : Ghosts A) (H : Ghosts B) (searcher : Backward B) (automaton : A) (replacements : List (Bor (List ℕ))) (r : Redactor) : Type 0 where
   pub backward : IsBackwardOf H searcher r.patterns
-  pub forward : IsRedactor G automaton false false replacements r
+  pub forward : IsRedactor G automaton replacements r
 
 module _ {R W E F X : Type 0} {Reads : Readers R} (D : Folders F X) (job : Job F) where
   -- what comes of the files of a job that are redacted by these patterns
   abbrev pub FilesJob : Writers W → SinkGhosts E → Result Bool StreamError → (streams streams' : Streams R W E Reads) → Patterns → Type 0
   FilesJob Writes K result streams streams' p = FilesOutcome Writes K (work_of D job (redactor_of job p)) result streams streams'
 
-module _ {A B R W E F X : Type 0} {Reads : Readers R} (Writes : Writers W) (K : SinkGhosts E) (G : Ghosts A) (H : Ghosts B) (D : Folders F X) (automaton : A) where
-  -- the same of those of an automaton and a searcher
-  abbrev pub BackOutcome : Backward B → Job F → Result Bool StreamError → (streams streams' : Streams R W E Reads) → Type 0
-  BackOutcome searcher job result streams streams' = IfOf G automaton (λ p. IsBackwardOf H searcher p → FilesJob D job Writes K result streams streams' p)
+module _ {R W E F X : Type 0} {Reads : Readers R} (Writes : Writers W) (K : SinkGhosts E) (D : Folders F X) (job : Job F)
+    (result : Result Bool StreamError) (streams streams' : Streams R W E Reads) (counts counts' : List ℕ) (volume volume' : Volume) where
+  -- what was written and told of the files of a job, what was counted, and how much was read; and then the output was flushed
+  pub record DoesJob (r : Redactor) : Type 0 where
+    pub outcome : FilesOutcome Writes K (work_of D job r) result streams streams'
+    pub counted : CountsJob D job result streams streams' counts counts' r
+    pub read : JobVolume D job result volume volume' streams streams'
+    pub most : OnOk result (JobNumbers D job counts counts' volume volume' streams streams')
+    pub flushed : OnOk result (streams'.output.device.flushed ≡ true)
 
-module _ {A B R W E F X Z : Type 0} {Reads : Readers R} (G : Ghosts A) (H : Ghosts B) (D : Folders F X) (automaton : A) where
-  -- and what is counted
-  abbrev pub BackCounts : Backward B → Job F → Result Bool Z → (streams streams' : Streams R W E Reads) → (counts counts' : List ℕ) → Type 0
-  BackCounts searcher job result streams streams' counts counts' = IfOf G automaton (λ p. IsBackwardOf H searcher p → JobCounts D job result streams streams' counts counts' p)
+  -- by these patterns
+  abbrev pub DoesByPatterns : Patterns → Type 0
+  DoesByPatterns p = DoesJob (redactor_of job p)
+
+-- what holds of the patterns of both an automaton and a searcher
+abbrev pub IfOfBoth : {A B : Type 0} → Ghosts A → Ghosts B → A → Backward B → (Patterns → Type 0) → Type 0
+IfOfBoth G H automaton searcher Holds = (p : Patterns) → G.is_of automaton p → IsBackwardOf H searcher p → Holds p

@@ -67,19 +67,11 @@ module _ (holds : List ℕ → Option (List ℕ)) where
     pub bytes : volume'.bytes ≤ volume.bytes + size
     pub files : volume'.files ≤ volume.files + length names
 
--- by what an input had left and has left
-abbrev pub NumbersOfInput : {R : Type 0} {Reads : Readers R} → (counts counts' : List ℕ) → (volume volume' : Volume) → (input input' : FromRead R Reads) → Type 0
-NumbersOfInput counts counts' volume volume' input input' = NumbersRead counts counts' volume.bytes volume'.bytes (bytes_left input) (bytes_left input')
-
 module _ {F X : Type 0} (D : Folders F X) (job : Job F) {R : Type 0} {Reads : Readers R} where
   -- of a file of a job
   abbrev pub NumbersOfFile : List ℕ → (counts counts' : List ℕ) → (volume volume' : Volume) → (input input' : FromRead R Reads) → Type 0
   NumbersOfFile name counts counts' volume volume' input input' =
       NumbersOfName counts counts' volume.bytes volume'.bytes (D.holds job.folder.now) name (bytes_left input) (bytes_left input')
-
-  -- the same from streams to streams
-  abbrev pub NumbersTold : {W E : Type 0} → List ℕ → (counts counts' : List ℕ) → (volume volume' : Volume) → (streams streams' : Streams R W E Reads) → Type 0
-  NumbersTold name counts counts' volume volume' streams streams' = NumbersOfFile name counts counts' volume volume' streams.input streams'.input
 
   -- and of all files of a job
   abbrev pub JobNumbers : {W E : Type 0} → (counts counts' : List ℕ) → (volume volume' : Volume) → (streams streams' : Streams R W E Reads) → Type 0

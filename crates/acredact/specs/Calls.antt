@@ -1,5 +1,5 @@
 -- What a call does, by what its arguments ask for, and what it tells.
-use Rattle.std.specs.Prelude.{◌≡◌, ◌⊎◌, ℕ, ◌<◌, ◌≤◌, slice_index, ◌||◌, Bool, MatchBool, true, false, List, [], ◌∷◌, Option, Result, Ok, IfErr, IfOk, OnErr, codes, is_some, length, map, option_map, unwrap_or, if◌then◌else◌}
+use Rattle.std.specs.Prelude.{◌≡◌, ◌⊎◌, ℕ, ◌<◌, ◌≤◌, slice_index, ◌||◌, Bool, MatchBool, true, false, List, [], ◌∷◌, Option, Result, Ok, Err, IfErr, IfOk, OnErr, codes, is_some, length, map, option_map, unwrap_or, if◌then◌else◌}
 use Rattle.std.specs.declared.io.traits.Read.{Ghosts as Readers}
 use Rattle.std.specs.declared.io.traits.Write.{Ghosts as Writers}
 use Rattle.aho_core.specs.Listing.{IsMember}
@@ -24,7 +24,7 @@ use Rattle.acredact.specs.Counts.{secret_lines, lines_of_rules}
 use Rattle.acredact.specs.Doubts.{IsDoubtFailure, TellsWarnings, all_doubt_lines}
 use Rattle.acredact.specs.Failures.{IsFailureLine}
 use Rattle.acredact.specs.Forms.{forms_asked}
-use Rattle.acredact.specs.Files.{AreCut, AreDone, AreFree, AreRedacted, Does, Work, are_none, unread_line}
+use Rattle.acredact.specs.Files.{AreCut, AreFree, AreRedacted, Work, unread_line}
 use Rattle.acredact.specs.Hidden.{AreHidden}
 use Rattle.acredact.specs.Loading.{AreGiven, AreLoaded, CannotLoadAll, CannotLoadKey, CannotLoadOne, Loaded, Reading, Rules, loaded_in}
 use Rattle.acredact.specs.Messages.{output_line, unclean_line}
@@ -187,6 +187,12 @@ MayFail call fails failure =
 abbrev pub IsUnreadLine : List (List ℕ) → List ℕ → Type 0
 IsUnreadLine names line = (name : List ℕ) × IsOneOf name names × (((reason : Reason) × (line ≡ unread_line name reason)) ⊎ (line ≡ output_line name))
 
+-- what is told of files, by whether all were read to their ends, where that is answered
+abbrev pub TellsOfFiles : {E X : Type 0} → SinkGhosts E → List (List ℕ) → Result Bool X → (errors errors' : Errors E) → Type 0
+TellsOfFiles K names (Ok true) errors errors' = errors' ≡ errors
+TellsOfFiles K names (Ok false) errors errors' = TellsSome K (IsUnreadLine names) errors errors'
+TellsOfFiles K names (Err error) errors errors' = Tells K (IsUnreadLine names) errors errors'
+
 -- the lines of the counts of some patterns, each with the line of its file
 abbrev pub IsCountsText : List Given → List Secret → List ℕ → Type 0
 IsCountsText given secrets text = (counts : List ℕ) × (volume : Volume) × (text ≡ totals_text given (secret_lines secrets) counts volume)
@@ -264,6 +270,13 @@ pub record TellsTotals {E : Type 0} (K : SinkGhosts E) (given : List Given) (sec
   pub told : TellsBytes K errors errors' (totals_text given (secret_lines secrets) (sums_of secrets counts) volume)
   pub whole : errors'.failed ≡ false
 
+-- the patterns and the key were loaded, of the input with so many bytes left, and then this is so
+pub record LoadsCall (call : Call) (left : Option (List ℕ)) (Is : Loaded → (between : Option (List ℕ)) → Type 0) : Type 0 where
+  pub load : Loaded
+  pub between : Option (List ℕ)
+  pub loaded : AreLoaded (reading_by call) call.given load left between
+  pub is : Is load between
+
 -- of all patterns that were loaded the pieces are told, where they are not clean
 pub record WarnsCall {E : Type 0} (K : SinkGhosts E) (call : Call) (left : Option (List ℕ)) (errors errors' : Errors E) : Type 0 where
   pub load : Loaded
@@ -280,97 +293,71 @@ pub record TellsNumbers {E : Type 0} (K : SinkGhosts E) (call : Call) (secrets :
   pub words : Tells K (IsWordLine call) errors meanwhile
   pub told : Tells K (λ line. line ≡ totals_text call.given (secret_lines secrets) counts volume) meanwhile errors'
 
--- the numbers of the patterns that were loaded
-pub record TellsCallNumbers {E : Type 0} (K : SinkGhosts E) (call : Call) (left left' : Option (List ℕ)) (errors errors' : Errors E) : Type 0 where
-  pub load : Loaded
-  pub between : Option (List ℕ)
-  pub loaded : AreLoaded (reading_by call) call.given load left between
-  pub numbers : TellsNumbers K call load.secrets between left' errors errors'
-
--- or no number is told
+-- those of the patterns that were loaded, or no number is told
 abbrev pub TellsAnyNumbers : {E : Type 0} → SinkGhosts E → Call → (left left' : Option (List ℕ)) → (errors errors' : Errors E) → Type 0
-TellsAnyNumbers K call left left' errors errors' = Tells K (IsWordLine call) errors errors' ⊎ TellsCallNumbers K call left left' errors errors'
+TellsAnyNumbers K call left left' errors errors' = Tells K (IsWordLine call) errors errors' ⊎ LoadsCall call left (λ load between. TellsNumbers K call load.secrets between left' errors errors')
 
 -- and then at most why the call ends early
 abbrev pub TellsUpToEnd : {E : Type 0} → SinkGhosts E → Call → (fails : Type 0) → (left left' : Option (List ℕ)) → (errors errors' : Errors E) → Type 0
 TellsUpToEnd K call fails left left' errors errors' = (meanwhile : Errors _) × TellsAnyNumbers K call left left' errors meanwhile
     × ((errors' ≡ meanwhile) ⊎ ((failure : Failure) × MayFail call fails failure × (line : List ℕ) × IsFailureLine failure line × TellsBytes K meanwhile errors' line))
 
-module _ {R : Type 0} {Reads : Readers R} {W : Type 0} (Writes : Writers W) where
-  module _ {E : Type 0} (call : Call) (left : Option (List ℕ)) (streams streams' : Streams R W E Reads) where
-    -- all patterns were loaded, of the input with so many bytes left, and all files were redacted
-    pub record RedactsCall : Type 0 where
-      pub load : Loaded
-      pub between : Option (List ℕ)
-      pub loaded : AreLoaded (reading_by call) call.given load left between
-      pub redacted : AreRedacted (work_by call load) (names_asked call.given) between (bytes_left streams'.input)
-          (output_bytes Writes streams.output) (output_bytes Writes streams'.output)
+module _ {W : Type 0} (Writes : Writers W) where
+  module _ (call : Call) (left left' : Option (List ℕ)) (output output' : FromWrite W) where
+    -- all files were redacted
+    abbrev pub RedactsCall : Type 0
+    RedactsCall = LoadsCall call left (λ load between. AreRedacted (work_by call load) (names_asked call.given) between left' (output_bytes Writes output) (output_bytes Writes output'))
 
-    -- the same, and no pattern occurs in what was written of a file
-    pub record LeavesNone : Type 0 where
-      pub load : Loaded
-      pub between : Option (List ℕ)
-      pub loaded : AreLoaded (reading_by call) call.given load left between
-      pub free : AreFree (work_by call load) (names_asked call.given) between (bytes_left streams'.input)
-          (output_bytes Writes streams.output) (output_bytes Writes streams'.output)
+    -- and no pattern occurs in what was written of a file
+    abbrev pub LeavesNone : Type 0
+    LeavesNone = LoadsCall call left (λ load between. AreFree (work_by call load) (names_asked call.given) between left' (output_bytes Writes output) (output_bytes Writes output'))
 
     -- and no form shows a secret in what was written
     pub record HidesCall : Type 0 where
       pub load : Loaded
       pub between : Option (List ℕ)
       pub loaded : AreLoaded (reading_by call) call.given load left between
-      pub hidden : AreHidden (forms_asked (last_value Forms call.given)) loaded.given_all.plain (work_by call load) (names_asked call.given) between (bytes_left streams'.input)
-          (output_bytes Writes streams.output) (output_bytes Writes streams'.output)
+      pub hidden : AreHidden (forms_asked (last_value Forms call.given)) loaded.given_all.plain (work_by call load) (names_asked call.given) between left' (output_bytes Writes output) (output_bytes Writes output')
 
-    -- all patterns were loaded, and of some first files the redaction or a beginning of it was written
-    pub record BeginsFiles : Type 0 where
-      pub load : Loaded
-      pub between : Option (List ℕ)
-      pub loaded : AreLoaded (reading_by call) call.given load left between
-      pub lines : List (List ℕ)
-      pub cut : AreCut (work_by call load) (names_asked call.given) lines between (bytes_left streams'.input)
-          (output_bytes Writes streams.output) (output_bytes Writes streams'.output)
-
-    -- or nothing was written
+    -- of some first files the redaction or a beginning of it was written, or nothing
     abbrev pub BeginsCall : Type 0
-    BeginsCall = (streams'.output ≡ streams.output) ⊎ BeginsFiles
+    BeginsCall = (output' ≡ output) ⊎ LoadsCall call left (λ load between. (lines : List (List ℕ))
+        × AreCut (work_by call load) (names_asked call.given) lines between left' (output_bytes Writes output) (output_bytes Writes output'))
 
-  module _ {E : Type 0} (K : SinkGhosts E) where
-    -- all patterns were loaded, and all files were redacted. What pieces are not clean is told, and then how often the text of each
-    -- pattern was written: of how many ranges of the texts of all files it took the place
-    pub record CountsCall (call : Call) (left : Option (List ℕ)) (streams streams' : Streams R W E Reads) : Type 0 where
+  module _ {E : Type 0} (K : SinkGhosts E) (call : Call) (left left' : Option (List ℕ)) where
+    -- all files were redacted. What pieces are not clean is told, and then how often the text of each pattern was written: of how many ranges
+    -- of the texts of all files it took the place
+    pub record CountsCall (output output' : FromWrite W) (errors errors' : Errors E) : Type 0 where
       pub load : Loaded
       pub between : Option (List ℕ)
       pub loaded : AreLoaded (reading_by call) call.given load left between
-      pub redacted : AreRedacted (work_by call load) (names_asked call.given) between (bytes_left streams'.input)
-          (output_bytes Writes streams.output) (output_bytes Writes streams'.output)
+      pub redacted : AreRedacted (work_by call load) (names_asked call.given) between left' (output_bytes Writes output) (output_bytes Writes output')
       pub ranges : List Occurrence
-      pub found : NamesHaveRanges (work_by call load) (names_asked call.given) ranges between (bytes_left streams'.input)
+      pub found : NamesHaveRanges (work_by call load) (names_asked call.given) ranges between left'
       pub meanwhile : Errors E
-      pub warned : TellsWarnings K (has Strict call.given) call.given load.secrets (redactor_by_given call.given load) streams.errors meanwhile
+      pub warned : TellsWarnings K (has Strict call.given) call.given load.secrets (redactor_by_given call.given load) errors meanwhile
       pub volume : Volume
-      pub read : ReadsVolume call.holds (names_asked call.given) no_volume volume between (bytes_left streams'.input)
-      pub counted : TellsTotals K call.given load.secrets ranges volume meanwhile streams'.errors
-
-    -- nothing was written or told
-    pub record IsUntouched (streams streams' : Streams R W E Reads) : Type 0 where
-      pub output : streams'.output ≡ streams.output
-      pub errors : streams'.errors ≡ streams.errors
+      pub read : ReadsVolume call.holds (names_asked call.given) no_volume volume between left'
+      pub counted : TellsTotals K call.given load.secrets ranges volume meanwhile errors'
 
     -- what comes of a call
-    pub record CallOutcome (call : Call) (left : Option (List ℕ)) (result : Result Bool Failure) (streams streams' : Streams R W E Reads) : Type 0 where
-      pub redacts : result ≡ Ok true → RedactsCall call left streams streams'
-      pub strict : RefusesUnclean call.given → result ≡ Ok true → LeavesNone call left streams streams'
-      pub refused : IfErr result (λ failure. (unclean : Unclean) → failure ≡ UncleanPiece unclean → IsUntouched streams streams')
-      pub begins : BeginsCall call left streams streams'
-      pub quiet : counts_asked call.given ≡ false → result ≡ Ok true → WarnsCall K call left streams.errors streams'.errors
-      pub counts : counts_asked call.given ≡ true → result ≡ Ok true → CountsCall call left streams streams'
-      pub partly : result ≡ Ok false
-          → TellsSome K (IsLineOf call (OutputFails streams.output streams'.output)) streams.errors streams'.errors
-      pub fails : IfErr result (MayFail call (OutputFails streams.output streams'.output))
-      pub told : OnErr result (Tells K (IsLineOf call (OutputFails streams.output streams'.output)) streams.errors streams'.errors)
-      pub numbers : TellsAnyNumbers K call left (bytes_left streams'.input) streams.errors streams'.errors
+    pub record CallOutcome (result : Result Bool Failure) (output output' : FromWrite W) (errors errors' : Errors E) : Type 0 where
+      pub redacts : result ≡ Ok true → RedactsCall call left left' output output'
+      pub strict : RefusesUnclean call.given → result ≡ Ok true → LeavesNone call left left' output output'
+      pub begins : BeginsCall call left left' output output'
+      pub quiet : counts_asked call.given ≡ false → result ≡ Ok true → WarnsCall K call left errors errors'
+      pub counts : counts_asked call.given ≡ true → result ≡ Ok true → CountsCall output output' errors errors'
+      pub partly : result ≡ Ok false → TellsSome K (IsLineOf call (OutputFails output output')) errors errors'
+      pub fails : IfErr result (MayFail call (OutputFails output output'))
+      pub told : OnErr result (Tells K (IsLineOf call (OutputFails output output')) errors errors')
+      pub numbers : TellsAnyNumbers K call left left' errors errors'
 
+-- what holds of a call from one state of the streams to another
+abbrev pub OfCall : {R W E : Type 0} {Reads : Readers R} → (Call → (left left' : Option (List ℕ)) → (output output' : FromWrite W) → Type 0) → Call → (streams streams' : Streams R W E Reads) → Type 0
+OfCall Is call streams streams' = Is call (bytes_left streams.input) (bytes_left streams'.input) streams.output streams'.output
+
+module _ {R : Type 0} {Reads : Readers R} {W : Type 0} (Writes : Writers W) where
+  module _ {E : Type 0} (K : SinkGhosts E) where
     -- of the files of a call it is told how often the text of each pattern was written
     abbrev pub CountsRest : Call → Loaded → (streams streams' : Streams R W E Reads) → Type 0
     CountsRest call load streams streams' = (ranges : List Occurrence)
@@ -390,21 +377,13 @@ module _ {R : Type 0} {Reads : Readers R} {W : Type 0} (Writes : Writers W) wher
           → TellsSome K (IsLineOf call (OutputFails streams.output streams'.output)) streams.errors streams'.errors
       pub fails : IfErr result (MayFail call (OutputFails streams.output streams'.output))
       pub told : OnErr result (Tells K (IsLineOf call (OutputFails streams.output streams'.output)) streams.errors streams'.errors)
-      pub other : IfErr result (λ failure. (unclean : Unclean) → failure ≡ UncleanPiece unclean → ⊥)
       pub numbers : Tells K (IsWordLine call) streams.errors streams'.errors ⊎ TellsNumbers K call load.secrets (bytes_left streams.input) (bytes_left streams'.input) streams.errors streams'.errors
-
-    -- what comes of the files, where the failure says why they are not redacted
-    pub record RunOutcome (work : Work) (result : Result Bool Failure) (streams streams' : Streams R W E Reads) : Type 0 where
-      pub done : IfOk result (λ all. (lines : List (List ℕ)) × (all ≡ are_none lines) × Does Writes K streams streams' (AreDone work work.names lines) lines)
-      pub cut : OnErr result ((streams' ≡ streams) ⊎ ((lines : List (List ℕ)) × Does Writes K streams streams' (AreCut work work.names lines) lines))
-      pub quiet : result ≡ Ok true → streams'.errors ≡ streams.errors
-      pub fails : IfErr result (IsRunFailure (OutputFails streams.output streams'.output))
 
     -- the same of a call whose patterns and key were loaded, with the bytes that the input has left since
     abbrev pub LoadOutcome : {F X : Type 0} → Folders F X → F → List Given → Loaded → Result Bool Failure → (streams streams' : Streams R W E Reads) → Type 0
     LoadOutcome D folder given load result streams streams' = (left : Option (List ℕ))
         → AreLoaded (reading_by (call_of D folder given)) given load left (bytes_left streams.input)
-        → CallOutcome (call_of D folder given) left result streams streams'
+        → CallOutcome Writes K (call_of D folder given) left (bytes_left streams'.input) result streams.output streams'.output streams.errors streams'.errors
 
     -- and behind what is told of them
     abbrev pub ReadyOutcome : {F X : Type 0} → Folders F X → F → List Given → Loaded → Result Bool Failure → (streams streams' : Streams R W E Reads) → Type 0
@@ -414,27 +393,29 @@ module _ {R : Type 0} {Reads : Readers R} {W : Type 0} (Writes : Writers W) wher
 
     -- and of a call whose patterns are to be loaded
     abbrev pub AskedOutcome : {F X : Type 0} → Folders F X → F → List Given → Result Bool Failure → (streams streams' : Streams R W E Reads) → Type 0
-    AskedOutcome D folder given result streams streams' = CallOutcome (call_of D folder given) (bytes_left streams.input) result streams streams'
+    AskedOutcome D folder given result streams streams' =
+        CallOutcome Writes K (call_of D folder given) (bytes_left streams.input) (bytes_left streams'.input) result streams.output streams'.output streams.errors streams'.errors
 
-  -- what these options and files ask for is redacted
-  abbrev pub RedactsAsked : {E F X : Type 0} → Folders F X → F → List Given → (streams streams' : Streams R W E Reads) → Type 0
-  RedactsAsked D folder given streams streams' = RedactsCall (call_of D folder given) (bytes_left streams.input) streams streams'
+  module _ {E F X : Type 0} (D : Folders F X) (folder : F) (given : List Given) (streams streams' : Streams R W E Reads) where
+    -- what these options and files ask for is redacted
+    abbrev pub RedactsAsked : Type 0
+    RedactsAsked = OfCall (RedactsCall Writes) (call_of D folder given) streams streams'
 
-  -- and no pattern is left
-  abbrev pub LeavesNoneAsked : {E F X : Type 0} → Folders F X → F → List Given → (streams streams' : Streams R W E Reads) → Type 0
-  LeavesNoneAsked D folder given streams streams' = LeavesNone (call_of D folder given) (bytes_left streams.input) streams streams'
+    -- and no pattern is left
+    abbrev pub LeavesNoneAsked : Type 0
+    LeavesNoneAsked = OfCall (LeavesNone Writes) (call_of D folder given) streams streams'
 
-  -- and no form shows one
-  abbrev pub HidesAsked : {E F X : Type 0} → Folders F X → F → List Given → (streams streams' : Streams R W E Reads) → Type 0
-  HidesAsked D folder given streams streams' = HidesCall (call_of D folder given) (bytes_left streams.input) streams streams'
+    -- and no form shows one
+    abbrev pub HidesAsked : Type 0
+    HidesAsked = OfCall (HidesCall Writes) (call_of D folder given) streams streams'
+
+    -- or some of it, and nothing else is written
+    abbrev pub BeginsAsked : Type 0
+    BeginsAsked = OfCall (BeginsCall Writes) (call_of D folder given) streams streams'
 
   -- and counted
   abbrev pub CountsAsked : {E F X : Type 0} → SinkGhosts E → Folders F X → F → List Given → (streams streams' : Streams R W E Reads) → Type 0
-  CountsAsked K D folder given streams streams' = CountsCall K (call_of D folder given) (bytes_left streams.input) streams streams'
-
-  -- or some of it, and nothing else is written
-  abbrev pub BeginsAsked : {E F X : Type 0} → Folders F X → F → List Given → (streams streams' : Streams R W E Reads) → Type 0
-  BeginsAsked D folder given streams streams' = BeginsCall (call_of D folder given) (bytes_left streams.input) streams streams'
+  CountsAsked K D folder given streams streams' = OfCall (λ call left left' output output'. CountsCall Writes K call left left' output output' streams.errors streams'.errors) (call_of D folder given) streams streams'
 
 -- one line or more of a call that asks for this is told
 abbrev pub TellsAsked : {R W E F X : Type 0} {Reads : Readers R} → SinkGhosts E → Folders F X → F → List Given → (streams streams' : Streams R W E Reads) → Type 0

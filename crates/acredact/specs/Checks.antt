@@ -122,6 +122,14 @@ WarnsOfList call line = (has Strict call.given ≡ false) × (secrets : List Sec
 abbrev pub IsCheckLine : Call → List ℕ → Type 0
 IsCheckLine call line = IsUnreadLine (names_asked call.given) line ⊎ WarnsOfList call line
 
+-- what an exit status says: that nothing was found, or that something was, and what is told then, or else what tells why not all was read
+pub record CheckSays (Unmatched Matched Quiet Told : Type 0) (status : ℕ) : Type 0 where
+  pub unmatched : status ≡ 0 → Unmatched
+  pub matched : status ≡ 1 → Matched
+  pub quiet : status < 2 → Quiet
+  pub tells : status ≡ 2 → Told
+  pub bound : status ≤ 2
+
 module _ {E : Type 0} (K : SinkGhosts E) where
   -- of a call whose patterns were loaded each file was looked at, and these lines were told, behind what is told of patterns of lists
   pub record LooksBehind (call : Call) (found : Bool) (lines : List (List ℕ)) (left left' : Option (List ℕ)) (errors errors' : Errors E) : Type 0 where
@@ -168,12 +176,9 @@ module _ {E : Type 0} (K : SinkGhosts E) where
     pub told : TellsBytes K errors errors' (concat lines ++ line)
 
   -- what the exit status of a check says
-  pub record CheckStatus (call : Call) (status : ℕ) (left left' : Option (List ℕ)) (errors errors' : Errors E) : Type 0 where
-    pub unmatched : status ≡ 0 → IsUnmatchedCall call left left'
-    pub matched : status ≡ 1 → SeesCall call true [] left left'
-    pub quiet : status < 2 → TellsListsAlone call left errors errors'
-    pub tells : status ≡ 2 → TellsUnread call left left' errors errors' ⊎ TellsCheckEnd call errors errors'
-    pub bound : status ≤ 2
+  abbrev pub CheckStatus : Call → (status : ℕ) → (left left' : Option (List ℕ)) → (errors errors' : Errors E) → Type 0
+  CheckStatus call status left left' errors errors' = CheckSays (IsUnmatchedCall call left left') (SeesCall call true [] left left') (TellsListsAlone call left errors errors')
+      (TellsUnread call left left' errors errors' ⊎ TellsCheckEnd call errors errors') status
 
 -- the same of the input, by what the folder and the options say
 module _ {E F Y R : Type 0} {Reads : Readers R} (K : SinkGhosts E) (D : Folders F Y) where

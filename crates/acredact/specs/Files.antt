@@ -1,5 +1,5 @@
 -- What is written of files, one after another, and what is told of those that cannot be read.
-use Rattle.std.specs.Prelude.{◌≡◌, ◌⊎◌, ℕ, ◌≤◌, ◌&&◌, length, Bool, true, false, List, [], ◌∷◌, ◌++◌, Option, None, Result, Ok, IfErr, IfOk, IfSome, OnErr, option_map}
+use Rattle.std.specs.Prelude.{◌≡◌, ◌⊎◌, ℕ, ◌≤◌, ◌&&◌, length, Bool, true, false, List, [], ◌∷◌, ◌++◌, Option, None, Some, Result, Ok, Err, IfErr, IfOk, OnErr, option_map}
 use Rattle.std.specs.Io.KnownBytes.{Appends, Consumes, IsAtEnd, Keeps}
 use Rattle.std.specs.List.{concat}
 use Rattle.std.specs.declared.io.traits.Read.{Ghosts as Readers}
@@ -8,6 +8,7 @@ use Rattle.aho_core.specs.Patterns.{Patterns}
 use Rattle.aho_core.specs.Replacement.{pieces_of}
 use Rattle.aho_core.specs.declared.error.stream.StreamError.{StreamError}
 use Rattle.aho_automaton.specs.declared.automaton.Automaton.{Ghosts}
+use Rattle.aho_cover.specs.Pieces.{PieceRule}
 use Rattle.aho_devices.specs.Counts.{counted}
 use Rattle.aho_devices.specs.Refusals.{is_write_fault, is_write_of_nothing}
 use Rattle.aho_devices.specs.declared.adapters.FromRead.{FromRead}
@@ -21,7 +22,7 @@ use Rattle.tool_parts.specs.declared.reason.Reason.{Reason}
 use Rattle.acredact.specs.Faults.{IsOutputEnd, IsReadReason}
 use Rattle.acredact.specs.Messages.{line_about, output_line}
 use Rattle.acredact.specs.Reads.{EachName, OfName, ReadsText}
-use Rattle.acredact.specs.Secrets.{BeginsRedaction, IfOf, IsPromptUpTo, IsRedaction, IsWrittenUpTo, CanRedact, Keyed, NoneOccurs, Redactor, key_of_cover}
+use Rattle.acredact.specs.Secrets.{BeginsRedaction, IsPromptUpTo, IsRedaction, IsWrittenUpTo, CanRedact, Keyed, NoneOccurs, Redactor, key_of_cover, rule_by}
 use Rattle.acredact.specs.declared.files.Job.{Job}
 use Rattle.acredact.specs.declared.folder.Folder.{Ghosts as Folders}
 use Rattle.acredact.specs.declared.ways.Key.{Key}
@@ -41,6 +42,10 @@ keyed_of key = record { bytes = key.bytes.now; ignore_case = key.ignore_case }
 
 abbrev pub key_for : Bool → Option Key → Option Keyed
 key_for covers key = key_of_cover covers (option_map keyed_of key)
+
+-- what stands in the place of each range, whatever the patterns are
+abbrev pub rule_for : {F : Type 0} → Job F → PieceRule
+rule_for job = rule_by (key_for job.covers job.key) (pieces_of job.replacements.now)
 
 abbrev pub redactor_of : {F : Type 0} → Job F → Patterns → Redactor
 redactor_of job p = record {
@@ -174,27 +179,29 @@ pub record FailsByOutput {X W : Type 0} (result : Result X StreamError) (output 
   pub took_nothing : output'.empty_writes ≡ counted (is_write_of_nothing result) output.empty_writes
   pub only : IfErr result IsOutputEnd
 
+-- what comes of a text: where no reason is answered it was read to its end, and its redaction was written; else a beginning was
+abbrev pub ComesOfText : Redactor → Result (Option Reason) StreamError → (left left' held held' : Option (List ℕ)) → Type 0
+ComesOfText r (Ok None) left left' held held' = RedactsText r left left' held held'
+ComesOfText r (Ok (Some reason)) left left' held held' =
+    IsReadReason reason × BeginsText r left left' held held' × (r.covers ≡ true → ReachesText r left left' held held')
+ComesOfText r (Err error) left left' held held' = BeginsText r left left' held held'
+
+-- and of the file of a name
+abbrev pub ComesOfFile : Work → List ℕ → Result (Option Reason) StreamError → (left left' held held' : Option (List ℕ)) → Type 0
+ComesOfFile work name (Ok None) left left' held held' = RedactsName work name left left' held held'
+ComesOfFile work name (Ok (Some reason)) left left' held held' = IsUnread work name reason left left' held held'
+ComesOfFile work name (Err error) left left' held held' = BeginsNamed work name left left' held held'
+
 module _ {W : Type 0} (Writes : Writers W) where
-  -- what comes of a text, by what a reader of it has left before and after: where no reason is answered it was read to its end
-  pub record TextOutcome (r : Redactor) (result : Result (Option Reason) StreamError) (left left' : Option (List ℕ)) (output output' : FromWrite W) : Type 0 where
-    pub redacted : result ≡ Ok None → RedactsText r left left' (output_bytes Writes output) (output_bytes Writes output')
-    pub begun : BeginsText r left left' (output_bytes Writes output) (output_bytes Writes output')
-    pub near : r.covers ≡ true → IfOk result (λ unread. IfSome unread (λ reason. ReachesText r left left' (output_bytes Writes output) (output_bytes Writes output')))
-    pub reason : IfOk result (λ unread. IfSome unread IsReadReason)
+  -- that, by what a reader of the text has left before and after
+  pub record TextDone (r : Redactor) (result : Result (Option Reason) StreamError) (left left' : Option (List ℕ)) (output output' : FromWrite W) : Type 0 where
+    pub comes : ComesOfText r result left left' (output_bytes Writes output) (output_bytes Writes output')
     pub fails : FailsByOutput result output output'
 
   module _ {R : Type 0} {Reads : Readers R} where
-    -- what comes of an input
-    abbrev pub InputOutcome : Redactor → Result (Option Reason) StreamError → (input input' : FromRead R Reads) → (output output' : FromWrite W) → Type 0
-    InputOutcome r result input input' output output' = TextOutcome r result (bytes_left input) (bytes_left input') output output'
-
-    -- what comes of the file of a name
+    -- the same of a file
     pub record FileOutcome (work : Work) (name : List ℕ) (result : Result (Option Reason) StreamError) (input input' : FromRead R Reads) (output output' : FromWrite W) : Type 0 where
-      pub redacted : result ≡ Ok None
-          → RedactsName work name (bytes_left input) (bytes_left input') (output_bytes Writes output) (output_bytes Writes output')
-      pub begun : BeginsNamed work name (bytes_left input) (bytes_left input') (output_bytes Writes output) (output_bytes Writes output')
-      pub unread : IfOk result (λ unread. IfSome unread (λ reason.
-          IsUnread work name reason (bytes_left input) (bytes_left input') (output_bytes Writes output) (output_bytes Writes output')))
+      pub comes : ComesOfFile work name result (bytes_left input) (bytes_left input') (output_bytes Writes output) (output_bytes Writes output')
       pub fails : FailsByOutput result output output'
 
     -- the same of a file of a job
@@ -216,17 +223,9 @@ module _ {W : Type 0} (Writes : Writers W) where
         pub untold : OnErr result (streams'.errors ≡ streams.errors)
         pub fails : FailsByOutput result streams.output streams'.output
 
-      -- the same of a file of a job
-      abbrev pub ToldJob : {F X : Type 0} → Folders F X → Job F → List ℕ → Result Bool StreamError → (streams streams' : Streams R W E Reads) → Redactor → Type 0
-      ToldJob D job name result streams streams' r = ToldOutcome (work_of D job r) name result streams streams'
-
       -- what comes of all files
       pub record FilesOutcome (work : Work) (result : Result Bool StreamError) (streams streams' : Streams R W E Reads) : Type 0 where
         pub done : IfOk result (λ all. (lines : List (List ℕ)) × (all ≡ are_none lines) × Does streams streams' (AreDone work work.names lines) lines)
         pub cut : OnErr result ((lines : List (List ℕ)) × Does streams streams' (AreCut work work.names lines) lines)
         pub quiet : result ≡ Ok true → streams'.errors ≡ streams.errors
         pub fails : FailsByOutput result streams.output streams'.output
-
-      -- the same of a job, where files are redacted by an automaton
-      abbrev pub JobOutcome : {A F X : Type 0} → Ghosts A → Folders F X → A → Job F → Result Bool StreamError → (streams streams' : Streams R W E Reads) → Type 0
-      JobOutcome G D automaton job result streams streams' = IfOf G automaton (λ p. FilesOutcome (work_of D job (redactor_of job p)) result streams streams')

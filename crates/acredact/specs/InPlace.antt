@@ -1,5 +1,5 @@
 -- What becomes of files that are replaced in place: of each a new one is filled, and takes its place where all was done.
-use Rattle.std.specs.Prelude.{◌≡◌, ◌⊎◌, ℕ, Bool, true, false, List, [], ◌∷◌, Option, Result, Ok, IfErr, IfSome, OnErr, OnOk}
+use Rattle.std.specs.Prelude.{◌≡◌, ◌⊎◌, ℕ, Bool, true, false, List, [], ◌∷◌, Option, Result, Ok, Err, IfSome}
 use Rattle.std.specs.declared.io.traits.Read.{Ghosts as Readers}
 use Rattle.std.specs.declared.io.traits.Write.{Ghosts as Writers}
 use Rattle.aho_core.specs.Occurrence.{Occurrence}
@@ -18,11 +18,11 @@ use Rattle.acredact.specs.Calls.{Call, IsLineOf, MayFail, TellsTotals, WarnsCall
 use Rattle.acredact.specs.Doubts.{TellsWarnings}
 use Rattle.acredact.specs.Failures.{IsFailureLine}
 use Rattle.acredact.specs.Files.{AreFree, AreRedacted, Work, unread_line}
-use Rattle.acredact.specs.Into.{IsSpared}
+use Rattle.acredact.specs.Into.{IsKept, IsSpared, TellsUnread}
 use Rattle.acredact.specs.Loading.{AreLoaded, Loaded}
 use Rattle.acredact.specs.Messages.{no_file_line, output_line}
 use Rattle.acredact.specs.Summaries.{no_volume}
-use Rattle.acredact.specs.Totals.{NamesHaveRanges}
+use Rattle.acredact.specs.Totals.{CountsOfName, CountsOfNames, NamesHaveRanges}
 use Rattle.acredact.specs.Volumes.{ReadsVolume}
 use Rattle.acredact.specs.declared.arguments.Item.{Item}
 use Rattle.acredact.specs.declared.arguments.Word.TheVariants.{Strict}
@@ -78,23 +78,37 @@ module _ {O Z : Type 0} (Writes : Writers Z) (U : Places O Z) (work : Work) wher
   abbrev pub IsPlaced : List ℕ → (outputs outputs' : O) → Type 0
   IsPlaced name outputs outputs' = IsReplaced name outputs outputs' ⊎ IsSpared U name outputs outputs'
 
-  module _ {E : Type 0} (K : SinkGhosts E) where
-    -- what comes of the file of a name: one that is spared is told; that ends the call only where memory ran out
-    pub record PlaceOutcome (name : List ℕ) (result : Result Bool StreamError) (outputs outputs' : O) (errors errors' : Errors E) : Type 0 where
-      pub replaced : result ≡ Ok true → IsReplaced name outputs outputs' × (errors' ≡ errors)
-      pub spared : (result ≡ Ok true → ⊥) → IsSpared U name outputs outputs'
-      pub partly : result ≡ Ok false → TellsSome K (IsSparedLine name) errors errors'
-      pub told : Tells K (IsSparedLine name) errors errors'
-      pub memory : IfErr result (λ error. error ≡ Memory)
+  module _ {R E : Type 0} {Reads : Readers R} (K : SinkGhosts E) where
+    -- what comes of the file of a name: one that is replaced is counted; one that is spared is told; that ends the call only where memory ran out
+    abbrev pub PlaceOutcome : List ℕ → Result Bool StreamError → (outputs outputs' : O) → (streams streams' : Streams R Z E Reads) → (counts counts' : List ℕ) → (volume volume' : Volume) → Type 0
+    PlaceOutcome name (Ok true) outputs outputs' streams streams' counts counts' volume volume' =
+        IsReplaced name outputs outputs' × (streams'.errors ≡ streams.errors)
+        × CountsOfName (bytes_left streams.input) (bytes_left streams'.input) counts counts' work name
+        × ReadsVolume work.holds (name ∷ []) volume volume' (bytes_left streams.input) (bytes_left streams'.input)
+    PlaceOutcome name (Ok false) outputs outputs' streams streams' counts counts' volume volume' =
+        IsSpared U name outputs outputs' × TellsSome K (IsSparedLine name) streams.errors streams'.errors
+    PlaceOutcome name (Err error) outputs outputs' streams streams' counts counts' volume volume' =
+        IsSpared U name outputs outputs' × Tells K (IsSparedLine name) streams.errors streams'.errors × (error ≡ Memory)
 
     -- and of all files
-    pub record PlacesOutcome (result : Result Bool StreamError) (outputs outputs' : O) (errors errors' : Errors E) : Type 0 where
-      pub replaced : result ≡ Ok true → AreInTurn IsReplaced work.names outputs outputs' × (errors' ≡ errors)
-      pub placed : OnOk result (AreInTurn IsPlaced work.names outputs outputs')
-      pub begun : BeginInTurn IsPlaced work.names outputs outputs'
-      pub partly : result ≡ Ok false → TellsSome K (IsSparedOf work.names) errors errors'
-      pub told : Tells K (IsSparedOf work.names) errors errors'
-      pub memory : IfErr result (λ error. error ≡ Memory)
+    abbrev pub PlacesOutcome : Result Bool StreamError → (outputs outputs' : O) → (streams streams' : Streams R Z E Reads) → (counts counts' : List ℕ) → (volume volume' : Volume) → Type 0
+    PlacesOutcome (Ok true) outputs outputs' streams streams' counts counts' volume volume' =
+        AreInTurn IsReplaced work.names outputs outputs' × (streams'.errors ≡ streams.errors)
+        × CountsOfNames (bytes_left streams.input) (bytes_left streams'.input) counts counts' work work.names
+        × ReadsVolume work.holds work.names volume volume' (bytes_left streams.input) (bytes_left streams'.input)
+    PlacesOutcome (Ok false) outputs outputs' streams streams' counts counts' volume volume' =
+        AreInTurn IsPlaced work.names outputs outputs' × TellsSome K (IsSparedOf work.names) streams.errors streams'.errors
+    PlacesOutcome (Err error) outputs outputs' streams streams' counts counts' volume volume' =
+        BeginInTurn IsPlaced work.names outputs outputs' × Tells K (IsSparedOf work.names) streams.errors streams'.errors × (error ≡ Memory)
+
+module _ {R O Z E : Type 0} {Reads : Readers R} (Writes : Writers Z) (K : SinkGhosts E) (U : Places O Z) (name : List ℕ) (done : Result Bool StreamError) where
+  -- a new file took its place, where all was redacted; or it was removed, and it is told why, or was before, or memory ran out
+  abbrev pub IsSettled : Result Bool StreamError → (outputs outputs' : O) → (streams streams' : Streams R Z E Reads) → Type 0
+  IsSettled (Ok true) outputs outputs' streams streams' =
+      (done ≡ Ok true) × (streams'.errors ≡ streams.errors) × U.puts outputs outputs' name (output_bytes Writes streams.output)
+  IsSettled (Ok false) outputs outputs' streams streams' =
+      IsKept U name outputs outputs' × (((done ≡ Ok false) × (streams'.errors ≡ streams.errors)) ⊎ TellsUnread K name streams.errors streams'.errors)
+  IsSettled (Err error) outputs outputs' streams streams' = IsKept U name outputs outputs' × (streams'.errors ≡ streams.errors) × (error ≡ Memory)
 
 -- what may be told of a call: what is told of a redaction that writes nothing to standard output, and that standard input is no file
 abbrev pub IsPlaceLine : Call → List ℕ → Type 0
@@ -149,16 +163,18 @@ module _ {E : Type 0} (K : SinkGhosts E) (call : Call) (left : Option (List ℕ)
     pub counted : TellsTotals K call.given load.secrets ranges volume meanwhile errors'
 
 module _ {O Z E : Type 0} (Writes : Writers Z) (K : SinkGhosts E) (U : Places O Z) (call : Call) (left : Option (List ℕ)) where
-  -- what comes of a call
-  pub record CalledPlaces (result : Result Bool Failure) (outputs outputs' : O) (errors errors' : Errors E) : Type 0 where
-    pub replaces : result ≡ Ok true → ReplacesCall Writes U call left outputs outputs'
-    pub strict : RefusesUnclean call.given → result ≡ Ok true → FreesCall Writes U call left outputs outputs'
-    pub keeps : KeepsCall Writes U call left outputs outputs'
-    pub quiet : counts_asked call.given ≡ false → result ≡ Ok true → WarnsCall K call left errors errors'
-    pub counts : counts_asked call.given ≡ true → result ≡ Ok true → CountsPlaces K call left errors errors'
-    pub partly : result ≡ Ok false → ReachesCall Writes U call left outputs outputs' × TellsSome K (IsPlaceLine call) errors errors'
-    pub fails : IfErr result (EndsCall Writes U call left outputs outputs')
-    pub told : OnErr result (Tells K (IsPlaceLine call) errors errors')
+  -- each file was replaced, and nothing is told but of pieces, and counts
+  pub record PlacesEach (outputs outputs' : O) (errors errors' : Errors E) : Type 0 where
+    pub replaces : ReplacesCall Writes U call left outputs outputs'
+    pub strict : RefusesUnclean call.given → FreesCall Writes U call left outputs outputs'
+    pub quiet : counts_asked call.given ≡ false → WarnsCall K call left errors errors'
+    pub counts : counts_asked call.given ≡ true → CountsPlaces K call left errors errors'
+
+  -- what comes of a call: that, or each file was replaced or spared, or a failure ended it
+  abbrev pub CalledPlaces : Result Bool Failure → (outputs outputs' : O) → (errors errors' : Errors E) → Type 0
+  CalledPlaces (Ok true) outputs outputs' errors errors' = PlacesEach outputs outputs' errors errors'
+  CalledPlaces (Ok false) outputs outputs' errors errors' = ReachesCall Writes U call left outputs outputs' × TellsSome K (IsPlaceLine call) errors errors'
+  CalledPlaces (Err failure) outputs outputs' errors errors' = EndsCall Writes U call left outputs outputs' failure × Tells K (IsPlaceLine call) errors errors'
 
   -- a failure ended it, which is told last
   pub record TellsEnd (outputs outputs' : O) (errors errors' : Errors E) : Type 0 where

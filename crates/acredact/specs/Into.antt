@@ -10,7 +10,7 @@ use Rattle.tool_parts.specs.Telling.{TellsBytes, TellsSome}
 use Rattle.tool_parts.specs.declared.errors.Errors.{Errors}
 use Rattle.tool_parts.specs.declared.reason.Reason.{Reason}
 use Rattle.acredact.specs.Arguments.{Given, RefusesUnclean, counts_asked}
-use Rattle.acredact.specs.Calls.{Call, CountsAsked, IsLineOf, LeavesNoneAsked, OutputFails, RedactsAsked, WarnsAsked, call_of}
+use Rattle.acredact.specs.Calls.{CountsAsked, IsLineOf, LeavesNoneAsked, OutputFails, RedactsAsked, WarnsAsked, call_of}
 use Rattle.acredact.specs.Files.{unread_line}
 use Rattle.acredact.specs.Messages.{no_output_line}
 use Rattle.acredact.specs.Ruled.{IsRuledTold, NotesAsked, RuledAsked}
@@ -49,14 +49,9 @@ abbrev pub TellsUnread : {E : Type 0} → SinkGhosts E → List ℕ → (errors 
 TellsUnread K name errors errors' = (reason : Reason) × TellsBytes K errors errors' (unread_line name reason)
 
 -- what may be told where no file is replaced: what is told of a call, or why no new file is made or none takes the place
-abbrev pub IsOutputLine : Call → (fails : Type 0) → List ℕ → List ℕ → Type 0
-IsOutputLine call fails name line =
-    IsLineOf call fails line ⊎ (((reason : Reason) × (line ≡ unread_line name reason)) ⊎ ((is_input name ≡ true) × (line ≡ no_output_line name)))
-
--- the same of a call with rules
-abbrev pub IsRuledOutputLine : Call → List ℕ → List ℕ → Type 0
-IsRuledOutputLine call name line =
-    IsRuledTold call line ⊎ (((reason : Reason) × (line ≡ unread_line name reason)) ⊎ ((is_input name ≡ true) × (line ≡ no_output_line name)))
+abbrev pub IsOutputLine : (IsTold : List ℕ → Type 0) → List ℕ → List ℕ → Type 0
+IsOutputLine IsTold name line =
+    IsTold line ⊎ (((reason : Reason) × (line ≡ unread_line name reason)) ⊎ ((is_input name ≡ true) × (line ≡ no_output_line name)))
 
 module _ {R Z E F X O : Type 0} {Reads : Readers R} (Writes : Writers Z) (K : SinkGhosts E) (D : Folders F X) (U : Places O Z) (folder : F) (name : List ℕ) (outputs outputs' : O) (streams streams' : Streams R Z E Reads) (given : List Given) where
   -- a new file was made, which was empty, all was redacted into it, and then it took the place of the one of this name
@@ -88,9 +83,9 @@ module _ {R Z E F X O : Type 0} {Reads : Readers R} (Writes : Writers Z) (K : Si
 
   -- or one line or more says why none did: of what was written to the new file, if one was made
   abbrev pub TellsNew : Type 0
-  TellsNew = TellsSome K (IsOutputLine (call_of D folder given) ⊥ name) streams.errors streams'.errors
+  TellsNew = TellsSome K (IsOutputLine (IsLineOf (call_of D folder given) ⊥) name) streams.errors streams'.errors
       ⊎ ((file : FromWrite Z) × (meanwhile : O) × U.makes outputs meanwhile name (output_bytes Writes file)
-      × TellsSome K (IsOutputLine (call_of D folder given) (OutputFails file streams'.output) name) streams.errors streams'.errors)
+      × TellsSome K (IsOutputLine (IsLineOf (call_of D folder given) (OutputFails file streams'.output)) name) streams.errors streams'.errors)
 
 module _ {R Z E F X O : Type 0} {Reads : Readers R} (Writes : Writers Z) (K : SinkGhosts E) (D : Folders F X) (U : Places O Z) (folder : F) (name : List ℕ) (status : ℕ) (outputs outputs' : O) (streams streams' : Streams R Z E Reads) (given : List Given) where
   -- the first where the status is 0
@@ -104,25 +99,11 @@ module _ {R Z E F X O : Type 0} {Reads : Readers R} (Writes : Writers Z) (K : Si
   abbrev pub TellsNone : Type 0
   TellsNone = (status ≡ 0 → ⊥) → TellsNew Writes K D U folder name outputs outputs' streams streams' given
 
-module _ {R Z E F X : Type 0} {Reads : Readers R} (Writes : Writers Z) (K : SinkGhosts E) (D : Folders F X) (folder : F) (status : ℕ) (streams streams' : Streams R Z E Reads) (given : List Given) where
-  -- where the status is 0, and pieces that are not clean are refused, no pattern is left
-  abbrev pub LeavesNoneAll : Type 0
-  LeavesNoneAll = RefusesUnclean given → status ≡ 0 → LeavesNoneAsked Writes D folder given streams streams'
-
-  -- and the counts that are asked for are told
-  abbrev pub CountsAll : Type 0
-  CountsAll = counts_asked given ≡ true → status ≡ 0 → CountsAsked Writes K D folder given streams streams'
-
--- else nothing is told but the pieces that are not clean
+-- where the status is 0, and no counts are asked for, nothing is told but the pieces that are not clean
 abbrev pub WarnsAll : {R Z E F X : Type 0} {Reads : Readers R} → SinkGhosts E → Folders F X → F → ℕ → (streams streams' : Streams R Z E Reads) → List Given → Type 0
 WarnsAll K D folder status streams streams' given = counts_asked given ≡ false → status ≡ 0 → WarnsAsked K D folder given streams streams'
 
--- what is told where a new file does not take the place
-abbrev pub TellsUnput : {R Z E F X : Type 0} {Reads : Readers R} → SinkGhosts E → Folders F X → F → List ℕ → ℕ → (streams streams' : Streams R Z E Reads) → List Given → Type 0
-TellsUnput K D folder name status streams streams' given = (status ≡ 0 → ⊥)
-    → TellsSome K (IsOutputLine (call_of D folder given) (OutputFails streams.output streams'.output) name) streams.errors streams'.errors
-
--- the same of a call with rules, whether one was made or not
+-- what is told of a call with rules where no new file takes the place, whether one was made or not
 abbrev pub RuledTellsUnput : {R W E F X : Type 0} {Reads : Readers R} → SinkGhosts E → Folders F X → F → List ℕ → ℕ → (streams streams' : Streams R W E Reads) → List Given → Type 0
 RuledTellsUnput K D folder name status streams streams' given = (status ≡ 0 → ⊥)
-    → TellsSome K (IsRuledOutputLine (call_of D folder given) name) streams.errors streams'.errors
+    → TellsSome K (IsOutputLine (IsRuledTold (call_of D folder given)) name) streams.errors streams'.errors

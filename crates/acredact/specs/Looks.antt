@@ -90,9 +90,18 @@ is_unread_look Clean = false
 is_unread_look Found = false
 is_unread_look (Unread reason) = true
 
--- what is seen of all files, with one more
-abbrev pub verdict_with : Verdict → Look → Verdict
-verdict_with verdict look = record { found = verdict.found || is_found look; all = verdict.all && not (is_unread_look look) }
+-- what is seen of a file
+abbrev pub verdict_of : Look → Verdict
+verdict_of look = record { found = is_found look; all = not (is_unread_look look) }
+
+-- what is seen of files, and then of others
+abbrev pub both_seen : (first more : Verdict) → Verdict
+both_seen first more = record { found = first.found || more.found; all = first.all && more.all }
+
+-- whether all files were read, where that is answered
+abbrev pub all_seen : {X : Type 0} → Result Verdict X → Result Bool X
+all_seen (Ok verdict) = Ok verdict.all
+all_seen (Err error) = Err error
 
 -- a text was read to its end, and nothing counts in it
 abbrev pub HoldsNoMatch : Redactor → (left left' : Option (List ℕ)) → Type 0

@@ -36,7 +36,7 @@ use Rattle.secret_rules.specs.declared.error.LineError.{LineError}
 use Rattle.secret_rules.specs.declared.error.LineError.TheVariants.{Mark, Stream}
 use Rattle.secret_rules.specs.declared.rule.Rule.{Rule}
 use Rattle.acredact.specs.Arguments.{AsksForRules, Given, all_given, counts_asked, has, last_value}
-use Rattle.acredact.specs.Calls.{Call, IsUnreadLine, call_of, keyed_as, names_asked, pieces_asked, reading_by, text_asked}
+use Rattle.acredact.specs.Calls.{Call, IsUnreadLine, TellsOfFiles, call_of, keyed_as, names_asked, pieces_asked, reading_by, text_asked}
 use Rattle.acredact.specs.Doubts.{TellsDoubts, all_doubt_lines}
 use Rattle.acredact.specs.Files.{BeginsWriting, WritesText}
 use Rattle.acredact.specs.LineRules.{AreRulesRead, most_asked}
@@ -278,30 +278,27 @@ IsRuledTold call line =
     ⊎ (((failure : RuledFailure) × IsRuledLine failure line)
     ⊎ IsRuledNotice call line)
 
+-- patterns and rules were loaded, of the input with so many bytes left, and then this is so
+pub record LoadsRules (call : Call) (left : Option (List ℕ)) (Is : RuledLoad → (between : Option (List ℕ)) → Type 0) : Type 0 where
+  pub load : RuledLoad
+  pub between : Option (List ℕ)
+  pub loaded : AreRuledLoaded (reading_by call) call.given load left between
+  pub is : Is load between
+
 module _ (call : Call) (left left' held held' : Option (List ℕ)) where
-  -- all patterns and rules were loaded, and all files were redacted
-  pub record RedactsByRules : Type 0 where
-    pub load : RuledLoad
-    pub between : Option (List ℕ)
-    pub loaded : AreRuledLoaded (reading_by call) call.given load left between
-    pub redacted : AreRuled (ruled_by call load) (names_asked call.given) between left' held held'
+  -- all files were redacted
+  abbrev pub RedactsByRules : Type 0
+  RedactsByRules = LoadsRules call left (λ load between. AreRuled (ruled_by call load) (names_asked call.given) between left' held held')
 
-  -- they were loaded, and of each file the redaction or a beginning of it was written
-  pub record BeginsLoaded : Type 0 where
-    pub load : RuledLoad
-    pub between : Option (List ℕ)
-    pub loaded : AreRuledLoaded (reading_by call) call.given load left between
-    pub begun : AreBegun (ruled_by call load) (names_asked call.given) between left' held held'
-
-  -- or nothing was written
+  -- of each file the redaction or a beginning of it was written, or nothing was
   abbrev pub BeginsByRules : Type 0
-  BeginsByRules = Keeps held held' ⊎ BeginsLoaded
+  BeginsByRules = Keeps held held' ⊎ LoadsRules call left (λ load between. AreBegun (ruled_by call load) (names_asked call.given) between left' held held')
 
 module _ {E : Type 0} (K : SinkGhosts E) where
   -- what a call tells that does not redact all
-  pub record TellsRuled (call : Call) (result : Result Bool RuledFailure) (errors errors' : Errors E) : Type 0 where
+  pub record TellsRuled {X : Type 0} (call : Call) (result : Result Bool X) (errors errors' : Errors E) : Type 0 where
     pub told : Tells K (IsRuledTold call) errors errors'
-    pub partly : result ≡ Ok false → TellsSome K (IsRuledTold call) errors errors'
+    pub partly : IfOk result (λ all. all ≡ false → TellsSome K (IsRuledTold call) errors errors')
 
   -- where all was redacted it is told how many lines were too long, and then, where that is asked for, how many runs have each number and
   -- how much was read
@@ -321,11 +318,8 @@ module _ {E : Type 0} (K : SinkGhosts E) where
     pub numbers : NumbersOf call load left left' meanwhile errors'
 
   -- of the patterns and rules that were loaded
-  pub record NotesByRules (call : Call) (left left' : Option (List ℕ)) (errors errors' : Errors E) : Type 0 where
-    pub load : RuledLoad
-    pub between : Option (List ℕ)
-    pub loaded : AreRuledLoaded (reading_by call) call.given load left between
-    pub notes : NotesOf call load between left' errors errors'
+  abbrev pub NotesByRules : Call → (left left' : Option (List ℕ)) → (errors errors' : Errors E) → Type 0
+  NotesByRules call left left' errors errors' = LoadsRules call left (λ load between. NotesOf call load between left' errors errors')
 
   -- at the end it is told how many runs of all files have the number of each of them, and how much was read: each of both that is asked for
   pub record CountsByRules (call : Call) (left left' : Option (List ℕ)) (errors' : Errors E) : Type 0 where
@@ -339,36 +333,32 @@ module _ {E : Type 0} (K : SinkGhosts E) where
     pub meanwhile : Errors E
     pub counted : TellsRunTotals K call.given load.secrets load.rules runs volume meanwhile errors'
 
-  -- what comes of a file: its redaction was written, or a beginning of it; and where it was not read to its end that is told
+  -- what comes of a file: its redaction was written and its runs were counted, or a beginning was written; and where it was not read to
+  -- its end that is told
   pub record LinedFile (work : RuledWork) (name : List ℕ) (result : Result Bool LineError) (counts counts' : List ℕ) (left left' held held' : Option (List ℕ)) (errors errors' : Errors E) : Type 0 where
-    pub whole : result ≡ Ok true → RedactsRuled work name left left' held held'
+    pub whole : IfOk result (λ all. all ≡ true → RedactsRuled work name left left' held held' × CountsFileRuns work.holds work.ruling.covering name left left' counts counts')
     pub begun : WritesRuled work name left left' held held'
-    pub counted : result ≡ Ok true → CountsFileRuns work.holds work.ruling.covering name left left' counts counts'
-    pub partly : result ≡ Ok false → TellsSome K (IsUnreadLine (name ∷ [])) errors errors'
-    pub untold : (result ≡ Ok false → ⊥) → errors' ≡ errors
+    pub told : TellsOfFiles K (name ∷ []) result errors errors'
 
   -- the same of files, one after another
   pub record LinedFiles (work : RuledWork) (names : List (List ℕ)) (result : Result Bool LineError) (counts counts' : List ℕ) (left left' held held' : Option (List ℕ)) (errors errors' : Errors E) : Type 0 where
-    pub whole : result ≡ Ok true → AreRuled work names left left' held held'
+    pub whole : IfOk result (λ all. all ≡ true → AreRuled work names left left' held held' × CountsAllRuns work.holds work.ruling.covering names left left' counts counts')
     pub begun : AreBegun work names left left' held held'
-    pub counted : result ≡ Ok true → CountsAllRuns work.holds work.ruling.covering names left left' counts counts'
-    pub told : Tells K (IsUnreadLine names) errors errors'
-    pub partly : result ≡ Ok false → TellsSome K (IsUnreadLine names) errors errors'
-    pub quiet : result ≡ Ok true → errors' ≡ errors
+    pub told : TellsOfFiles K names result errors errors'
 
   -- of the files of a call whose patterns and rules were loaded
   pub record RuledOutcome (call : Call) (load : RuledLoad) (result : Result Bool RuledFailure) (left left' held held' : Option (List ℕ)) (errors errors' : Errors E) : Type 0 where
-    pub whole : result ≡ Ok true → AreRuled (ruled_by call load) (names_asked call.given) left left' held held'
+    pub whole : IfOk result (λ all. all ≡ true → AreRuled (ruled_by call load) (names_asked call.given) left left' held held')
     pub begun : AreBegun (ruled_by call load) (names_asked call.given) left left' held held'
     pub tells : TellsRuled call result errors errors'
-    pub notes : result ≡ Ok true → NumbersOf call load left left' errors errors'
+    pub notes : IfOk result (λ all. all ≡ true → NumbersOf call load left left' errors errors')
 
   -- and of the whole call
   pub record RuledCall (call : Call) (result : Result Bool RuledFailure) (left left' held held' : Option (List ℕ)) (errors errors' : Errors E) : Type 0 where
-    pub whole : result ≡ Ok true → RedactsByRules call left left' held held'
+    pub whole : IfOk result (λ all. all ≡ true → RedactsByRules call left left' held held')
     pub begun : BeginsByRules call left left' held held'
     pub tells : TellsRuled call result errors errors'
-    pub notes : result ≡ Ok true → NotesByRules call left left' errors errors'
+    pub notes : IfOk result (λ all. all ≡ true → NotesByRules call left left' errors errors')
 
   -- what its status says
   pub record RuledStatus (call : Call) (status : ℕ) (left left' held held' : Option (List ℕ)) (errors errors' : Errors E) : Type 0 where

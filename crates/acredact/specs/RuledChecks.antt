@@ -1,8 +1,8 @@
 -- What a check by rules sees in the lines of files, and what it writes of that.
-use Rattle.std.specs.Prelude.{◌≡◌, ◌⊎◌, ℕ, ◌+◌, ◌-◌, ◌<◌, ◌≤◌, ◌^◌, min, nat_lt, ◌&&◌, ◌||◌, not, Bool, true, false, List, [], ◌∷◌, ◌++◌, Option, None, Some, Result, Ok, Err, IfOk, codes, decimal, if◌then◌else◌, length, replicate, slice_get, slice_index_or, slice_set, string_bytes, ⊤}
+use Rattle.std.specs.Prelude.{◌≡◌, ◌⊎◌, ℕ, ◌+◌, ◌-◌, ◌<◌, ◌^◌, min, nat_lt, ◌&&◌, ◌||◌, not, Bool, true, false, List, [], ◌∷◌, ◌++◌, Option, None, Some, Result, Ok, Err, IfOk, codes, decimal, if◌then◌else◌, length, replicate, slice_get, slice_index_or, slice_set, string_bytes}
 use Rattle.std.specs.Borrow.{Bor, MutBor}
 use Rattle.std.specs.Io.{StartsWith}
-use Rattle.std.specs.Io.KnownBytes.{Appends, Consumes, IsAtEnd, Keeps}
+use Rattle.std.specs.Io.KnownBytes.{Appends, Keeps}
 use Rattle.std.specs.declared.io.traits.Read.{Ghosts as Readers}
 use Rattle.std.specs.declared.io.traits.Write.{Ghosts as Writers}
 use Rattle.aho_core.specs.Occurrence.{Occurrence}
@@ -15,7 +15,7 @@ use Rattle.aho_devices.specs.declared.device.Source.{Ghosts as SourceGhosts}
 use Rattle.aho_stream.specs.Replacing.{MayBe, SourceGave}
 use Rattle.tool_parts.specs.Names.{name_bytes}
 use Rattle.tool_parts.specs.Streams.{bytes_left, output_bytes}
-use Rattle.tool_parts.specs.Telling.{Tells, TellsSome}
+use Rattle.tool_parts.specs.Telling.{TellsSome}
 use Rattle.tool_parts.specs.declared.errors.Errors.{Errors}
 use Rattle.tool_parts.specs.declared.reason.Reason.TheVariants.{PositionLimit as TooLong, ReadFault}
 use Rattle.secret_rules.specs.Covering.{AreLineRuns, Covering, covering_by}
@@ -28,14 +28,17 @@ use Rattle.secret_rules.specs.declared.error.LineError.TheVariants.{Mark, Stream
 use Rattle.secret_rules.specs.declared.line_cover.LineCover.{LineCover}
 use Rattle.secret_rules.specs.declared.rule.Rule.{Rule}
 use Rattle.acredact.specs.Arguments.{AsksForRulesCheck, Given, all_given, has}
-use Rattle.acredact.specs.Calls.{Call, IsUnreadLine, call_of, names_asked, reading_by}
+use Rattle.acredact.specs.Calls.{Call, TellsOfFiles, call_of, names_asked, reading_by}
+use Rattle.acredact.specs.Checks.{CheckSays}
 use Rattle.acredact.specs.Counts.{counted_more}
 use Rattle.acredact.specs.Doubts.{TellsDoubts}
+use Rattle.acredact.specs.Files.{BeginsWriting}
 use Rattle.acredact.specs.LineRules.{most_asked}
+use Rattle.acredact.specs.Looks.{all_seen, verdict_of}
 use Rattle.rule_files.specs.Messages.{as_shown}
 use Rattle.acredact.specs.Reads.{EachName, OfName, ReadsText}
 use Rattle.rule_files.specs.Flaws.{name_or_number}
-use Rattle.acredact.specs.Ruled.{AreRulesGiven, AreRulesGivenBy, Between, IsRuledTold, ruling_by}
+use Rattle.acredact.specs.Ruled.{AreRulesGiven, AreRulesGivenBy, Between, IsRuledTold, TellsRuled, ruling_by}
 use Rattle.acredact.specs.Sums.{counts_for}
 use Rattle.acredact.specs.Tables.{Secret, secrets_of}
 use Rattle.acredact.specs.declared.arguments.Word.TheVariants.{Summary}
@@ -197,19 +200,17 @@ pub record SeesText (covering : Covering) (labels : Labels) (name : List ℕ) (f
   pub found_is : found ≡ is_some_line runs
   pub told : Appends held held' (lines_findings labels name 1 runs)
 
--- some first lines of a text were read, and a beginning of what tells of them was written
-pub record BeginsTelling (covering : Covering) (labels : Labels) (name : List ℕ) (left left' held held' : Option (List ℕ)) : Type 0 where
-  pub given : List ℕ
-  pub ended : Bool
-  pub read : Consumes left left' given
-  pub at_end : ended ≡ true → IsAtEnd left'
+-- these bytes begin what tells of some first lines of whatever the text may be, of which this was given
+pub record BeginsFindings (covering : Covering) (labels : Labels) (name given : List ℕ) (ended : Bool) (part : List ℕ) : Type 0 where
   pub lines : List Line
   pub runs : List (List Occurrence)
   pub are : AreLineRuns covering [] lines runs
   pub first : (bytes : List ℕ) → MayBe given ended bytes → AreFirstLines lines (stream_lines bytes)
-  pub part : List ℕ
   pub begins : StartsWith (lines_findings labels name 1 runs) part
-  pub written : Appends held held' part
+
+-- some of a text was read, and such bytes were written
+abbrev pub BeginsTelling : Covering → Labels → (name : List ℕ) → (left left' held held' : Option (List ℕ)) → Type 0
+BeginsTelling covering labels name left left' held held' = BeginsWriting (BeginsFindings covering labels name) left left' held held'
 
 -- the same of the file of a name
 pub record SeesNamed (quest : LineQuest) (name : List ℕ) (found : Bool) (left left' held held' : Option (List ℕ)) : Type 0 where
@@ -249,47 +250,27 @@ abbrev pub found_of : Result (Unit {0}) LineError → Bool → Result Bool LineE
 found_of (Ok done) found = Ok found
 found_of (Err error) found = Err error
 
--- what holds where a file was read to its end, by whether something was found
-abbrev pub IfLooked : Result Look LineError → (Bool → Type 0) → Type 0
-IfLooked (Ok Clean) Holds = Holds false
-IfLooked (Ok Found) Holds = Holds true
-IfLooked (Ok (Unread reason)) Holds = ⊤
-IfLooked (Err error) Holds = ⊤
-
-abbrev pub IfSeenWhole : Result (Option Bool) LineError → (Bool → Type 0) → Type 0
-IfSeenWhole (Ok None) Holds = ⊤
-IfSeenWhole (Ok (Some found)) Holds = Holds found
-IfSeenWhole (Err error) Holds = ⊤
-
--- what is seen of all files, with one more
-abbrev pub verdict_seen : Verdict → Option Bool → Verdict
-verdict_seen verdict None = record { found = verdict.found; all = false }
-verdict_seen verdict (Some found) = record { found = verdict.found || found; all = verdict.all }
-
 -- what comes of a text, and of the file of a name
 pub record LookedText (covering : Covering) (labels : Labels) (name : List ℕ) (result : Result Look LineError) (left left' held held' : Option (List ℕ)) : Type 0 where
-  pub whole : IfLooked result (λ found. SeesText covering labels name found left left' held held')
+  pub whole : IfOk result (λ look. (verdict_of look).all ≡ true → SeesText covering labels name (verdict_of look).found left left' held held')
   pub begun : BeginsTelling covering labels name left left' held held'
 
 pub record LookedNamed (quest : LineQuest) (name : List ℕ) (result : Result Look LineError) (left left' held held' : Option (List ℕ)) : Type 0 where
-  pub whole : IfLooked result (λ found. SeesNamed quest name found left left' held held')
+  pub whole : IfOk result (λ look. (verdict_of look).all ≡ true → SeesNamed quest name (verdict_of look).found left left' held held')
   pub begun : BeginsNamedTelling quest name left left' held held'
 
 module _ {E : Type 0} (K : SinkGhosts E) where
   -- where it was not read to its end that is told
-  pub record SeenFile (quest : LineQuest) (name : List ℕ) (result : Result (Option Bool) LineError) (left left' held held' : Option (List ℕ)) (errors errors' : Errors E) : Type 0 where
-    pub whole : IfSeenWhole result (λ found. SeesNamed quest name found left left' held held')
+  pub record SeenFile (quest : LineQuest) (name : List ℕ) (result : Result Verdict LineError) (left left' held held' : Option (List ℕ)) (errors errors' : Errors E) : Type 0 where
+    pub whole : IfOk result (λ verdict. verdict.all ≡ true → SeesNamed quest name verdict.found left left' held held')
     pub begun : BeginsNamedTelling quest name left left' held held'
-    pub partly : result ≡ Ok None → TellsSome K (IsUnreadLine (name ∷ [])) errors errors'
-    pub untold : (result ≡ Ok None → ⊥) → errors' ≡ errors
+    pub told : TellsOfFiles K (name ∷ []) (all_seen result) errors errors'
 
   -- the same of files, one after another
   pub record SeenFiles (quest : LineQuest) (names : List (List ℕ)) (result : Result Verdict LineError) (left left' held held' : Option (List ℕ)) (errors errors' : Errors E) : Type 0 where
     pub whole : IfOk result (λ verdict. verdict.all ≡ true → SeesAllLines quest names verdict.found left left' held held')
     pub begun : BeginAllTelling quest names left left' held held'
-    pub told : Tells K (IsUnreadLine names) errors errors'
-    pub partly : IfOk result (λ verdict. verdict.all ≡ false → TellsSome K (IsUnreadLine names) errors errors')
-    pub quiet : IfOk result (λ verdict. verdict.all ≡ true → errors' ≡ errors)
+    pub told : TellsOfFiles K names (all_seen result) errors errors'
 
 -- what is loaded: the secrets that are patterns, and the rules
 pub record CheckLoad : Type 0 where
@@ -310,74 +291,55 @@ labels_by given load = record { secrets = load.secrets; rules = load.rules; most
 abbrev pub line_quest_by : Call → CheckLoad → LineQuest
 line_quest_by call load = record { holds = call.holds; covering = covering_asked call.given load; labels = labels_by call.given load }
 
-module _ (call : Call) (found : Bool) (left left' held held' : Option (List ℕ)) where
-  -- each file was read to its end, and this says whether there is a run in a line of one; where that is asked for all of them were told
-  pub record SeesLoaded (load : CheckLoad) : Type 0 where
-    pub runs : List (List (List Occurrence))
-    pub have : HaveLineRuns call.holds (covering_asked call.given load) (names_asked call.given) runs left left'
-    pub found_is : found ≡ is_some_file runs
-    pub told : has Summary call.given ≡ true → Appends held held' (files_findings (labels_by call.given load) (names_asked call.given) runs)
+-- they were loaded, of the input with so many bytes left, and then this is so
+pub record LoadsToCheck (call : Call) (left : Option (List ℕ)) (Is : CheckLoad → (between : Option (List ℕ)) → Type 0) : Type 0 where
+  pub load : CheckLoad
+  pub between : Option (List ℕ)
+  pub loaded : AreRulesGiven (reading_by call) call.given load.secrets load.rules left between
+  pub is : Is load between
 
-  -- of patterns and rules that were loaded
-  pub record SeesByRules : Type 0 where
-    pub load : CheckLoad
-    pub between : Option (List ℕ)
-    pub loaded : AreRulesGiven (reading_by call) call.given load.secrets load.rules left between
-    pub runs : List (List (List Occurrence))
-    pub have : HaveLineRuns call.holds (covering_asked call.given load) (names_asked call.given) runs between left'
-    pub found_is : found ≡ is_some_file runs
-    pub told : has Summary call.given ≡ true → Appends held held' (files_findings (labels_by call.given load) (names_asked call.given) runs)
+-- each file was read to its end, and this says whether there is a run in a line of one; where that is asked for all of them were told
+pub record SeesLoaded (call : Call) (found : Bool) (left left' held held' : Option (List ℕ)) (load : CheckLoad) : Type 0 where
+  pub runs : List (List (List Occurrence))
+  pub have : HaveLineRuns call.holds (covering_asked call.given load) (names_asked call.given) runs left left'
+  pub found_is : found ≡ is_some_file runs
+  pub told : has Summary call.given ≡ true → Appends held held' (files_findings (labels_by call.given load) (names_asked call.given) runs)
+
+-- of patterns and rules that were loaded
+abbrev pub SeesByRules : Call → (found : Bool) → (left left' held held' : Option (List ℕ)) → Type 0
+SeesByRules call found left left' held held' = LoadsToCheck call left (λ load between. SeesLoaded call found between left' held held' load)
 
 module _ (call : Call) (left left' held held' : Option (List ℕ)) where
-  -- they were loaded, and a beginning of what tells of each file was written
-  pub record BeginsRuledTelling : Type 0 where
-    pub load : CheckLoad
-    pub between : Option (List ℕ)
-    pub loaded : AreRulesGiven (reading_by call) call.given load.secrets load.rules left between
-    pub begun : BeginAllTelling (line_quest_by call load) (names_asked call.given) between left' held held'
-
-  -- or nothing was
+  -- a beginning of what tells of each file was written, or nothing was
   abbrev pub BeginsRuledCheck : Type 0
-  BeginsRuledCheck = Keeps held held' ⊎ BeginsRuledTelling
+  BeginsRuledCheck = Keeps held held' ⊎ LoadsToCheck call left (λ load between. BeginAllTelling (line_quest_by call load) (names_asked call.given) between left' held held')
 
   abbrev pub BeginsLoadedCheck : CheckLoad → Type 0
   BeginsLoadedCheck load = Keeps held held' ⊎ BeginAllTelling (line_quest_by call load) (names_asked call.given) left left' held held'
 
 module _ {E : Type 0} (K : SinkGhosts E) where
-  -- what is told of a check that does not read all
-  pub record TellsRuledCheck (call : Call) (result : Result Verdict RuledFailure) (errors errors' : Errors E) : Type 0 where
-    pub told : Tells K (IsRuledTold call) errors errors'
-    pub partly : IfOk result (λ verdict. verdict.all ≡ false → TellsSome K (IsRuledTold call) errors errors')
-
   -- what comes of the files of a call whose patterns and rules were loaded
   pub record CheckedLines (call : Call) (load : CheckLoad) (result : Result Verdict RuledFailure) (left left' held held' : Option (List ℕ)) (errors errors' : Errors E) : Type 0 where
     pub whole : IfOk result (λ verdict. verdict.all ≡ true → SeesLoaded call verdict.found left left' held held' load)
     pub begun : BeginsLoadedCheck call left left' held held' load
-    pub tells : TellsRuledCheck call result errors errors'
+    pub tells : TellsRuled K call (all_seen result) errors errors'
     pub quiet : IfOk result (λ verdict. verdict.all ≡ true → errors' ≡ errors)
 
   -- nothing was told but of the patterns of the lists that were loaded
-  pub record TellsListsBeside (call : Call) (left : Option (List ℕ)) (errors errors' : Errors E) : Type 0 where
-    pub load : CheckLoad
-    pub between : Option (List ℕ)
-    pub loaded : AreRulesGiven (reading_by call) call.given load.secrets load.rules left between
-    pub doubts : TellsDoubts K false call.given load.secrets errors errors'
+  abbrev pub TellsListsBeside : Call → (left : Option (List ℕ)) → (errors errors' : Errors E) → Type 0
+  TellsListsBeside call left errors errors' = LoadsToCheck call left (λ load between. TellsDoubts K false call.given load.secrets errors errors')
 
   -- and of the whole call
   pub record RuledCheck (call : Call) (result : Result Verdict RuledFailure) (left left' held held' : Option (List ℕ)) (errors errors' : Errors E) : Type 0 where
     pub whole : IfOk result (λ verdict. verdict.all ≡ true → SeesByRules call verdict.found left left' held held')
     pub begun : BeginsRuledCheck call left left' held held'
-    pub tells : TellsRuledCheck call result errors errors'
+    pub tells : TellsRuled K call (all_seen result) errors errors'
     pub quiet : IfOk result (λ verdict. verdict.all ≡ true → TellsListsBeside call left errors errors')
 
   -- what its status says
-  pub record RuledCheckStatus (call : Call) (status : ℕ) (left left' held held' : Option (List ℕ)) (errors errors' : Errors E) : Type 0 where
-    pub unmatched : status ≡ 0 → SeesByRules call false left left' held held'
-    pub matched : status ≡ 1 → SeesByRules call true left left' held held'
-    pub begins : BeginsRuledCheck call left left' held held'
-    pub tells : status ≡ 2 → TellsSome K (IsRuledTold call) errors errors'
-    pub quiet : status < 2 → TellsListsBeside call left errors errors'
-    pub bound : status ≤ 2
+  abbrev pub RuledCheckStatus : Call → (status : ℕ) → (left left' held held' : Option (List ℕ)) → (errors errors' : Errors E) → Type 0
+  RuledCheckStatus call status left left' held held' errors errors' = CheckSays (SeesByRules call false left left' held held') (SeesByRules call true left left' held held')
+      (TellsListsBeside call left errors errors') (TellsSome K (IsRuledTold call) errors errors') status
 
 -- what covers lines does so by this
 pub record IsCoveredBy {A : Type 0} (G : Automata A) (cover : LineCover A) (covering : Covering) : Type 0 where
@@ -411,12 +373,8 @@ pub record BeginsGiven {R W : Type 0} (S : SourceGhosts R) (K : SinkGhosts W) (f
   pub given : List ℕ
   pub ended : Bool
   pub gives : SourceGave S source source' given ended
-  pub lines : List Line
-  pub runs : List (List Occurrence)
-  pub are : AreLineRuns covering [] lines runs
-  pub first : (bytes : List ℕ) → MayBe given ended bytes → AreFirstLines lines (stream_lines bytes)
   pub part : List ℕ
-  pub begins : StartsWith (lines_findings (labels_of findings.legend) findings.name.now 1 runs) part
+  pub begins : BeginsFindings covering (labels_of findings.legend) findings.name.now given ended part
   pub written : Appends (K.taken output) (K.taken output') part
 
 -- what is looked for in a folder
@@ -441,7 +399,7 @@ module _ {W : Type 0} (K : SinkGhosts W) where
 
     module _ {E : Type 0} (L : SinkGhosts E) where
       -- where it is told if it was not read to its end
-      abbrev pub SeesFile : {F X : Type 0} → Folders F X → Checked F → List ℕ → Result (Option Bool) LineError → (input input' : FromRead R Reads) → (output output' : W) → (errors errors' : Errors E) → Covering → Type 0
+      abbrev pub SeesFile : {F X : Type 0} → Folders F X → Checked F → List ℕ → Result Verdict LineError → (input input' : FromRead R Reads) → (output output' : W) → (errors errors' : Errors E) → Covering → Type 0
       SeesFile D checked name result input input' output output' errors errors' covering =
           SeenFile L (quest_in D checked covering) name result (bytes_left input) (bytes_left input') (K.taken output) (K.taken output') errors errors'
 
@@ -474,6 +432,7 @@ module _ {R : Type 0} {Reads : Readers R} {W E : Type 0} (Writes : Writers W) (K
 -- of a call that asks for this
 pub record ChecksByRules {R W E : Type 0} {Reads : Readers R} (Writes : Writers W) (K : SinkGhosts E) (call : Call) (status : ℕ) (streams streams' : Streams R W E Reads) : Type 0 where
   pub says : Between Writes (RuledCheckStatus K call status) streams streams'
+  pub begins : BeginsRuledCheck call (bytes_left streams.input) (bytes_left streams'.input) (output_bytes Writes streams.output) (output_bytes Writes streams'.output)
   pub unwritten : has Summary call.given ≡ false → streams'.output ≡ streams.output
   pub flushed : has Summary call.given ≡ true → status < 2 → streams'.output.device.flushed ≡ true
 

@@ -6,7 +6,7 @@ use Rattle.aho_devices.specs.declared.device.Sink.{Ghosts as SinkGhosts}
 use Rattle.tool_parts.specs.Streams.{bytes_left}
 use Rattle.tool_parts.specs.Telling.{TellsSome}
 use Rattle.acredact.specs.Arguments.{AsksToRedact, Given, GivesNoPattern, RefusesUnclean, counts_asked}
-use Rattle.acredact.specs.Calls.{BeginsCall, Call, CountsCall, IsLineOf, LeavesNone, OutputFails, RedactsCall, TellsUpToEnd, WarnsCall, call_of}
+use Rattle.acredact.specs.Calls.{BeginsCall, Call, CountsCall, IsLineOf, LeavesNone, OfCall, OutputFails, RedactsCall, TellsUpToEnd, WarnsCall, call_of}
 use Rattle.acredact.specs.Checks.{SaysOfCheck}
 use Rattle.acredact.specs.Ruled.{SaysOfRules}
 use Rattle.acredact.specs.RuledChecks.{SaysOfRulesCheck}
@@ -27,11 +27,12 @@ pub record IsIdle {R W E : Type 0} {Reads : Readers R} (streams streams' : Strea
 pub record CallStatus {R W E : Type 0} {Reads : Readers R} (Writes : Writers W) (K : SinkGhosts E) (call : Call) (status : ℕ) (streams streams' : Streams R W E Reads) : Type 0 where
   pub patternless : GivesNoPattern call.given → status ≡ 2
   pub idle : GivesNoPattern call.given → IsIdle streams streams'
-  pub redacts : status ≡ 0 → RedactsCall Writes call (bytes_left streams.input) streams streams'
-  pub begins : BeginsCall Writes call (bytes_left streams.input) streams streams'
-  pub strict : RefusesUnclean call.given → status ≡ 0 → LeavesNone Writes call (bytes_left streams.input) streams streams'
+  pub redacts : status ≡ 0 → OfCall (RedactsCall Writes) call streams streams'
+  pub begins : OfCall (BeginsCall Writes) call streams streams'
+  pub strict : RefusesUnclean call.given → status ≡ 0 → OfCall (LeavesNone Writes) call streams streams'
   pub quiet : counts_asked call.given ≡ false → status ≡ 0 → WarnsCall K call (bytes_left streams.input) streams.errors streams'.errors
-  pub counts : counts_asked call.given ≡ true → status ≡ 0 → CountsCall Writes K call (bytes_left streams.input) streams streams'
+  pub counts : counts_asked call.given ≡ true → status ≡ 0
+      → CountsCall Writes K call (bytes_left streams.input) (bytes_left streams'.input) streams.output streams'.output streams.errors streams'.errors
   pub tells : status ≡ 2 → TellsSome K (IsLineOf call (OutputFails streams.output streams'.output)) streams.errors streams'.errors
   pub numbers : TellsUpToEnd K call (OutputFails streams.output streams'.output) (bytes_left streams.input) (bytes_left streams'.input) streams.errors streams'.errors
 

@@ -1,17 +1,16 @@
 -- What the redaction of one stream reads and writes.
 use Rattle.std.specs.Prelude.{◌≡◌, ℕ, ◌≤◌, length, Bool, List, Result, IfErr, OnErr, OnOk, true}
-use Rattle.std.specs.Borrow.{Bor}
 use Rattle.std.specs.Io.KnownBytes.{Appends}
 use Rattle.aho_core.specs.declared.error.stream.StreamError.{StreamError}
 use Rattle.aho_devices.specs.Counts.{AppendsBeginning, counted}
-use Rattle.aho_devices.specs.Refusals.{IsFillRefusal, IsWriteRefusal, is_read_fault, is_write_fault, is_write_of_nothing}
+use Rattle.aho_devices.specs.Errors.{CountsErrors}
+use Rattle.aho_devices.specs.Refusals.{IsFillRefusal, IsWriteRefusal, is_write_fault, is_write_of_nothing}
 use Rattle.aho_devices.specs.declared.device.Sink.{Ghosts as SinkGhosts}
 use Rattle.aho_devices.specs.declared.device.Source.{Ghosts as SourceGhosts}
-use Rattle.aho_automaton.specs.declared.automaton.Automaton.{Ghosts}
 use Rattle.aho_stream.specs.After.{greatest_position}
 use Rattle.aho_stream.specs.Refills.{is_limit}
 use Rattle.aho_stream.specs.Replacing.{GaveAsMany, SourceGave}
-use Rattle.acredact.specs.Secrets.{BeginsRedaction, IfOf, IsPromptUpTo, IsRedaction, IsWrittenUpTo, Redactor, redactor_by}
+use Rattle.acredact.specs.Secrets.{BeginsRedaction, IsPromptUpTo, IsRedaction, IsWrittenUpTo, Redactor}
 use Rattle.acredact.specs.Faults.{IsStreamEnd}
 
 -- a piece was written, or a beginning of it where a write failed or took nothing
@@ -56,13 +55,6 @@ module _ {R W : Type 0} (S : SourceGhosts R) (K : SinkGhosts W) where
     pub redacted : OnOk result (RedactsStream r source source' sink sink')
     pub begun : StartsStream r source source' sink sink'
     pub near : r.covers ≡ true → IfErr result (λ error. IsFillRefusal error → ReachesStream r source source' sink sink')
-    pub read_failed : S.failures source' ≡ counted (is_read_fault result) (S.failures source)
-    pub write_failed : K.failures sink' ≡ counted (is_write_fault result) (K.failures sink)
-    pub took_nothing : K.empty_writes sink' ≡ counted (is_write_of_nothing result) (K.empty_writes sink)
+    pub errors : CountsErrors S K source source' sink sink' result
     pub limit : is_limit result ≡ true → GaveAsMany S source source' greatest_position
     pub only : IfErr result IsStreamEnd
-
--- of one that is redacted by the patterns of an automaton, by a cover or not, of words alone or not, with these replacements
-abbrev pub ComesOf : {A R W : Type 0} → Ghosts A → SourceGhosts R → SinkGhosts W → A → (covers words : Bool) → List (Bor (List ℕ)) → Result (Unit {0}) StreamError → (source source' : R) (sink sink' : W) → Type 0
-ComesOf G S K automaton covers words replacements result source source' sink sink' =
-    IfOf G automaton (λ p. StreamOutcome S K (redactor_by p covers words replacements) result source source' sink sink')

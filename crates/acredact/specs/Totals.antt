@@ -1,13 +1,12 @@
 -- How often the text of each pattern was written, by the ranges that were replaced of each text, file after file.
 use Rattle.std.specs.Prelude.{◌≡◌, ℕ, ◌-◌, ◌<◌, ◌^◌, min, Bool, true, List, [], ◌∷◌, ◌++◌, Option, None, Result, Ok, OnOk, length, slice_index}
-use Rattle.std.specs.Borrow.{Bor}
 use Rattle.std.specs.declared.io.traits.Read.{Ghosts as Readers}
 use Rattle.aho_core.specs.Occurrence.{Occurrence}
 use Rattle.aho_core.specs.Patterns.{Patterns}
 use Rattle.aho_core.specs.declared.error.stream.StreamError.{StreamError}
-use Rattle.aho_automaton.specs.declared.automaton.Automaton.{Ghosts}
 use Rattle.aho_cover.specs.Counting.{CountsThese, runs_named}
 use Rattle.aho_devices.specs.declared.adapters.FromRead.{FromRead}
+use Rattle.aho_devices.specs.declared.device.Sink.{Ghosts as SinkGhosts}
 use Rattle.aho_devices.specs.declared.device.Source.{Ghosts as SourceGhosts}
 use Rattle.aho_stream.specs.Replacing.{SourceGave}
 use Rattle.tool_parts.specs.Names.{name_bytes}
@@ -15,7 +14,8 @@ use Rattle.tool_parts.specs.Streams.{bytes_left}
 use Rattle.tool_parts.specs.declared.reason.Reason.{Reason}
 use Rattle.acredact.specs.Files.{Work, redactor_of, work_of}
 use Rattle.acredact.specs.Reads.{OfName, ReadsText}
-use Rattle.acredact.specs.Secrets.{AreReplaced, IfOf, Redactor, redactor_by}
+use Rattle.acredact.specs.Secrets.{AreReplaced, Redactor}
+use Rattle.acredact.specs.Streams.{StreamOutcome}
 use Rattle.acredact.specs.declared.files.Job.{Job}
 use Rattle.acredact.specs.declared.folder.Folder.{Ghosts as Folders}
 use Rattle.acredact.specs.declared.streams.Streams.{Streams}
@@ -63,11 +63,11 @@ module _ (left left' : Option (List ℕ)) (counts counts' : List ℕ) where
   abbrev pub CountsOfNames : Work → List (List ℕ) → Type 0
   CountsOfNames work names = (ranges : List Occurrence) × NamesHaveRanges work names ranges left left' × CountsThese ranges counts counts'
 
--- what an automaton counts in a stream that it covers or not, where that has ended
-abbrev pub CountsBy : {A R : Type 0} → Ghosts A → SourceGhosts R → A → (covers words : Bool) → List (Bor (List ℕ)) → Result (Unit {0}) StreamError
-    → (source source' : R) → (counts counts' : List ℕ) → Type 0
-CountsBy G S automaton covers words replacements result source source' counts counts' =
-    IfOf G automaton (λ p. OnOk result (CountsOfStream S (redactor_by p covers words replacements) source source' counts counts'))
+module _ {R W : Type 0} (S : SourceGhosts R) (K : SinkGhosts W) (result : Result (Unit {0}) StreamError) (source source' : R) (sink sink' : W) (counts counts' : List ℕ) where
+  -- what comes of a stream, and what is counted where it has ended
+  pub record DoesStream (r : Redactor) : Type 0 where
+    pub outcome : StreamOutcome S K r result source source' sink sink'
+    pub counted : OnOk result (CountsOfStream S r source source' counts counts')
 
 module _ {R : Type 0} {Reads : Readers R} where
   module _ {F X : Type 0} (D : Folders F X) (job : Job F) where

@@ -62,9 +62,6 @@ module _ {F X : Type 0} (D : Folders F X) {R W E Z : Type 0} {Reads : Readers R}
       → ReadsVolume (D.holds folder) (name_bytes names) volume volume' (bytes_left streams.input) (bytes_left streams'.input)
 
   -- the same of a job
-  abbrev pub FileVolume : Job F → List ℕ → Result Bool Z → (volume volume' : Volume) → (streams streams' : Streams R W E Reads) → Type 0
-  FileVolume job name result volume volume' streams streams' = OneVolume job.folder.now name result volume volume' streams streams'
-
   abbrev pub JobVolume : Job F → Result Bool Z → (volume volume' : Volume) → (streams streams' : Streams R W E Reads) → Type 0
   JobVolume job result volume volume' streams streams' = AllVolume job.folder.now job.names.now result volume volume' streams streams'
 

@@ -1,7 +1,6 @@
 -- By what a stream is redacted.
-use Rattle.std.specs.Prelude.{◌≡◌, ℕ, ◌≤◌, Bool, true, List, length, map}
+use Rattle.std.specs.Prelude.{◌≡◌, ℕ, Bool, false, true, List}
 use Rattle.std.specs.Borrow.{Bor}
-use Rattle.aho_core.specs.Laws.{shortest}
 use Rattle.aho_automaton.specs.declared.automaton.Automaton.{Ghosts}
 use Rattle.aho_cover.specs.Covers.{IsUnbegunWith}
 use Rattle.aho_cover.specs.Pieces.{PieceRule}
@@ -10,15 +9,10 @@ use Rattle.acredact.specs.Secrets.{CanRedact, Redactor, redactor_by, rule_of}
 use Rattle.acredact.specs.declared.ways.Way.{Ghosts as Ways}
 
 -- an automaton redacts so, with these replacements
-pub record IsRedactor {A : Type 0} (G : Ghosts A) (automaton : A) (covers words : Bool) (replacements : List (Bor (List ℕ))) (r : Redactor) : Type 0 where
+pub record IsRedactor {A : Type 0} (G : Ghosts A) (automaton : A) (replacements : List (Bor (List ℕ))) (r : Redactor) : Type 0 where
   pub of : G.is_of automaton r.patterns
-  pub is : r ≡ redactor_by r.patterns covers words replacements
-  pub ready : CanRedact G automaton covers replacements
-
--- and by a cover that has not begun
-pub record IsCovering {A : Type 0} (G : Ghosts A) (automaton : A) (progress : CoverProgress) (replacements : List (Bor (List ℕ))) (r : Redactor) : Type 0 where
-  pub redactor : IsRedactor G automaton true progress.words replacements r
-  pub unbegun : IsUnbegunWith progress.words G automaton progress
+  pub is : r ≡ redactor_by r.patterns false false replacements
+  pub ready : CanRedact G automaton false replacements
 
 -- an automaton covers so, of words alone or not, with pieces that are made by this rule
 pub record IsCoverer {A : Type 0} (G : Ghosts A) (automaton : A) (words : Bool) (rule : PieceRule) (r : Redactor) : Type 0 where
@@ -28,7 +22,7 @@ pub record IsCoverer {A : Type 0} (G : Ghosts A) (automaton : A) (words : Bool) 
   pub is : rule_of r ≡ rule
 
 -- and the cover has not begun
-pub record IsNamedCover {A : Type 0} (G : Ghosts A) (automaton : A) (progress : CoverProgress) (rule : PieceRule) (r : Redactor) : Type 0 where
+pub record IsCovering {A : Type 0} (G : Ghosts A) (automaton : A) (progress : CoverProgress) (rule : PieceRule) (r : Redactor) : Type 0 where
   pub coverer : IsCoverer G automaton progress.words rule r
   pub unbegun : IsUnbegunWith progress.words G automaton progress
 
@@ -36,11 +30,6 @@ pub record IsNamedCover {A : Type 0} (G : Ghosts A) (automaton : A) (progress : 
 abbrev pub IfCoverer : {A : Type 0} → Ghosts A → A → (words : Bool) → PieceRule → (Redactor → Type 0) → Type 0
 IfCoverer G automaton words rule Holds = (r : Redactor) → IsCoverer G automaton words rule r → Holds r
 
--- a way redacts so, and no pattern is empty
-pub record Redacts {X : Type 0} (G : Ways X) (way : X) (r : Redactor) : Type 0 where
-  pub by : G.by way r
-  pub some : 1 ≤ shortest (map length r.patterns.words)
-
 -- what holds of all by which a way redacts
 abbrev pub IfBy : {X : Type 0} → Ways X → X → (Redactor → Type 0) → Type 0
-IfBy G way Holds = (r : Redactor) → Redacts G way r → Holds r
+IfBy G way Holds = (r : Redactor) → G.by way r → Holds r

@@ -2,14 +2,14 @@
 
 ghost use Rattle.std.specs.Prelude.{◌≡◌, OnOk, true};
 ghost use Rattle.secret_rules.specs.Ready.{CanCoverLines};
-ghost use Rattle.acredact.specs.RuledChecks.{IfCovers, IsAtFirst, LookedFile, LookedInput, SeesFile, SeesFiles, StaysCovered, SaysLines, found_of, look_of_lines, verdict_seen};
+ghost use Rattle.acredact.specs.RuledChecks.{IfCovers, IsAtFirst, LookedFile, LookedInput, SeesFile, SeesFiles, StaysCovered, SaysLines, found_of, look_of_lines};
 
-use crate::failure::{tell_output, tell_unread};
+use crate::failure::tell_output;
 use crate::files::{is_input, opened};
 use crate::findings::Findings;
 use crate::folder::Folder;
 use crate::legend::Legend;
-use crate::look::{Look, Verdict};
+use crate::look::{Look, Verdict, both_seen, tell_look, verdict_of};
 use crate::teller::Teller;
 use chromesquid::{Automaton, FromRead, Sink, Source, StreamError};
 use secret_rules::{LineCover, LineError, visit_lines};
@@ -58,27 +58,11 @@ pub fn check_files<A: Automaton, F: Folder, I: Read, W: Sink, E: Sink>(
     let mut rest = names;
     while !rest.is_empty() {
         let seen = check_told(cover, checked, rest[0], input, output, errors)?;
-        verdict = verdict_seen(verdict, seen);
+        verdict = both_seen(verdict, seen);
         rest = &rest[1..];
     }
     output.flush()?;
     Ok(verdict)
-}
-
-/// What is seen of all files, with one more, of which is given whether something was found in it, if it was read to its end.
-fn verdict_seen(verdict: Verdict, seen: Option<bool>) -> Verdict
-    ensures seen { result ≡ verdict_seen verdict seen }
-{
-    match seen {
-        Some(found) => Verdict {
-            found: verdict.found || found,
-            all: verdict.all,
-        },
-        None => Verdict {
-            found: verdict.found,
-            all: false,
-        },
-    }
 }
 
 /// Whether the output goes to the file of this name, where something may be told there.
@@ -86,8 +70,8 @@ fn is_told_to<F: Folder>(checked: &Checked<'_, '_, '_, F>, name: &str) -> bool {
     checked.tells && checked.folder.is_output(name)
 }
 
-/// Looks at a file, and answers whether something was found, if it was read to its end. One that was not is told, and so is one that the
-/// output goes to: it is not read.
+/// Looks at a file, and answers what is seen of it. One that was not read to its end is told, and so is one that the output goes to: it is
+/// not read.
 fn check_told<A: Automaton, F: Folder, I: Read, W: Sink, E: Sink>(
     cover: &mut LineCover<'_, '_, A>,
     checked: &Checked<'_, '_, '_, F>,
@@ -95,7 +79,7 @@ fn check_told<A: Automaton, F: Folder, I: Read, W: Sink, E: Sink>(
     input: &mut FromRead<I>,
     output: &mut W,
     errors: &mut Errors<'_, E>,
-) -> Result<Option<bool>, LineError>
+) -> Result<Verdict, LineError>
     requires ready { CanCoverLines A.Automaton cover.old }
     ensures sees { IfCovers A.Automaton cover.old (SeesFile W.Sink E.Sink F.Folder checked.now
         name.now result input.old input.new output.old output.new errors.old errors.new) }
@@ -104,16 +88,14 @@ fn check_told<A: Automaton, F: Folder, I: Read, W: Sink, E: Sink>(
 {
     if is_told_to(checked, name) {
         tell_output(errors, name);
-        return Ok(None);
+        return Ok(Verdict {
+            found: false,
+            all: false,
+        });
     }
-    match check_file(cover, checked, name, input, output)? {
-        Look::Clean => Ok(Some(false)),
-        Look::Found => Ok(Some(true)),
-        Look::Unread(reason) => {
-            tell_unread(errors, name, reason);
-            Ok(None)
-        }
-    }
+    let look = check_file(cover, checked, name, input, output)?;
+    tell_look(errors, name, look);
+    Ok(verdict_of(look))
 }
 
 /// Looks at a file.

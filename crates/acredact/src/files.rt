@@ -1,21 +1,20 @@
 //! The redaction of files, one after another.
 
-ghost use Rattle.std.specs.Prelude.{◌≡◌, ◌&&◌, IfErr, IfOk, None, Ok, Option, OnOk, Some, false, true};
+ghost use Rattle.std.specs.Prelude.{◌≡◌, ◌&&◌, IfErr, IfOk, None, Ok, OnOk, false, true};
 ghost use Rattle.std.specs.Io.KnownBytes.{Keeps};
 ghost use Rattle.aho_core.specs.Patterns.{Patterns};
 ghost use Rattle.aho_backward.specs.Searcher.{IsBackwardOf};
 ghost use Rattle.aho_devices.specs.Counts.{counted};
 ghost use Rattle.tool_parts.specs.Names.{is_input};
 ghost use Rattle.tool_parts.specs.Streams.{bytes_left};
-ghost use Rattle.acredact.specs.Back.{BackCounts, BackOutcome};
-ghost use Rattle.acredact.specs.Bounds.{JobNumbers, NumbersGiven, NumbersOfFile, NumbersOfInput, NumbersTold};
+ghost use Rattle.acredact.specs.Back.{DoesByPatterns, DoesJob, IfOfBoth};
+ghost use Rattle.acredact.specs.Bounds.{NumbersGiven, NumbersOfFile, NumbersRead};
 ghost use Rattle.acredact.specs.Faults.{is_unread, reading_of};
-ghost use Rattle.acredact.specs.Files.{CanDo, FileJob, FilesOutcome, InputOutcome, JobOutcome, ToldJob, work_of};
+ghost use Rattle.acredact.specs.Files.{CanDo, FileJob, TextDone, ToldOutcome, rule_for, work_of};
 ghost use Rattle.acredact.specs.Secrets.{IfOf, Redactor};
-ghost use Rattle.acredact.specs.Totals.{CountsFile, CountsJob, CountsOfStream, CountsOfText, CountsTold, JobCounts};
-ghost use Rattle.acredact.specs.Streams.{StreamOutcome};
-ghost use Rattle.acredact.specs.Volumes.{AddsFile, AddsText, AddsStream, FileVolume, JobVolume, files_with};
-ghost use Rattle.acredact.specs.Ways.{IfBy, Redacts};
+ghost use Rattle.acredact.specs.Totals.{CountsFile, CountsOfText, CountsTold, DoesStream};
+ghost use Rattle.acredact.specs.Volumes.{AddsFile, AddsText, AddsStream, OneVolume, files_with};
+ghost use Rattle.acredact.specs.Ways.{IfBy};
 
 use crate::back::Backing;
 use crate::failure::{tell_output, tell_unread};
@@ -24,8 +23,8 @@ use crate::meter::{Known, Lent, Metered, Taken};
 use crate::pseudonym::Pseudonyms;
 use crate::streams::Streams;
 use crate::summary::Volume;
-use crate::ways::{Covering, Key, Naming, Replacing, Way};
-use chromesquid::any::{Backward, StreamCoverStart};
+use crate::ways::{Covering, Key, Replacing, Way};
+use chromesquid::any::{Backward, PatternPieces, Pieces, StreamCoverStart};
 use chromesquid::{Automaton, FromRead, FromWrite, Sink, Source, StreamError};
 use std::alloc::Global;
 use std::io::{Read, Write};
@@ -65,14 +64,8 @@ pub fn redact_files<A: Automaton, F: Folder, I: Read, W: Write, E: Sink>(
     streams: &mut Streams<'_, I, W, E>,
 ) -> Result<bool, StreamError>
     requires ready { CanDo A.Automaton automaton.now job.now }
-    ensures outcome { JobOutcome W.Write E.Sink A.Automaton F.Folder
-        automaton.now job.now result streams.old streams.new }
-    ensures counted { IfOf A.Automaton automaton.now (JobCounts F.Folder job.now
-        result streams.old streams.new counts.old counts.new) }
-    ensures read { JobVolume F.Folder job.now result volume.old volume.new streams.old streams.new }
-    ensures most { OnOk result (JobNumbers F.Folder job.now counts.old counts.new
-        volume.old volume.new streams.old streams.new) }
-    ensures flushed { OnOk result (streams.new.output.device.flushed ≡ true) }
+    ensures done { IfOf A.Automaton automaton.now (DoesByPatterns W.Write E.Sink F.Folder job.now
+        result streams.old streams.new counts.old counts.new volume.old volume.new) }
 {
     if job.covers {
         return cover_files(automaton, job, counts, volume, streams);
@@ -80,7 +73,7 @@ pub fn redact_files<A: Automaton, F: Folder, I: Read, W: Write, E: Sink>(
     replace_files(automaton, job, counts, volume, streams)
 }
 
-/// Redacts all files by covers.
+/// Redacts all files by covers, with one text for each pattern, or by a key with a pseudonym in the place of each run.
 fn cover_files<A: Automaton, F: Folder, I: Read, W: Write, E: Sink>(
     automaton: &A,
     job: &Job<'_, '_, F>,
@@ -90,24 +83,25 @@ fn cover_files<A: Automaton, F: Folder, I: Read, W: Write, E: Sink>(
 ) -> Result<bool, StreamError>
     requires ready { CanDo A.Automaton automaton.now job.now }
     requires covers { job.now.covers ≡ true }
-    ensures outcome { JobOutcome W.Write E.Sink A.Automaton F.Folder
-        automaton.now job.now result streams.old streams.new }
-    ensures counted { IfOf A.Automaton automaton.now (JobCounts F.Folder job.now
-        result streams.old streams.new counts.old counts.new) }
-    ensures read { JobVolume F.Folder job.now result volume.old volume.new streams.old streams.new }
-    ensures most { OnOk result (JobNumbers F.Folder job.now counts.old counts.new
-        volume.old volume.new streams.old streams.new) }
-    ensures flushed { OnOk result (streams.new.output.device.flushed ≡ true) }
+    ensures done { IfOf A.Automaton automaton.now (DoesByPatterns W.Write E.Sink F.Folder job.now
+        result streams.old streams.new counts.old counts.new volume.old volume.new) }
 {
     match job.key {
-        Some(key) => name_files(automaton, key, job, counts, volume, streams),
-        None => cover_alike(automaton, job, counts, volume, streams),
+        Some(key) => {
+            let names = Pseudonyms::new(key.bytes, key.ignore_case);
+            cover_by(automaton, names, job, counts, volume, streams)
+        }
+        None => {
+            let texts = PatternPieces::new(job.replacements);
+            cover_by(automaton, texts, job, counts, volume, streams)
+        }
     }
 }
 
-/// Redacts all files by covers, with one text for each pattern. The memory of all is taken before the first is opened.
-fn cover_alike<A: Automaton, F: Folder, I: Read, W: Write, E: Sink>(
+/// Redacts all files by covers, with these pieces. The memory of all is taken before the first is opened.
+fn cover_by<A: Automaton, P: Pieces + Drop, F: Folder, I: Read, W: Write, E: Sink>(
     automaton: &A,
+    pieces: P,
     job: &Job<'_, '_, F>,
     counts: &mut [u64],
     volume: &mut Volume,
@@ -115,48 +109,12 @@ fn cover_alike<A: Automaton, F: Folder, I: Read, W: Write, E: Sink>(
 ) -> Result<bool, StreamError>
     requires ready { CanDo A.Automaton automaton.now job.now }
     requires covers { job.now.covers ≡ true }
-    requires unnamed { job.now.key ≡ None }
-    ensures outcome { JobOutcome W.Write E.Sink A.Automaton F.Folder
-        automaton.now job.now result streams.old streams.new }
-    ensures counted { IfOf A.Automaton automaton.now (JobCounts F.Folder job.now
-        result streams.old streams.new counts.old counts.new) }
-    ensures read { JobVolume F.Folder job.now result volume.old volume.new streams.old streams.new }
-    ensures most { OnOk result (JobNumbers F.Folder job.now counts.old counts.new
-        volume.old volume.new streams.old streams.new) }
-    ensures flushed { OnOk result (streams.new.output.device.flushed ≡ true) }
+    requires made { P.rule pieces ≡ rule_for job.now }
+    ensures done { IfOf A.Automaton automaton.now (DoesByPatterns W.Write E.Sink F.Folder job.now
+        result streams.old streams.new counts.old counts.new volume.old volume.new) }
 {
     let start = StreamCoverStart::new_with(job.alloc, automaton, job.words)?;
-    let mut way = Covering {
-        start,
-        replacements: job.replacements,
-    };
-    redact_flushed(&mut way, job, counts, volume, streams)
-}
-
-/// Redacts all files by covers, with a pseudonym in the place of each run.
-fn name_files<A: Automaton, F: Folder, I: Read, W: Write, E: Sink>(
-    automaton: &A,
-    key: Key<'_>,
-    job: &Job<'_, '_, F>,
-    counts: &mut [u64],
-    volume: &mut Volume,
-    streams: &mut Streams<'_, I, W, E>,
-) -> Result<bool, StreamError>
-    requires ready { CanDo A.Automaton automaton.now job.now }
-    requires covers { job.now.covers ≡ true }
-    requires named { job.now.key ≡ Some key }
-    ensures outcome { JobOutcome W.Write E.Sink A.Automaton F.Folder
-        automaton.now job.now result streams.old streams.new }
-    ensures counted { IfOf A.Automaton automaton.now (JobCounts F.Folder job.now
-        result streams.old streams.new counts.old counts.new) }
-    ensures read { JobVolume F.Folder job.now result volume.old volume.new streams.old streams.new }
-    ensures most { OnOk result (JobNumbers F.Folder job.now counts.old counts.new
-        volume.old volume.new streams.old streams.new) }
-    ensures flushed { OnOk result (streams.new.output.device.flushed ≡ true) }
-{
-    let start = StreamCoverStart::new_with(job.alloc, automaton, job.words)?;
-    let pieces = Pseudonyms::new(key.bytes, key.ignore_case);
-    let mut way = Naming { start, pieces };
+    let mut way = Covering { start, pieces };
     redact_flushed(&mut way, job, counts, volume, streams)
 }
 
@@ -170,14 +128,8 @@ fn replace_files<A: Automaton, F: Folder, I: Read, W: Write, E: Sink>(
 ) -> Result<bool, StreamError>
     requires ready { CanDo A.Automaton automaton.now job.now }
     requires plain { job.now.covers ≡ false }
-    ensures outcome { JobOutcome W.Write E.Sink A.Automaton F.Folder
-        automaton.now job.now result streams.old streams.new }
-    ensures counted { IfOf A.Automaton automaton.now (JobCounts F.Folder job.now
-        result streams.old streams.new counts.old counts.new) }
-    ensures read { JobVolume F.Folder job.now result volume.old volume.new streams.old streams.new }
-    ensures most { OnOk result (JobNumbers F.Folder job.now counts.old counts.new
-        volume.old volume.new streams.old streams.new) }
-    ensures flushed { OnOk result (streams.new.output.device.flushed ≡ true) }
+    ensures done { IfOf A.Automaton automaton.now (DoesByPatterns W.Write E.Sink F.Folder job.now
+        result streams.old streams.new counts.old counts.new volume.old volume.new) }
 {
     let mut way = Replacing {
         alloc: job.alloc,
@@ -198,14 +150,9 @@ pub fn back_files<A: Automaton, B: Automaton, F: Folder, I: Read, W: Write, E: S
 ) -> Result<bool, StreamError>
     requires ready { CanDo A.Automaton automaton.now job.now }
     requires both { (p : Patterns) × A.is_of automaton.now p × IsBackwardOf B.Automaton searcher.now p }
-    ensures outcome { BackOutcome W.Write E.Sink A.Automaton B.Automaton F.Folder
-        automaton.now searcher.now job.now result streams.old streams.new }
-    ensures counted { BackCounts A.Automaton B.Automaton F.Folder automaton.now searcher.now job.now
-        result streams.old streams.new counts.old counts.new }
-    ensures read { JobVolume F.Folder job.now result volume.old volume.new streams.old streams.new }
-    ensures most { OnOk result (JobNumbers F.Folder job.now counts.old counts.new
-        volume.old volume.new streams.old streams.new) }
-    ensures flushed { OnOk result (streams.new.output.device.flushed ≡ true) }
+    ensures done { IfOfBoth A.Automaton B.Automaton automaton.now searcher.now
+        (DoesByPatterns W.Write E.Sink F.Folder job.now
+        result streams.old streams.new counts.old counts.new volume.old volume.new) }
 {
     if job.covers {
         return cover_files(automaton, job, counts, volume, streams);
@@ -230,15 +177,9 @@ fn redact_flushed<X: Way, F: Folder, I: Read, W: Write, E: Sink>(
     volume: &mut Volume,
     streams: &mut Streams<'_, I, W, E>,
 ) -> Result<bool, StreamError>
-    requires ready { (r : Redactor) × Redacts X.Way way.old r }
-    ensures outcome { IfBy X.Way way.old (λ r. FilesOutcome W.Write E.Sink
-        (work_of F.Folder job.now r) result streams.old streams.new) }
-    ensures counted { IfBy X.Way way.old (CountsJob F.Folder job.now
-        result streams.old streams.new counts.old counts.new) }
-    ensures read { JobVolume F.Folder job.now result volume.old volume.new streams.old streams.new }
-    ensures most { OnOk result (JobNumbers F.Folder job.now counts.old counts.new
-        volume.old volume.new streams.old streams.new) }
-    ensures flushed { OnOk result (streams.new.output.device.flushed ≡ true) }
+    requires ready { (r : Redactor) × X.by way.old r }
+    ensures done { IfBy X.Way way.old (DoesJob W.Write E.Sink F.Folder job.now
+        result streams.old streams.new counts.old counts.new volume.old volume.new) }
 {
     let mut all = true;
     let mut rest = job.names;
@@ -269,16 +210,17 @@ fn redact_told<X: Way, F: Folder, I: Read, W: Write, E: Sink>(
     volume: &mut Volume,
     streams: &mut Streams<'_, I, W, E>,
 ) -> Result<bool, StreamError>
-    requires ready { (r : Redactor) × Redacts X.Way way.old r }
-    ensures outcome { IfBy X.Way way.old (ToldJob W.Write E.Sink F.Folder job.now
-        name.now result streams.old streams.new) }
+    requires ready { (r : Redactor) × X.by way.old r }
+    ensures outcome { IfBy X.Way way.old (λ r. ToldOutcome W.Write E.Sink
+        (work_of F.Folder job.now r) name.now result streams.old streams.new) }
     ensures counted { IfBy X.Way way.old (CountsTold F.Folder job.now name.now
         result streams.old streams.new counts.old counts.new) }
-    ensures read { FileVolume F.Folder job.now name.now result volume.old volume.new streams.old streams.new }
-    ensures most { NumbersTold F.Folder job.now name.now counts.old counts.new
+    ensures read { OneVolume F.Folder job.now.folder.now name.now result
         volume.old volume.new streams.old streams.new }
+    ensures most { NumbersOfFile F.Folder job.now name.now counts.old counts.new
+        volume.old volume.new streams.old.input streams.new.input }
     ensures files { volume.new.files ≡ volume.old.files }
-    ensures still { IfBy X.Way way.old (Redacts X.Way way.new) }
+    ensures still { IfBy X.Way way.old (X.by way.new) }
 {
     if job.folder.is_output(name) {
         tell_output(&mut streams.errors, name);
@@ -311,7 +253,7 @@ fn redact_file<X: Way, F: Folder, I: Read, W: Write>(
     input: &mut FromRead<I>,
     output: &mut FromWrite<W>,
 ) -> Result<Option<Reason>, StreamError>
-    requires ready { (r : Redactor) × Redacts X.Way way.old r }
+    requires ready { (r : Redactor) × X.by way.old r }
     ensures outcome { IfBy X.Way way.old (FileJob W.Write F.Folder job.now name.now
         result input.old input.new output.old output.new) }
     ensures counted { IfBy X.Way way.old (CountsFile F.Folder job.now name.now
@@ -321,7 +263,7 @@ fn redact_file<X: Way, F: Folder, I: Read, W: Write>(
     ensures most { NumbersOfFile F.Folder job.now name.now counts.old counts.new
         volume.old volume.new input.old input.new }
     ensures files { volume.new.files ≡ volume.old.files }
-    ensures still { IfBy X.Way way.old (Redacts X.Way way.new) }
+    ensures still { IfBy X.Way way.old (X.by way.new) }
 {
     if is_input(name) {
         return redact_input(way, counts, volume, input, output);
@@ -361,15 +303,16 @@ fn redact_input<X: Way, I: Read, W: Write>(
     input: &mut FromRead<I>,
     output: &mut FromWrite<W>,
 ) -> Result<Option<Reason>, StreamError>
-    requires ready { (r : Redactor) × Redacts X.Way way.old r }
-    ensures outcome { IfBy X.Way way.old (λ r. InputOutcome W.Write r
-        result input.old input.new output.old output.new) }
+    requires ready { (r : Redactor) × X.by way.old r }
+    ensures outcome { IfBy X.Way way.old (λ r. TextDone W.Write r result
+        (bytes_left input.old) (bytes_left input.new) output.old output.new) }
     ensures counted { result ≡ Ok None → IfBy X.Way way.old
         (CountsOfText (bytes_left input.old) (bytes_left input.new) counts.old counts.new) }
     ensures read { result ≡ Ok None → AddsText volume.old volume.new input.old input.new }
-    ensures most { NumbersOfInput counts.old counts.new volume.old volume.new input.old input.new }
+    ensures most { NumbersRead counts.old counts.new volume.old.bytes volume.new.bytes
+        (bytes_left input.old) (bytes_left input.new) }
     ensures files { volume.new.files ≡ volume.old.files }
-    ensures still { IfBy X.Way way.old (Redacts X.Way way.new) }
+    ensures still { IfBy X.Way way.old (X.by way.new) }
     ensures failed { input.new.failures ≡ counted (is_unread result) input.old.failures }
 {
     input.restart();
@@ -384,19 +327,17 @@ fn redact_with<'s, K: Known, X: Way, S: Source, W: Sink>(
     bytes: u64,
     sink: &mut W,
 ) -> Taken<'s, S, StreamError>
-    requires ready { (r : Redactor) × Redacts X.Way way.old r }
+    requires ready { (r : Redactor) × X.by way.old r }
     requires whole { K.whole ≡ S.remaining lent.source.now }
     requires start { K.start ≡ bytes }
     requires name { K.name ≡ lent.source.ghost_name }
-    ensures outcome { IfBy X.Way way.old (λ r. StreamOutcome S.Source W.Sink r result.done
-        lent.entry.source.now result.lent.source.now sink.old sink.new) }
-    ensures counted { IfBy X.Way way.old (λ r. OnOk result.done (CountsOfStream S.Source r
-        lent.entry.source.now result.lent.source.now counts.old counts.new)) }
+    ensures done { IfBy X.Way way.old (DoesStream S.Source W.Sink result.done
+        lent.entry.source.now result.lent.source.now sink.old sink.new counts.old counts.new) }
     ensures read { OnOk result.done (AddsStream S.Source
         lent.entry.source.now result.lent.source.now bytes result.bytes) }
     ensures most { NumbersGiven S.Source lent.entry.source.now result.lent.source.now
         counts.old counts.new bytes result.bytes }
-    ensures still { IfBy X.Way way.old (Redacts X.Way way.new) }
+    ensures still { IfBy X.Way way.old (X.by way.new) }
     ensures same { result.lent.source.ghost_name ≡ lent.entry.source.ghost_name }
 {
     let mut meter = Metered::<S, K> {
@@ -418,17 +359,15 @@ fn redact_metered<X: Way, I: Read, W: Write>(
     input: &mut FromRead<I>,
     output: &mut FromWrite<W>,
 ) -> Result<(), StreamError>
-    requires ready { (r : Redactor) × Redacts X.Way way.old r }
-    ensures outcome { IfBy X.Way way.old (λ r. StreamOutcome ⟦<FromRead<I> as Source>⟧ ⟦<FromWrite<W> as Sink>⟧ r
-        result input.old input.new output.old output.new) }
-    ensures counted { IfBy X.Way way.old (λ r. OnOk result (CountsOfStream ⟦<FromRead<I> as Source>⟧ r
-        input.old input.new counts.old counts.new)) }
+    requires ready { (r : Redactor) × X.by way.old r }
+    ensures done { IfBy X.Way way.old (DoesStream ⟦<FromRead<I> as Source>⟧ ⟦<FromWrite<W> as Sink>⟧ result
+        input.old input.new output.old output.new counts.old counts.new) }
     ensures read { OnOk result (AddsStream ⟦<FromRead<I> as Source>⟧ input.old input.new
         volume.old.bytes volume.new.bytes) }
     ensures most { NumbersGiven ⟦<FromRead<I> as Source>⟧ input.old input.new
         counts.old counts.new volume.old.bytes volume.new.bytes }
     ensures files { volume.new.files ≡ volume.old.files }
-    ensures still { IfBy X.Way way.old (Redacts X.Way way.new) }
+    ensures still { IfBy X.Way way.old (X.by way.new) }
 {
     let taken = redact_with::<Brand, X, FromRead<I>, FromWrite<W>>(
         way,

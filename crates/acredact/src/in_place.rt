@@ -1,20 +1,18 @@
 //! A call that replaces each file: a new one is written beside it, and takes its place where all of it was redacted.
 
-ghost use Rattle.std.specs.Prelude.{◌≡◌, ◌⊎◌, ◌≤◌, [], ◌∷◌, IfErr, IfOk, Ok, OnErr, false, true};
+ghost use Rattle.std.specs.Prelude.{◌≡◌, ◌≤◌, IfErr, IfOk, Ok, true};
 ghost use Rattle.aho_core.specs.declared.error.stream.StreamError.TheVariants.{Memory};
 ghost use Rattle.chromesquid.specs.Searcher.{ForItsPatterns};
 ghost use Rattle.tool_parts.specs.Arguments.{texts};
-ghost use Rattle.tool_parts.specs.Streams.{bytes_left, output_bytes};
+ghost use Rattle.tool_parts.specs.Streams.{bytes_left};
 ghost use Rattle.tool_parts.specs.Telling.{TellsSome};
 ghost use Rattle.acredact.specs.Arguments.{AreMistaken, AsksInPlace, IfAsked, all_given};
 ghost use Rattle.acredact.specs.Calls.{IsWrongFailure, IsWrongLine, call_of};
 ghost use Rattle.acredact.specs.Files.{CanDo, redactor_of, work_of};
-ghost use Rattle.acredact.specs.InPlace.{CalledPlaces, FreesAll, KeepsEach, PlaceOutcome, PlacesAll, PlacesCount, PlacesOutcome, PlacesReach, PlacesStatus, PlacesTell, ReadyPlaces};
-ghost use Rattle.acredact.specs.Into.{IsKept, TellsUnread, WarnsAll};
+ghost use Rattle.acredact.specs.InPlace.{CalledPlaces, FreesAll, IsSettled, KeepsEach, PlaceOutcome, PlacesAll, PlacesCount, PlacesOutcome, PlacesReach, PlacesStatus, PlacesTell, ReadyPlaces};
+ghost use Rattle.acredact.specs.Into.{WarnsAll};
 ghost use Rattle.acredact.specs.Loading.{AreSome, loaded_in};
 ghost use Rattle.acredact.specs.Ready.{IsReadyBy};
-ghost use Rattle.acredact.specs.Totals.{CountsOfName, JobCounts};
-ghost use Rattle.acredact.specs.Volumes.{JobVolume, ReadsVolume};
 
 use crate::arguments::{Item, Mistake, counts, items, replaces_in_place};
 use crate::counts::counts_of;
@@ -171,11 +169,8 @@ fn place_each<F: Folder, O: Outputs, I: Read, E: Sink>(
 ) -> Result<bool, StreamError>
     requires ready { CanDo ⟦<AhoCorasick as Automaton>⟧ searcher.now job.now }
     ensures outcome { ForItsPatterns searcher.now (λ p. PlacesOutcome O.File.Write O.Outputs
-        (work_of F.Folder job.now (redactor_of job.now p)) E.Sink
-        result outputs.old outputs.new streams.old.errors streams.new.errors) }
-    ensures counted { ForItsPatterns searcher.now (JobCounts F.Folder job.now
-        result streams.old streams.new counts.old counts.new) }
-    ensures read { JobVolume F.Folder job.now result volume.old volume.new streams.old streams.new }
+        (work_of F.Folder job.now (redactor_of job.now p)) E.Sink result
+        outputs.old outputs.new streams.old streams.new counts.old counts.new volume.old volume.new) }
 {
     let mut all = true;
     let mut rest = job.names;
@@ -199,13 +194,8 @@ fn place_one<F: Folder, O: Outputs, I: Read, E: Sink>(
 ) -> Result<bool, StreamError>
     requires ready { CanDo ⟦<AhoCorasick as Automaton>⟧ searcher.now job.now }
     ensures outcome { ForItsPatterns searcher.now (λ p. PlaceOutcome O.File.Write O.Outputs
-        (work_of F.Folder job.now (redactor_of job.now p)) E.Sink
-        name.now result outputs.old outputs.new streams.old.errors streams.new.errors) }
-    ensures counted { result ≡ Ok true → ForItsPatterns searcher.now (λ p.
-        CountsOfName (bytes_left streams.old.input) (bytes_left streams.new.input) counts.old counts.new
-        (work_of F.Folder job.now (redactor_of job.now p)) name.now) }
-    ensures read { result ≡ Ok true → ReadsVolume (F.holds job.now.folder.now) (name.now ∷ [])
-        volume.old volume.new (bytes_left streams.old.input) (bytes_left streams.new.input) }
+        (work_of F.Folder job.now (redactor_of job.now p)) E.Sink name.now result
+        outputs.old outputs.new streams.old streams.new counts.old counts.new volume.old volume.new) }
 {
     if is_input(name) {
         tell_no_file(&mut streams.errors, name);
@@ -237,17 +227,9 @@ fn settle<O: Outputs, I: Read, E: Sink>(
     done: Result<bool, StreamError>,
     streams: &mut Streams<'_, I, O::File, E>,
 ) -> Result<bool, StreamError>
-    ensures done { result ≡ Ok true → done ≡ Ok true }
+    ensures settled { IsSettled O.File.Write E.Sink O.Outputs name.now
+        done result outputs.old outputs.new streams.old streams.new }
     ensures input { streams.new.input ≡ streams.old.input }
-    // What was not replaced is told, but where a line was told of it before.
-    ensures quiet { result ≡ Ok true → streams.new.errors ≡ streams.old.errors }
-    ensures told { result ≡ Ok false → ((done ≡ Ok false) × (streams.new.errors ≡ streams.old.errors))
-        ⊎ TellsUnread E.Sink name.now streams.old.errors streams.new.errors }
-    ensures cut { OnErr result (streams.new.errors ≡ streams.old.errors) }
-    ensures memory { IfErr result (λ error. error ≡ Memory) }
-    ensures puts { result ≡ Ok true → O.puts outputs.old outputs.new name.now
-        (output_bytes O.File.Write streams.old.output) }
-    ensures kept { (result ≡ Ok true → ⊥) → IsKept O.Outputs name.now outputs.old outputs.new }
 {
     match done {
         Ok(true) => Ok(put_new(outputs, name, streams)),
@@ -280,12 +262,9 @@ fn put_new<O: Outputs, I: Read, E: Sink>(
     name: &str,
     streams: &mut Streams<'_, I, O::File, E>,
 ) -> bool
+    ensures settled { IsSettled O.File.Write E.Sink O.Outputs name.now
+        (Ok true) (Ok result) outputs.old outputs.new streams.old streams.new }
     ensures input { streams.new.input ≡ streams.old.input }
-    ensures quiet { result ≡ true → streams.new.errors ≡ streams.old.errors }
-    ensures told { result ≡ false → TellsUnread E.Sink name.now streams.old.errors streams.new.errors }
-    ensures puts { result ≡ true → O.puts outputs.old outputs.new name.now
-        (output_bytes O.File.Write streams.old.output) }
-    ensures kept { result ≡ false → IsKept O.Outputs name.now outputs.old outputs.new }
 {
     match outputs.put(name, &streams.output) {
         Ok(()) => true,

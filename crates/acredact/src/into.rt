@@ -1,12 +1,11 @@
 //! A call whose output is a new file, which takes the place of another where all was done.
 
-ghost use Rattle.std.specs.Prelude.{◌≡◌, IfErr, IfOk, option_map, true};
+ghost use Rattle.std.specs.Prelude.{◌≡◌, IfErr, IfOk, option_map};
 ghost use Rattle.tool_parts.specs.Arguments.{texts};
 ghost use Rattle.tool_parts.specs.Streams.{output_bytes};
-ghost use Rattle.acredact.specs.Arguments.{IfAsked, IfNoCheck, IfRuled, NamesOutput};
-ghost use Rattle.acredact.specs.Calls.{IsWrongFailure, RedactsAsked};
-ghost use Rattle.acredact.specs.Into.{CountsAll, IsKept, IsSpared, LeavesNoneAll, RuledTellsUnput, TellsNone, TellsUnput, TellsUnread, WarnsAll, WritesAll, WritesAllByRules};
-ghost use Rattle.acredact.specs.Ruled.{NotesAsked, RuledAsked};
+ghost use Rattle.acredact.specs.Arguments.{IfAsked, IfRuled, NamesOutput};
+ghost use Rattle.acredact.specs.Calls.{IsWrongFailure};
+ghost use Rattle.acredact.specs.Into.{IsKept, IsSpared, RuledTellsUnput, TellsNone, TellsUnread, WritesAll, WritesAllByRules};
 
 use crate::arguments::{items, output_of};
 use crate::failure::{Failure, tell_no_output, tell_unread};
@@ -68,51 +67,14 @@ pub fn make_and_run<F: Folder, O: Outputs, I: Read, E: Sink>(
     match outputs.make(name) {
         Ok(file) => {
             streams.output = FromWrite::new(file);
-            run_into(alloc, arguments, name, folder, outputs, streams)
+            let done = run(alloc, arguments, folder, streams);
+            finish(outputs, name, done, streams)
         }
         Err(reason) => {
             tell_unread(&mut streams.errors, name, reason);
             FAILED
         }
     }
-}
-
-/// Does what the arguments ask for with a new file for the output, as `run` does. Where all was done that takes the place of the file
-/// of this name, and else it is removed. Answers the exit status.
-pub fn run_into<F: Folder, O: Outputs, I: Read, E: Sink>(
-    alloc: Global,
-    arguments: &[String],
-    name: &str,
-    folder: &F,
-    outputs: &mut O,
-    streams: &mut Streams<'_, I, O::File, E>,
-) -> u8
-    // Where the status is 0 the new file holds all, and took that place.
-    ensures redacts { IfAsked arguments.now (λ all. result ≡ 0
-        → RedactsAsked O.File.Write F.Folder folder.now all streams.old streams.new) }
-    ensures strict { IfAsked arguments.now (LeavesNoneAll O.File.Write E.Sink F.Folder
-        folder.now result streams.old streams.new) }
-    ensures quiet { IfAsked arguments.now (WarnsAll E.Sink F.Folder folder.now result streams.old streams.new) }
-    ensures counts { IfAsked arguments.now (CountsAll O.File.Write E.Sink F.Folder
-        folder.now result streams.old streams.new) }
-    // So it is where rules are given: it holds each line with what they mark replaced.
-    ensures ruled { IfRuled arguments.now (λ given. result ≡ 0
-        → RuledAsked O.File.Write F.Folder folder.now given streams.old streams.new) }
-    ensures ruled_quiet { IfRuled arguments.now (λ given. result ≡ 0
-        → NotesAsked E.Sink F.Folder folder.now given streams.old streams.new) }
-    ensures flushed { IfNoCheck arguments.now (result ≡ 0
-        → streams.new.output.device.flushed ≡ true) }
-    ensures puts { result ≡ 0 → O.puts outputs.old outputs.new name.now
-        (output_bytes O.File.Write streams.new.output) }
-    // At any other it did not, and was removed, and it is told why.
-    ensures kept { (result ≡ 0 → ⊥) → IsKept O.Outputs name.now outputs.old outputs.new }
-    ensures tells { IfAsked arguments.now (TellsUnput E.Sink F.Folder
-        folder.now name.now result streams.old streams.new) }
-    ensures ruled_tells { IfRuled arguments.now (RuledTellsUnput E.Sink F.Folder
-        folder.now name.now result streams.old streams.new) }
-{
-    let done = run(alloc, arguments, folder, streams);
-    finish(outputs, name, done, streams)
 }
 
 /// Has the new file take the place of the one of this name, where all was done, and else removes it. Answers the exit status.

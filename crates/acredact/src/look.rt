@@ -10,7 +10,7 @@ ghost use Rattle.tool_parts.specs.Streams.{bytes_left};
 ghost use Rattle.tool_parts.specs.Telling.{TellsBytes};
 ghost use Rattle.acredact.specs.Checks.{IsLookOf, SeesSearched, look_lines, quest_of};
 ghost use Rattle.acredact.specs.Faults.{IsReadReason};
-ghost use Rattle.acredact.specs.Looks.{CanLook, IsLook, IsLookEnd, LooksAt, is_failed_look, is_unread_look, look_of, sought, verdict_with};
+ghost use Rattle.acredact.specs.Looks.{CanLook, IsLook, IsLookEnd, LooksAt, both_seen, is_failed_look, is_unread_look, look_of, sought, verdict_of};
 ghost use Rattle.acredact.specs.Secrets.{IfOf};
 
 use crate::failure::tell_unread;
@@ -80,31 +80,44 @@ pub fn look_at_files<A: Automaton, F: Folder, I: Read, E: Sink>(
     while !rest.is_empty() {
         let look = look_at_file(automaton, files, rest[0], input)?;
         tell_look(errors, rest[0], look);
-        verdict = verdict_with(verdict, look);
+        verdict = both_seen(verdict, verdict_of(look));
         rest = &rest[1..];
     }
     Ok(verdict)
 }
 
-/// What is seen of all files, with one more.
-fn verdict_with(verdict: Verdict, look: Look) -> Verdict
-    ensures with { result ≡ verdict_with verdict look }
+/// What is seen of files, and then of others.
+pub fn both_seen(first: Verdict, more: Verdict) -> Verdict
+    ensures both { result ≡ both_seen first more }
+{
+    Verdict {
+        found: first.found || more.found,
+        all: first.all && more.all,
+    }
+}
+
+/// What is seen of a file.
+pub fn verdict_of(look: Look) -> Verdict
+    ensures seen { result ≡ verdict_of look }
 {
     match look {
-        Look::Clean => verdict,
+        Look::Clean => Verdict {
+            found: false,
+            all: true,
+        },
         Look::Found => Verdict {
             found: true,
-            all: verdict.all,
+            all: true,
         },
         Look::Unread(_) => Verdict {
-            found: verdict.found,
+            found: false,
             all: false,
         },
     }
 }
 
 /// Tells a file that cannot be read.
-fn tell_look<E: Sink>(errors: &mut Errors<'_, E>, name: &str, look: Look)
+pub fn tell_look<E: Sink>(errors: &mut Errors<'_, E>, name: &str, look: Look)
     ensures told { TellsBytes E.Sink errors.old errors.new (concat (look_lines name.now look)) }
     ensures quiet { is_unread_look look ≡ false → errors.new ≡ errors.old }
 {

@@ -1,61 +1,32 @@
 //! The redaction of one stream.
 
-ghost use Rattle.std.specs.Prelude.{◌≡◌, ◌∷◌, [], OnOk, false, slice_index_or, true};
+ghost use Rattle.std.specs.Prelude.{◌≡◌, ◌∷◌, [], false, slice_index_or};
 ghost use Rattle.aho_core.specs.Patterns.{Patterns};
 ghost use Rattle.aho_core.specs.Replacement.{pieces_of};
 ghost use Rattle.aho_cover.specs.Counting.{CountsThese};
 ghost use Rattle.aho_cover.specs.Covers.{IsUnbegunWith};
 ghost use Rattle.acredact.specs.Bounds.{Bounded};
-ghost use Rattle.acredact.specs.Secrets.{CanRedact};
-ghost use Rattle.acredact.specs.Streams.{ComesOf, StreamOutcome, WritesPiece};
-ghost use Rattle.acredact.specs.Totals.{CountsBy, CountsOfStream};
+ghost use Rattle.acredact.specs.Secrets.{CanRedact, IfOf, redactor_by};
+ghost use Rattle.acredact.specs.Streams.{StreamOutcome, WritesPiece};
+ghost use Rattle.acredact.specs.Totals.{DoesStream};
 ghost use Rattle.acredact.specs.Ways.{IfCoverer};
 
 use chromesquid::any::{
-    PatternPieces, Pieces, StreamCoverStart, cover_with, try_stream_replace_all,
-    try_stream_replace_all_with_mut,
+    Pieces, StreamCoverStart, cover_with, try_stream_replace_all, try_stream_replace_all_with_mut,
 };
 use chromesquid::{Automaton, Match, Sink, Source, StreamError, write_whole};
 use std::alloc::Global;
 
-/// Writes what the source gives to the sink, but in the place of each run of bytes that lie in matches the replacement of the
-/// longest that begins with the run. The start says whether only words count: matches beside which no letter, digit or `_` stands.
-/// The runs of each pattern that has a count are counted.
+/// Writes what the source gives to the sink, but in the place of each run of bytes that lie in matches the text that is made of the
+/// run. The start says whether only words count: matches beside which no letter, digit or `_` stands. The runs of each pattern that
+/// has a count are counted.
 ///
 /// It takes no memory but that of the start, which is then as before.
 ///
 /// # Errors
 ///
 /// As `redact`, but for `Memory`.
-pub fn cover<A: Automaton, R: Source, W: Sink>(
-    start: &mut StreamCoverStart<'_, A>,
-    replacements: &[&[u8]],
-    counts: &mut [u64],
-    source: &mut R,
-    sink: &mut W,
-) -> Result<(), StreamError>
-    requires ready { CanRedact A.Automaton start.old.automaton.now true replacements.now }
-    requires unbegun { IsUnbegunWith start.old.progress.words A.Automaton
-        start.old.automaton.now start.old.progress }
-    ensures outcome { ComesOf A.Automaton R.Source W.Sink start.old.automaton.now true
-        start.old.progress.words replacements.now result source.old source.new sink.old sink.new }
-    ensures counted { CountsBy A.Automaton R.Source start.old.automaton.now true
-        start.old.progress.words replacements.now result source.old source.new counts.old counts.new }
-    ensures most { Bounded R.Source source.old source.new counts.old counts.new }
-    ensures same { start.new.automaton.now ≡ start.old.automaton.now }
-    ensures unbegun { IsUnbegunWith start.old.progress.words A.Automaton
-        start.new.automaton.now start.new.progress }
-{
-    let mut pieces = PatternPieces::new(replacements);
-    cover_with(start, source, sink, &mut pieces, counts)
-}
-
-/// The same, where the text in the place of each run is made of its bytes.
-///
-/// # Errors
-///
-/// As `cover`.
-pub fn cover_by_pieces<A: Automaton, R: Source, W: Sink, P: Pieces>(
+pub fn cover<A: Automaton, R: Source, W: Sink, P: Pieces>(
     start: &mut StreamCoverStart<'_, A>,
     pieces: &mut P,
     counts: &mut [u64],
@@ -65,10 +36,8 @@ pub fn cover_by_pieces<A: Automaton, R: Source, W: Sink, P: Pieces>(
     requires of { (p : Patterns) × A.is_of start.old.automaton.now p }
     requires unbegun { IsUnbegunWith start.old.progress.words A.Automaton
         start.old.automaton.now start.old.progress }
-    ensures outcome { IfCoverer A.Automaton start.old.automaton.now start.old.progress.words (P.rule pieces.old)
-        (λ r. StreamOutcome R.Source W.Sink r result source.old source.new sink.old sink.new) }
-    ensures counted { IfCoverer A.Automaton start.old.automaton.now start.old.progress.words (P.rule pieces.old)
-        (λ r. OnOk result (CountsOfStream R.Source r source.old source.new counts.old counts.new)) }
+    ensures done { IfCoverer A.Automaton start.old.automaton.now start.old.progress.words (P.rule pieces.old)
+        (DoesStream R.Source W.Sink result source.old source.new sink.old sink.new counts.old counts.new) }
     ensures most { Bounded R.Source source.old source.new counts.old counts.new }
     ensures same { start.new.automaton.now ≡ start.old.automaton.now }
     ensures unbegun { IsUnbegunWith start.old.progress.words A.Automaton
@@ -92,8 +61,8 @@ pub fn redact<A: Automaton, R: Source, W: Sink>(
     sink: &mut W,
 ) -> Result<(), StreamError>
     requires ready { CanRedact A.Automaton automaton.now false replacements.now }
-    ensures outcome { ComesOf A.Automaton R.Source W.Sink automaton.now false false replacements.now
-        result source.old source.new sink.old sink.new }
+    ensures outcome { IfOf A.Automaton automaton.now (λ p. StreamOutcome R.Source W.Sink
+        (redactor_by p false false replacements.now) result source.old source.new sink.old sink.new) }
 {
     try_stream_replace_all(alloc, automaton, source, sink, replacements)
 }
@@ -108,10 +77,8 @@ pub fn redact_counting<A: Automaton, R: Source, W: Sink>(
     sink: &mut W,
 ) -> Result<(), StreamError>
     requires ready { CanRedact A.Automaton automaton.now false replacements.now }
-    ensures outcome { ComesOf A.Automaton R.Source W.Sink automaton.now false false replacements.now
-        result source.old source.new sink.old sink.new }
-    ensures counted { CountsBy A.Automaton R.Source automaton.now false false replacements.now
-        result source.old source.new counts.old counts.new }
+    ensures done { IfOf A.Automaton automaton.now (λ p. DoesStream R.Source W.Sink result
+        source.old source.new sink.old sink.new counts.old counts.new (redactor_by p false false replacements.now)) }
     ensures most { Bounded R.Source source.old source.new counts.old counts.new }
 {
     let mut put = |found: &Match, _matched: &[u8], sink: &mut W| {

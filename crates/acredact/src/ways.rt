@@ -1,13 +1,10 @@
 //! How streams are redacted, one after another.
 
-ghost use Rattle.std.specs.Prelude.{OnOk};
 ghost use Rattle.acredact.specs.Bounds.{Bounded};
 ghost use Rattle.acredact.specs.Secrets.{Redactor};
-ghost use Rattle.acredact.specs.Streams.{StreamOutcome};
-ghost use Rattle.acredact.specs.Totals.{CountsOfStream};
+ghost use Rattle.acredact.specs.Totals.{DoesStream};
 
-use crate::pseudonym::Pseudonyms;
-use crate::redact::{cover, cover_by_pieces, redact, redact_counting};
+use crate::redact::{cover, redact, redact_counting};
 use chromesquid::any::{Pieces, StreamCoverStart};
 use chromesquid::{Automaton, Sink, Source, StreamError};
 use std::alloc::Global;
@@ -31,37 +28,10 @@ pub trait Way {
         sink: &mut W,
     ) -> Result<(), StreamError>
         requires ready { (r : Redactor) × by self.old r }
-        ensures outcome { (r : Redactor) → by self.old r → StreamOutcome R.Source W.Sink r
-            result source.old source.new sink.old sink.new }
-        ensures counted { (r : Redactor) → by self.old r → OnOk result (CountsOfStream R.Source r
-            source.old source.new counts.old counts.new) }
+        ensures done { (r : Redactor) → by self.old r → DoesStream R.Source W.Sink result
+            source.old source.new sink.old sink.new counts.old counts.new r }
         ensures most { Bounded R.Source source.old source.new counts.old counts.new }
         ensures still { (r : Redactor) → by self.old r → by self.new r };
-}
-
-/// A cover, with the memory that each stream uses again.
-#[derive(Drop)]
-pub struct Covering<'s, 't, A> {
-    /// How the cover of a stream begins.
-    pub start: StreamCoverStart<'s, A>,
-    /// What is written in the place of each pattern.
-    pub replacements: &'s [&'t [u8]],
-}
-
-impl<A: Automaton> Way for Covering<'_, '_, A> {
-    ghost use Rattle.acredact.specs.Ways.{IsCovering};
-
-    ghost by = { λ way r. IsCovering A.Automaton way.start.automaton.now way.start.progress
-        way.replacements.now r };
-
-    fn redact<R: Source, W: Sink>(
-        &mut self,
-        counts: &mut [u64],
-        source: &mut R,
-        sink: &mut W,
-    ) -> Result<(), StreamError> {
-        cover(&mut self.start, self.replacements, counts, source, sink)
-    }
 }
 
 /// The key of pseudonyms.
@@ -73,20 +43,20 @@ pub struct Key<'s> {
     pub ignore_case: bool,
 }
 
-/// A cover by pseudonyms, with the memory that each stream uses again.
+/// A cover, with the memory that each stream uses again.
 #[derive(Drop)]
-pub struct Naming<'s, A> {
+pub struct Covering<'s, A, P> {
     /// How the cover of a stream begins.
     pub start: StreamCoverStart<'s, A>,
-    /// What makes the pseudonym of each run.
-    pub pieces: Pseudonyms,
+    /// What makes the text in the place of each run.
+    pub pieces: P,
 }
 
-impl<A: Automaton> Way for Naming<'_, A> {
-    ghost use Rattle.acredact.specs.Ways.{IsNamedCover};
+impl<A: Automaton, P: Pieces> Way for Covering<'_, A, P> {
+    ghost use Rattle.acredact.specs.Ways.{IsCovering};
 
-    ghost by = { λ way r. IsNamedCover A.Automaton way.start.automaton.now way.start.progress
-        (⟦<Pseudonyms as Pieces>⟧.rule way.pieces) r };
+    ghost by = { λ way r. IsCovering A.Automaton way.start.automaton.now way.start.progress
+        (P.rule way.pieces) r };
 
     fn redact<R: Source, W: Sink>(
         &mut self,
@@ -94,7 +64,7 @@ impl<A: Automaton> Way for Naming<'_, A> {
         source: &mut R,
         sink: &mut W,
     ) -> Result<(), StreamError> {
-        cover_by_pieces(&mut self.start, &mut self.pieces, counts, source, sink)
+        cover(&mut self.start, &mut self.pieces, counts, source, sink)
     }
 }
 
@@ -111,9 +81,8 @@ pub struct Replacing<'s, 't, A> {
 
 impl<A: Automaton> Way for Replacing<'_, '_, A> {
     ghost use Rattle.acredact.specs.Ways.{IsRedactor};
-    ghost use Rattle.std.specs.Prelude.{false};
 
-    ghost by = { λ way r. IsRedactor A.Automaton way.automaton.now false false way.replacements.now r };
+    ghost by = { λ way r. IsRedactor A.Automaton way.automaton.now way.replacements.now r };
 
     /// Where nothing is counted the output is flushed before each read.
     fn redact<R: Source, W: Sink>(

@@ -26,7 +26,6 @@ use Rattle.aho_automaton.specs.Overlaps.{ended}
 use Rattle.aho_automaton.specs.declared.automaton.Automaton.{Ghosts as Automata}
 use Rattle.aho_automaton.proofs.Endings.{lists_here}
 use Rattle.aho_automaton.proofs.PartWay.{stands_further}
-use Rattle.aho_automaton.proofs.Places.{no_part}
 
 -- an element behind a front
 slice_get-behind : {X : Type 0} (front rest : List X) (x : X) → slice_get (front ++ x ∷ rest) (length front) ≡ Some x
@@ -182,26 +181,6 @@ module _ {A : Type 0} (automata : Automata A) (a : A) (haystack : List ℕ) (p :
       let long : length (runs_in p haystack) ≡ n = omega (arith, ap length whole, length-append c.given [], c.counted) in
       let same : min (n + 1) (length (runs_in p haystack)) ≡ n = omega arith in
       (sym (slice_get_past (runs_in p haystack) n (omega arith)), subst (Upto sid at []) (sym same) c)
-
-  -- before the first byte
-  pub upto-begun : (sid : ℕ) → automata.valid a sid → automata.held a p No [] sid → Upto sid 0 [] 0
-  upto-begun sid is_state is_held = record {
-    stands = record {
-      origin = 0;
-      after_start = omega arith;
-      before_place = omega arith;
-      in_span = omega arith;
-      from_start = λ e. refl;
-      apart = λ m occurs before. absurd (omega arith);
-      is_state = is_state;
-      is_held = subst (λ (w : List ℕ). automata.held a p No w sid) (sym (no_part haystack 0)) is_held;
-    };
-    given = [];
-    counted = refl;
-    runs = refl;
-    settled = inr (λ x there. absurd there);
-    near = λ x there. absurd there;
-  }
 
   -- where the first run in hand is open, all are
   all-open : (at : ℕ) (hand : List Occurrence) → AreInOrder hand at → FirstIsOpen far at hand → (x : Occurrence) → IsMember hand x → at < x.end + far

@@ -150,12 +150,6 @@ module _ (p : Patterns) where
   )
 
   -- what an anchored search of a pattern's own bytes finds tells whether the pattern leads
-  pub found-leads : (k : ℕ) (m : Occurrence) → IsBest p.kind (Occurs p Yes (pattern_at p k) 0 (size_of p k)) m → m.pattern ≡ k → IsLeader p k
-  found-leads k m best same =
-      let sized : 0 + size_of p m.pattern ≡ size_of p k = omega (arith, ap (size_of p) same) in
-      let m_is : m ≡ occurrence 0 (size_of p k) k = occurs-start (pattern_at p k) 0 m best.0 ∙ ap (λ (e : ℕ). occurrence 0 e m.pattern) sized ∙ ap (occurrence 0 (size_of p k)) same in
-      subst (IsBest p.kind (Occurs p Yes (pattern_at p k) 0 (size_of p k))) m_is best
-
   pub leads-found : (k : ℕ) (m : Occurrence) → IsBest p.kind (Occurs p Yes (pattern_at p k) 0 (size_of p k)) m → IsLeader p k → m.pattern ≡ k
   leads-found k m best leads = ap (λ (o : Occurrence). o.pattern) (IsBest-unique p.kind (Occurs p Yes (pattern_at p k) 0 (size_of p k)) m (occurrence 0 (size_of p k) k) best leads)
 

@@ -89,6 +89,3 @@ module _ (p : Patterns) (full : NoneIsEmpty p) (haystack : List ℕ) where
   all-found found upto =
       subst (AreFindsOf p haystack) (append-nil found)
       (upto [] (best-find p full haystack end end None None (λ other o. omega (arith, Occurs-full p full haystack end end other o, o.after_start, o.before_end))))
-
-  pub none-found : FindsUpTo p haystack 0 []
-  none-found = λ ms h. h

@@ -14,13 +14,12 @@ use Rattle.aho_core.specs.Search.{plain_search}
 use Rattle.aho_automaton.specs.declared.automaton.Automaton.{Ghosts as Automata}
 use Rattle.aho_devices.specs.Buffer.{Buffered, Gains}
 use Rattle.aho_devices.specs.Counts.{counted}
-use Rattle.aho_devices.specs.Errors.{CountsErrors}
-use Rattle.aho_devices.specs.Refusals.{IsFillRefusal, IsWriteRefusal, is_read_fault, is_write_fault, is_write_of_nothing}
+use Rattle.aho_devices.specs.Refusals.{IsWriteRefusal}
 use Rattle.aho_devices.specs.declared.device.Sink.{Ghosts as SinkGhosts}
 use Rattle.aho_devices.specs.declared.device.Source.{Ghosts as SourceGhosts}
 use Rattle.aho_stream.specs.After.{MayFollow, greatest_position}
 use Rattle.aho_stream.specs.Refills.{is_limit}
-use Rattle.aho_stream.specs.Replacing.{BeginsReplacing, GaveAsMany, IsStreamFault, MayBe, ReplacesStream, SourceGave}
+use Rattle.aho_stream.specs.Replacing.{BeginsReplacing, GaveAsMany, MayBe, ReplacesStream, SourceGave}
 use Rattle.aho_stream.proofs.PatternLengths.{longest_bounds}
 use Rattle.aho_backward.specs.Backward.{IsTurnedFrom}
 use Rattle.aho_backward.specs.Streams.{FourAByte, IsBlockOf, LeavesByBlocks, ReplacesAllBut, SettlesTo, StandsBefore, WritesMore, WritesSome, held_back}
@@ -138,9 +137,6 @@ module _ {A R W : Type 0} (G : Automata A) (S : SourceGhosts R) (K : SinkGhosts 
   module _ (source : R) (sink : W) (lookups : ℕ) (ended : Bool) (ahead : List ℕ) (room : ℕ) (gone : GoneTo source sink lookups ended ahead room) where
     ahead-long : gone.place + length ahead ≡ length gone.given
     ahead-long = omega (arith, gone.within, length-drop gone.place gone.given, ap length gone.left)
-
-    pub given-bounded : length ahead + room ≤ greatest_position
-    given-bounded = omega (arith, gone.count, ahead-long)
 
     pub lookups-bounded : lookups + 4 * (length ahead + room) ≤ paid₀ + 4 * greatest_position
     lookups-bounded = omega (arith, gone.paid, gone.count, ahead-long)
@@ -287,23 +283,6 @@ leaves-none S K AreSearched pieces source sink most = record {
 pub four-none : {R : Type 0} (S : SourceGhosts R) (source : R) (lookups : ℕ) → FourAByte S source source lookups lookups
 four-none S source lookups = record { given = []; ended = false; gives = record { bytes = Consumes-nil (S.remaining source); end = refl }; at_most = omega arith }
 
--- an error of a write, and that of a fill, is one of a stream
-pub write-fault : (error : StreamError) → IsWriteRefusal error → IsStreamFault error
-write-fault (Refused cause) only = absurd only
-write-fault (Read fault) only = absurd only
-write-fault (Write fault) only = tt
-write-fault WriteZero only = tt
-write-fault Memory only = absurd only
-write-fault PositionLimit only = absurd only
-
-pub fill-fault : (error : StreamError) → IsFillRefusal error → IsStreamFault error
-fill-fault (Refused cause) only = absurd only
-fill-fault (Read fault) only = tt
-fill-fault (Write fault) only = absurd only
-fill-fault WriteZero only = absurd only
-fill-fault Memory only = absurd only
-fill-fault PositionLimit only = tt
-
 -- it is the limit's alone where that was met
 pub limit-is : (error : StreamError) → is_limit {A = Unit {0}} (Err error) ≡ true → error ≡ PositionLimit
 limit-is (Refused cause) met = cc
@@ -315,23 +294,6 @@ limit-is PositionLimit met = refl
 
 -- which calls an error tells of
 module _ {R W : Type 0} (S : SourceGhosts R) (K : SinkGhosts W) (source source' : R) (sink sink' : W) where
-  pub counts-write : (error : StreamError) → IsWriteRefusal error → S.failures source' ≡ S.failures source → K.failures sink' ≡ counted (is_write_fault {A = Unit {0}} (Err error)) (K.failures sink)
-      → K.empty_writes sink' ≡ counted (is_write_of_nothing {A = Unit {0}} (Err error)) (K.empty_writes sink) → CountsErrors {A = Unit {0}} S K source source' sink sink' (Err error)
-  counts-write (Refused cause) only reads writes nothing = absurd only
-  counts-write (Read fault) only reads writes nothing = absurd only
-  counts-write (Write fault) only reads writes nothing = record { read_failed = reads; write_failed = writes; took_nothing = nothing }
-  counts-write WriteZero only reads writes nothing = record { read_failed = reads; write_failed = writes; took_nothing = nothing }
-  counts-write Memory only reads writes nothing = absurd only
-  counts-write PositionLimit only reads writes nothing = absurd only
-
-  pub counts-read : (error : StreamError) → IsFillRefusal error → S.failures source' ≡ counted (is_read_fault {A = Unit {0}} (Err error)) (S.failures source) → K.failures sink' ≡ K.failures sink
-      → K.empty_writes sink' ≡ K.empty_writes sink → CountsErrors {A = Unit {0}} S K source source' sink sink' (Err error)
-  counts-read (Refused cause) only reads writes nothing = absurd only
-  counts-read (Read fault) only reads writes nothing = record { read_failed = reads; write_failed = writes; took_nothing = nothing }
-  counts-read (Write fault) only reads writes nothing = absurd only
-  counts-read WriteZero only reads writes nothing = absurd only
-  counts-read Memory only reads writes nothing = absurd only
-  counts-read PositionLimit only reads writes nothing = record { read_failed = reads; write_failed = writes; took_nothing = nothing }
 
 -- too few bytes for a block: nothing is written
 pub settles-none : {A W : Type 0} (G : Automata A) (K : SinkGhosts W) (a : A) (given : List ℕ) (behind : ℕ) (pieces : List (List ℕ)) (ahead : List ℕ) (sink : W) (lookups : ℕ) → length ahead ≤ 2 * behind

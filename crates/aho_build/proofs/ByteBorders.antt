@@ -1,8 +1,7 @@
 -- The borders that the bytes of a word make.
-use Rattle.std.proofs.Common.{◌≡◌, ℕ, ◌+◌, ◌<◌, Bool, true, false, ◌||◌, nat_eq, List, [], ◌∷◌, length, get_or, take, refl, sym, ap, ◌∙◌, inl, inr, arith}
+use Rattle.std.proofs.Common.{◌≡◌, ℕ, ◌+◌, ◌<◌, Bool, true, false, ◌||◌, nat_eq, List, [], ◌∷◌, length, get_or, take, refl, sym, ap, ◌∙◌, inl, inr}
 use Rattle.std.proofs.Math.Bool.{or-false}
 use Rattle.std.proofs.lemmas.Bool.{cases_Bool, eqb-true, eqb-false, eq-eqb, ne_eqb, or_left, or_right, or_from}
-use Rattle.std.proofs.lemmas.Bool.Decides.{nat_tests}
 use Rattle.std.proofs.lemmas.List.Folds.{list_any_more}
 use Rattle.aho_table.specs.Alphabet.{is_edge}
 use Rattle.aho_core.specs.Bytes.{folded_by, opposite}
@@ -45,10 +44,6 @@ same_test x y =
           ∙ sym
           (or_from (nat_eq y x) (nat_eq y (opposite x)) (ne_eqb y x (λ e. ne (ap (folded_by true) (sym e)))) (ne_eqb y (opposite x) (other_letter y x (λ e. ne (sym e)))))
     ]
-
--- one byte, as it is
-pub parted-byte : (x : Bool) (byte at : ℕ) → (x || is_edge byte byte at) ≡ (x || is_parted_by false (byte ∷ []) at)
-parted-byte x byte at = ap (λ (b : Bool). x || b) (grind (arith, nat_tests))
 
 -- and under the case rule
 pub parted-letter : (x : Bool) (byte at : ℕ) → ((x || is_edge byte byte at) || is_edge (opposite byte) (opposite byte) at) ≡ (x || is_parted_by true (byte ∷ []) at)

@@ -3,10 +3,10 @@ use Rattle.std.proofs.Common.{◌≡◌, ℕ, zero, suc, ◌+◌, ◌-◌, ◌<�
 use Rattle.std.proofs.Math.ListN.{length-set}
 use Rattle.std.proofs.lemmas.Bool.{cases_eq, cases_lt, lt-ltb}
 use Rattle.std.specs.List.{count_by}
-use Rattle.std.proofs.lemmas.List.{take_more, take_all, drop-append-le, drop-take, get_or-map, get_or_past, get_or-set_same, get_or-set_other, length-map, length-take-le}
-use Rattle.std.proofs.lemmas.List.Sums.{sum_by_push, sum_by-take-le}
+use Rattle.std.proofs.lemmas.List.{take_more, drop-append-le, get_or-map, get_or_past, get_or-set_same, get_or-set_other, length-map, length-take-le}
+use Rattle.std.proofs.lemmas.List.Sums.{sum_by_push}
 use Rattle.aho_table.specs.Table.{State, new_state, state_at, has_row, with_row, no_rows}
-use Rattle.aho_build.specs.Dense.{is_dense, is_dense_at, AreDense, dense_count}
+use Rattle.aho_build.specs.Dense.{is_dense, is_dense_at}
 
 -- among the states below this number
 abbrev pub rows_before : ℕ → List State → ℕ → ℕ
@@ -33,16 +33,6 @@ pub rows_before-other : (depth : ℕ) (states : List State) (index : ℕ) → 2 
     → rows_before depth states (index + 1) ≡ rows_before depth states index
 rows_before-other depth states index least below other =
     rows_before-more depth states index least below ∙ ap (λ (b : Bool). rows_before depth states index + cond b 1 0) other ∙ omega arith
-
-pub rows_before-all : (depth : ℕ) (states : List State) (index : ℕ) → length states ≤ index → rows_before depth states index ≡ dense_count depth states
-rows_before-all depth states index past = ap (λ (ss : List State). count_by (is_dense depth) (drop 2 ss)) (take_all index states past)
-
-pub rows_before-le : (depth : ℕ) (states : List State) (index : ℕ) → 2 ≤ index → rows_before depth states index ≤ dense_count depth states
-rows_before-le depth states index least =
-    let place : index ≡ 2 + (index - 2) = omega arith in
-    let same : rows_before depth states index ≡ count_by (is_dense depth) (take (index - 2) (drop 2 states)) =
-    ap (rows_before depth states) place ∙ ap (count_by (is_dense depth)) (drop-take 2 (index - 2) states) in
-    omega (arith, sum_by-take-le (λ (s : State). cond (is_dense depth s) 1 0) (drop 2 states) (index - 2))
 
 -- DEAD and FAIL are to have none, and behind them the depth alone tells
 pub is_dense_at-unnamed : (depth : ℕ) (states : List State) (sid : ℕ) → sid < 2 → is_dense_at depth states sid ≡ false
@@ -100,6 +90,3 @@ module _ (depth : ℕ) (states : List State) where
           ];
       high = λ sid past. have.high sid (omega arith);
     }
-
-    pub AreDense-all : length states ≤ index → AreDense depth states rows
-    AreDense-all past = record { as_many = have.as_many; exact = λ sid below. have.low sid (omega arith) }

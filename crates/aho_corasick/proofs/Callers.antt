@@ -17,14 +17,6 @@ use Rattle.aho_corasick.specs.declared.noncontiguous.NFA.{NFA}
 use Rattle.aho_corasick.specs.contracts.noncontiguous.NFAAutomaton.TheImpl.{ghosts}
 
 module _ {S : Type 0} {gives : S → Option (Bor (List ℕ)) → S → Type 0} (state : S) (settings : Settings) (nfa : NFA) where
-  -- an automaton that `new` or `build` built is of the words that the iterator is known to give
-  pub of_words : (words : List (List ℕ)) → YieldsList gives (λ item. item.now) state words → OfAccepted gives state settings (ghosts.is_of nfa)
-      → ghosts.is_of nfa (record { words = words; kind = settings.kind; ignore_case = settings.ignore_case })
-  of_words words yields built =
-      let drained = built.1.0 in
-      subst (λ (ws : List (List ℕ)). ghosts.is_of nfa (record { words = ws; kind = settings.kind; ignore_case = settings.ignore_case }))
-      (items_from_drains built.0 (drained.1.0, drained.1.1, λ _. (drained.0, drained.1.2)) yields) built.2
-
   -- and of the byte strings that the iterator is known to give
   pub of_items : (given : List (Bor (List ℕ))) → YieldsList gives (λ item. item) state given → OfAccepted gives state settings (ghosts.is_of nfa)
       → ghosts.is_of nfa (patterns_of settings given)

@@ -17,12 +17,6 @@ none-waits true true e = refl
 pub end-seen : (s : CoverProgress) → s.ended ≡ true → walk_end s ≡ s.read
 end-seen s e = omega (arith, none-waits s.words s.ended e)
 
--- and where one may be walked that is the last, no byte waits, or all are
-pub end-waits : (words ended : Bool) → words ≡ true → waiting words ended ≡ 0 → ended ≡ true
-end-waits false ended w e = cc
-end-waits true false w e = absurd (omega (arith, e))
-end-waits true true w e = refl
-
 -- where nothing is read as much may be walked
 pub same-end : (s s' : CoverProgress) → KeepsBytes s s' → walk_end s' ≡ walk_end s
 same-end s s' keeps =

@@ -1,8 +1,8 @@
 -- What a state lists at a place, of which the words are looked for.
 use Rattle.std.proofs.Common.{◌≡◌, ℕ, zero, suc, ◌+◌, ◌-◌, ◌<◌, ◌≤◌, true, false, List, [], ◌∷◌, length, map, drop, get_or, refl, sym, ◌∙◌, ap, subst, arith, length-append}
-use Rattle.std.specs.Prelude.{◌&&◌, Option, None, Some, filter, not, slice_get, slice_index, slice_range}
+use Rattle.std.specs.Prelude.{◌&&◌, Option, None, Some, filter, slice_get, slice_index, slice_range}
 use Rattle.std.specs.List.{All}
-use Rattle.std.proofs.lemmas.Bool.{and_from, and_right, cond-false, cond-true, le-ltb, lt-ltb}
+use Rattle.std.proofs.lemmas.Bool.{and_from, and_right, cond-false, cond-true}
 use Rattle.std.proofs.lemmas.List.{drop_all, get_or-append_right, get_or-take}
 use Rattle.std.proofs.lemmas.Option.{get_or_from_slice_get, slice_get_within}
 use Rattle.aho_core.specs.Laws.{longest, told}
@@ -11,7 +11,7 @@ use Rattle.aho_core.specs.declared.search.Anchored.TheVariants.{No}
 use Rattle.aho_automaton.specs.Overlaps.{ended}
 use Rattle.aho_automaton.proofs.Places.{length_part}
 use Rattle.aho_stream.specs.After.{EndsWith}
-use Rattle.aho_cover.specs.Words.{counted_of, first_listed, stands_as_word, is_word_part, none_before, none_behind}
+use Rattle.aho_cover.specs.Words.{counted_of, first_listed, stands_as_word, none_before, none_behind}
 
 -- a byte of the last bytes is that byte of the whole
 pub byte_held : (haystack bytes : List ℕ) (read at : ℕ) → EndsWith (slice_range haystack 0 read) bytes → read ≤ length haystack → length bytes ≤ read → read ≤ at + length bytes → at < read
@@ -78,19 +78,3 @@ module _ (text lengths : List ℕ) (end : ℕ) where
   -- at the end of the list there is none
   pub no-word : (list : List ℕ) (i : ℕ) → length list ≤ i → first_word (drop i list) ≡ None
   no-word list i past = ap first_word (drop_all i list past)
-
--- nothing stands before the first byte
-pub before-first : (text : List ℕ) (start : ℕ) → start ≡ 0 → none_before text start ≡ true
-before-first text start first = ap (none_before text) first
-
-pub before-later : (text : List ℕ) (start byte : ℕ) → 0 < start → byte ≡ slice_index text (start - 1) → not (is_word_part byte) ≡ none_before text start
-before-later text start byte some is =
-    ap (λ b. not (is_word_part b)) is ∙ sym (ap (λ b. not (b && is_word_part (slice_index text (start - 1)))) (lt-ltb 0 start some))
-
--- nor behind the last one
-pub behind-last : (text : List ℕ) (end : ℕ) → length text ≤ end → none_behind text end ≡ true
-behind-last text end past = ap (λ b. not (b && is_word_part (slice_index text end))) (le-ltb end (length text) past)
-
-pub behind-later : (text : List ℕ) (end byte : ℕ) → end < length text → byte ≡ slice_index text end → not (is_word_part byte) ≡ none_behind text end
-behind-later text end byte within is =
-    ap (λ b. not (is_word_part b)) is ∙ sym (ap (λ b. not (b && is_word_part (slice_index text end))) (lt-ltb end (length text) within))

@@ -44,20 +44,6 @@ module _ (s : CoverProgress) (at : ℕ) (sound : IsSoundCover s at) where
     pub first-fed : s.fed ≤ x.end
     first-fed = sound.fed_within x (member-first x (inl refl))
 
-    -- the bytes in front of it are held
-    pub gap-held : s.copied < x.start → s.read ≤ s.copied + length s.buffer.bytes
-    gap-held some =
-        omega (
-          arith,
-          sound.held,
-          sound.kept s.copied (omega arith) (λ c.
-              let there : IsMember (x ∷ rest) c.found = subst (λ (runs : List Occurrence). IsMember runs c.found) first c.member in
-              elim there [
-                | inl e ↦ omega (arith, c.after_start, ap (λ (o : Occurrence). o.start) e)
-                | inr later ↦ omega (arith, c.after_start, rest-lie c.found later, first-lies)
-              ]),
-        )
-
     -- once it is written
     pub sound-settled : (hand : Hand) (copied : ℕ) → held_runs hand ≡ rest → copied ≡ x.end → HasItsFirst hand → room_in hand ≡ room_in s.hand → IsSoundCover (record s { copied = copied; hand = hand }) at
     sound-settled hand copied left ends whole room = record {
@@ -250,8 +236,6 @@ open-within s at sound = omega (arith, sound.since_walked, sound.some)
 -- once more was read
 module _ (s : CoverProgress) (at : ℕ) (sound : IsSoundCover s at) (last : s.read ≤ at + 1) (near : BareFrom s.copied (held_runs s.hand) (s.read - s.buffer.least)) where
   module _ (x : Occurrence) (rest : List Occurrence) (first : held_runs s.hand ≡ x ∷ rest) where
-    abbrev kept_from : ℕ
-    kept_from = s.read - s.buffer.least
 
     member-known : (y : Occurrence) → IsMember (held_runs s.hand) y → (y ≡ x) ⊎ (x.end < y.start) × (y.start < y.end)
     member-known y there = elim (subst (λ (runs : List Occurrence). IsMember runs y) first there) [
@@ -306,11 +290,6 @@ module _ (s : CoverProgress) (at : ℕ) (sound : IsSoundCover s at) (last : s.re
       room = sound.room;
     }
 
-    -- nothing of it is to be fed
-    pub fed-enough : s.read - s.buffer.least ≤ max s.fed x.start → HasFedFirst s
-    fed-enough enough y there = elim (member-known y there) [
-      | inl e ↦ omega (arith, enough, ap (λ (o : Occurrence). o.start) e)
-      | inr later ↦ omega (arith, enough, later, first-lies s at sound x rest first)
     ]
 
   pub sound-read : HasFedFirst s → (buffer : Buffered) (read n : ℕ) → read ≡ s.read + n → read < 2 ^ 63 → buffer.least ≡ s.buffer.least → length buffer.bytes ≡ min s.buffer.least (length s.buffer.bytes) + n

@@ -38,14 +38,6 @@ entry-added plan sid class entry old mid new has is value step = record {
     kept : (i : ℕ) → i < length mid → get_or new i 0 ≡ get_or mid i 0
     kept i below = ap (λ (l : List ℕ). get_or l i 0) is ∙ get_or_append_left mid (entry ∷ []) 0 i below
 
-pub no-entries : (plan : Parts) (sid : ℕ) (old : List ℕ) → HasEntries plan sid 0 old old
-no-entries plan sid old = record {
-  sized = omega arith;
-  same = λ i below. refl;
-  entry = λ class below. absurd (omega (arith, below));
-  step = λ class below. absurd (omega (arith, below));
-}
-
 module _ (plan : Parts) where
   abbrev stride : ℕ
   stride = stride_of plan.classes

@@ -1,14 +1,9 @@
 -- Where a byte stands among some, looked through one after another.
-use Rattle.std.proofs.Common.{◌≡◌, ◌≢◌, ◌∙◌, sym, ◌+◌, ◌<◌, ◌≤◌, ℕ, zero, suc, List, [], ◌∷◌, nat_eq, length, drop, get_or, ap, refl, inl, inr, arith}
-use Rattle.std.specs.Prelude.{Some, None}
-use Rattle.std.proofs.lemmas.Bool.{cases_eq, cond-true, cond-false, eq-eqb, ne_eqb}
+use Rattle.std.proofs.Common.{◌≡◌, ◌≢◌, ◌∙◌, sym, ◌+◌, ◌<◌, ◌≤◌, ℕ, zero, suc, List, [], ◌∷◌, nat_eq, length, drop, get_or, ap, refl, arith}
+use Rattle.std.specs.Prelude.{None}
+use Rattle.std.proofs.lemmas.Bool.{cond-false, ne_eqb}
 use Rattle.std.proofs.lemmas.List.{drop_more}
 use Rattle.aho_levels.specs.Layout.{position_of}
-
--- the next one is the byte
-pub position-here : (xs : List ℕ) (low byte at : ℕ) → low < length xs → get_or xs low 0 ≡ byte → position_of (drop low xs) byte at ≡ Some at
-position-here xs low byte at within is =
-    ap (λ (l : List ℕ). position_of l byte at) (drop_more xs low 0 within) ∙ cond-true (nat_eq (get_or xs low 0) byte) _ _ (eq-eqb (get_or xs low 0) byte is)
 
 -- or it is another one
 pub position-next : (xs : List ℕ) (low byte at : ℕ) → low < length xs → get_or xs low 0 ≢ byte → position_of (drop low xs) byte at ≡ position_of (drop (low + 1) xs) byte (at + 1)
@@ -38,24 +33,3 @@ pub position-none_from : (xs : List ℕ) (low byte at : ℕ) → ((i : ℕ) → 
 position-none_from xs zero byte at others = position-none xs byte at (λ i less. others i (omega arith) less)
 position-none_from [] (suc low) byte at others = refl
 position-none_from (x ∷ xs) (suc low) byte at others = position-none_from xs low byte at (λ i from less. others (suc i) (omega (arith, from)) (omega (arith, less)))
-
--- where it stands
-pub position-some : (xs : List ℕ) (byte at child : ℕ) → position_of xs byte at ≡ Some child → (k : ℕ) × (k < length xs) × (get_or xs k 0 ≡ byte) × (child ≡ at + k)
-position-some [] byte at child found = cc
-position-some (x ∷ xs) byte at child found =
-    elim (cases_eq x byte) [
-      | inl same ↦ (let is : Some at ≡ Some child = sym (cond-true (nat_eq x byte) _ _ (eq-eqb x byte same)) ∙ found in let here : at ≡ child = cc in (0, omega arith, same, omega (arith, here)))
-      | inr other ↦
-          (let further = position-some xs byte (at + 1) child (sym (cond-false (nat_eq x byte) _ _ (ne_eqb x byte other)) ∙ found) in
-          (suc further.0, omega (arith, further.1), further.2, omega (arith, further.3)))
-    ]
-
--- where it is not found it does not stand
-pub position-absent : (xs : List ℕ) (byte at : ℕ) → position_of xs byte at ≡ None → (k : ℕ) → k < length xs → get_or xs k 0 ≢ byte
-position-absent [] byte at none k less = absurd (omega (arith, less))
-position-absent (x ∷ xs) byte at none zero less = λ same. let clash : Some at ≡ None = sym (cond-true (nat_eq x byte) _ _ (eq-eqb x byte same)) ∙ none in cc
-position-absent (x ∷ xs) byte at none (suc k) less =
-    elim (cases_eq x byte) [
-      | inl here ↦ (let clash : Some at ≡ None = sym (cond-true (nat_eq x byte) _ _ (eq-eqb x byte here)) ∙ none in cc)
-      | inr other ↦ position-absent xs byte (at + 1) (sym (cond-false (nat_eq x byte) _ _ (ne_eqb x byte other)) ∙ none) k (omega (arith, less))
-    ]

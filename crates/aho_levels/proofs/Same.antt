@@ -114,14 +114,8 @@ module _ (old new : StateTables) (same : HasSameTrie old new) where
 pub trie-back : (old new : StateTables) → HasSameTrie old new → HasSameTrie new old
 trie-back old new same = record { firsts = sym same.firsts; bytes = sym same.bytes; depths = sym same.depths; case_rule = sym same.case_rule }
 
-pub trie-on : (a b c : StateTables) → HasSameTrie a b → HasSameTrie b c → HasSameTrie a c
-trie-on a b c one two = record { firsts = two.firsts ∙ one.firsts; bytes = two.bytes ∙ one.bytes; depths = two.depths ∙ one.depths; case_rule = two.case_rule ∙ one.case_rule }
-
 pub links-back : (old new : StateTables) → HasSameLinks old new → HasSameLinks new old
 links-back old new same = record { trie = trie-back old new same.trie; fails = sym same.fails; rows = sym same.rows; row_count = sym same.row_count }
-
-pub links-on : (a b c : StateTables) → HasSameLinks a b → HasSameLinks b c → HasSameLinks a c
-links-on a b c one two = record { trie = trie-on a b c one.trie two.trie; fails = two.fails ∙ one.fails; rows = two.rows ∙ one.rows; row_count = two.row_count ∙ one.row_count }
 
 -- links and rows are read from the trie and theirs
 sized-kept : (old new : StateTables) → IsSizedTables old → IsSizedTables (with_links old new)

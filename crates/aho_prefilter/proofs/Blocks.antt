@@ -53,11 +53,6 @@ module _ (search : PackedHeads) (bytes : List ℕ) where
     )
 
   module _ (from blocks : ℕ) (before : Nowhere (MeetsHeadAt search bytes) 0 (from * 32)) where
-    -- where no further block has a place that meets a group
-    pub Nowhere-blocks : from ≤ blocks → Nowhere (MeetsTestedAt search bytes) (from * 32) (blocks * 32) → Nowhere (MeetsHeadAt search bytes) 0 (blocks * 32)
-    Nowhere-blocks within none k low high meets =
-        elim (cases_lt k (from * 32)) [ inl sooner ↦ before k low sooner meets | inr late ↦ none k late high meets.meets ]
-
     module _ (block : Block) (is : IsBlock search.tested search bytes from blocks block) where
       before-block : Nowhere (MeetsHeadAt search bytes) 0 (block.number * 32)
       before-block k low high meets =

@@ -1,5 +1,5 @@
 -- The search for windows of the patterns stops no later than where the first pattern occurs.
-use Rattle.std.proofs.Common.{◌≡◌, ℕ, ◌+◌, ◌-◌, ◌<◌, ◌≤◌, zero, suc, inl, inr, Bool, true, false, List, [], ◌∷◌, drop, get_or, length, refl, sym, ap, subst, ◌∙◌, arith, max}
+use Rattle.std.proofs.Common.{◌≡◌, ℕ, ◌+◌, ◌-◌, ◌<◌, ◌≤◌, zero, suc, inl, inr, Bool, true, false, List, [], ◌∷◌, drop, get_or, length, sym, ap, subst, ◌∙◌, arith, max}
 use Rattle.std.specs.Prelude.{Option, None, Some, slice_range, if◌then◌else◌}
 use Rattle.std.specs.List.{fold}
 use Rattle.std.specs.Option.{option_map}
@@ -28,11 +28,6 @@ bytes_before-within rule (byte ∷ word) = by_test (begins_often rule (byte ∷ 
     by_test : (often : Bool) → bytes_before rule word ≤ length word → (if often then suc (bytes_before rule word) else 0) ≤ suc (length word)
     by_test true within = omega (arith, within)
     by_test false within = omega arith
-
--- none stand before the window of a word that does not begin often
-pub bytes_before-none : (rule : Bool) (word : List ℕ) → begins_often rule word ≡ false → bytes_before rule word ≡ 0
-bytes_before-none rule [] rare = refl
-bytes_before-none rule (byte ∷ word) rare = ap (λ (often : Bool). if often then suc (bytes_before rule word) else 0) rare
 
 -- and one more than behind its first byte, where it does
 pub bytes_before-more : (rule : Bool) (word : List ℕ) (k : ℕ) → k < length word → begins_often rule (drop k word) ≡ true → bytes_before rule (drop k word) ≡ bytes_before rule (drop (k + 1) word) + 1

@@ -7,7 +7,6 @@ use Rattle.aho_core.specs.declared.error.stream.StreamError.{StreamError}
 use Rattle.aho_core.specs.ClosureRun.{CalledOn, ClosureRun}
 use Rattle.aho_core.specs.Occurrence.{Occurrence}
 use Rattle.aho_devices.specs.declared.device.Sink.{Ghosts as SinkGhosts}
-use Rattle.aho_stream.specs.StreamRun.{CallsOn, SinkTakes}
 
 -- the closure was called on the first of some matches, and on all of them where the run came to its good end
 pub record CalledOnFirst {F E : Type 0} (Holds : List Occurrence → F → Type 0) (done ms : List Occurrence) (result : Result (Unit {0}) E) (last : F) : Type 0 where
@@ -68,12 +67,3 @@ module _ {F W : Type 0} (K : SinkGhosts W) (calls : Mut F (Bor Occurrence × (Bo
     (Holds : List Occurrence → F → Type 0)
     (steps : (done : List Occurrence) (f : F) (m : Occurrence) (matched : List ℕ) (old : W) (answer : Result (Unit {0}) StreamError) (next : F) (new : W)
     → Holds done f → CalledOn calls f m matched old answer next new → Holds (done ++ (m ∷ [])) next) where
-  one_call : (done : List Occurrence) (f : F) (m : Occurrence) (matched : List ℕ) (old : W) (answer : Result Bool StreamError) (next : F) (new : W)
-      → Holds done f → CallsOn calls f m matched old answer next new → Holds (done ++ (m ∷ [])) next
-  one_call done f m matched old (Ok goes) next new holds called = steps done f m matched old (Ok tt) next new holds called.1
-  one_call done f m matched old (Err error) next new holds called = steps done f m matched old (Err error) next new holds called
-
-  pub stream_calls : (stopped : Bool) (haystack : List ℕ) (ms : List Occurrence) (closure : F) (sink : W) (result : Result (Unit {0}) StreamError) (last : F) (sink' : W)
-      → Holds [] closure → ClosureRun (SinkTakes K stopped) (CallsOn calls) haystack 0 ms closure sink result last sink' → CalledOnFirst Holds [] ms result last
-  stream_calls stopped haystack ms closure sink result last sink' =
-      run_calls (SinkTakes K stopped) (CallsOn calls) haystack Holds (λ f m matched old goes next new called. called.0) one_call ms [] 0 closure sink result last sink'

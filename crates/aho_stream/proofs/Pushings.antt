@@ -1,12 +1,12 @@
 -- How pushes and the end keep what is known of how far a search of a stream has come, and what is found in what was pushed.
-use Rattle.std.proofs.Common.{◌≡◌, ap, length, ℕ, ◌+◌, ◌≤◌, Bool, true, false, List, [], ◌++◌, refl, sym, subst, arith, append-nil, length-append}
+use Rattle.std.proofs.Common.{◌≡◌, ap, length, ℕ, ◌+◌, ◌≤◌, Bool, true, false, List, [], ◌++◌, refl, sym, subst, arith, length-append}
 use Rattle.std.specs.Prelude.{IfSome, None, Option, Some}
 use Rattle.aho_core.specs.Patterns.{Patterns}
 use Rattle.aho_core.specs.declared.search.MatchKind.TheVariants.{Standard}
 use Rattle.aho_automaton.specs.declared.automaton.Automaton.{Ghosts}
 use Rattle.aho_stream.specs.After.{IsAfter, MayFollow}
 use Rattle.aho_stream.specs.Chunks.{TellsChunk}
-use Rattle.aho_stream.specs.Pushing.{Adds, HoldsTold, Pushes, TellsNoneYet, TellsOfGiven}
+use Rattle.aho_stream.specs.Pushing.{Adds, HoldsTold, TellsNoneYet, TellsOfGiven}
 use Rattle.aho_stream.specs.declared.progress.StreamPiece.{StreamPiece}
 use Rattle.aho_stream.specs.declared.progress.StreamProgress.{StreamProgress}
 use Rattle.aho_stream.proofs.Afters.{after_refilled, after_told, in_hand_same}
@@ -17,41 +17,6 @@ may_follow true more nothing = nothing
 may_follow false more nothing = tt
 
 module _ {S : Type 0} (A : Ghosts S) (automaton : S) (p : Patterns) where
-  -- however many look-ups were made
-  pub after_uncounted : (lookups : ℕ) (s : StreamProgress) (given : List ℕ) → IsAfter A automaton p lookups s given → IsAfter A automaton p 0 s given
-  after_uncounted lookups s given a = record {
-    no_empty = a.no_empty;
-    sized = a.sized;
-    start_is = a.start_is;
-    start_shallow = a.start_shallow;
-    start_held = a.start_held;
-    count = a.count;
-    limited = a.limited;
-    bounded = a.bounded;
-    least = a.least;
-    size = a.size;
-    enough = a.enough;
-    last = a.last;
-    kept = a.kept;
-    told_reported = a.told_reported;
-    from_reported = a.from_reported;
-    from_origin = a.from_origin;
-    origin_walked = a.origin_walked;
-    reported_walked = a.reported_walked;
-    walked_read = a.walked_read;
-    position = a.position;
-    once = a.once;
-    each = a.each;
-    paid = omega (arith, a.paid);
-    apart = a.apart;
-    is_state = a.is_state;
-    held_is = a.held_is;
-    best_is = a.best_is;
-    in_hand_is = a.in_hand_is;
-    clear = a.clear;
-    stopped = a.stopped;
-  }
-
   -- bytes were put behind those that are kept, where all was searched through
   pub after_added : (s s' : StreamProgress) (given bytes : List ℕ) → Adds (record s { told = s.reported }) s' bytes → IsAfter A automaton p 0 s given
       → (p.kind ≡ Standard → s.in_hand ≡ None) → s.walked ≡ s.read → s.read ≤ s.reported + s.buffer.least → s.ended ≡ false → s.refused ≡ false
@@ -107,16 +72,6 @@ module _ {S : Type 0} (A : Ghosts S) (automaton : S) (p : Patterns) where
     in_hand_is = in_hand_same A automaton p s (record s { ended = true }) refl refl s.in_hand a.in_hand_is;
     clear = λ more m nothing answer. a.clear more m (may_follow s.ended more nothing) answer;
     stopped = λ e. cc;
-  }
-
-  -- nothing was pushed, and nothing changed
-  pub pushes_nothing : (s : StreamProgress) → Pushes A automaton s s []
-  pushes_nothing s = record {
-    is_after = λ q given of a. subst (IsAfter A automaton q 0 s) (sym (append-nil given)) a;
-    from = refl;
-    ended = refl;
-    refused = refl;
-    limit = refl;
   }
 
 -- what a call tells, where it tells something or nothing yet

@@ -16,10 +16,6 @@ pub real_entries : (entries : List Transition) (list : ℕ) → 0 < list → lis
 real_entries [] list some below = absurd (omega arith)
 real_entries (entry ∷ entries) list some below = refl
 
-pub first-same : (entries new : List Transition) → new ≡ with_first entries → with_first new ≡ with_first entries
-first-same [] new is = ap with_first is
-first-same (entry ∷ entries) new is = ap with_first is
-
 pub first-push : (entries : List Transition) (more : Transition) → with_first (entries ++ more ∷ []) ≡ entries ++ more ∷ []
 first-push [] more = refl
 first-push (entry ∷ entries) more = refl

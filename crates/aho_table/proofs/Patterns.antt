@@ -106,15 +106,6 @@ patterns_at-none words list none = ap (λ (n : ℕ). take n (drop list words)) n
 pub patterns_at-zero : (words : List ℕ) → patterns_at words 0 ≡ []
 patterns_at-zero words = patterns_at-none words 0 (length_at-zero words)
 
-pub patterns_at-past : (words : List ℕ) (list : ℕ) → length words < list → patterns_at words list ≡ []
-patterns_at-past words list past =
-    patterns_at-none words list
-    (
-    length_at-some words list (λ is. omega arith)
-    ∙ ap told_length (get_or_past words (list - 1) room (omega arith))
-    ∙ told_length-room
-    )
-
 pub length-patterns_at : (words : List ℕ) (count list : ℕ) → AreLaid words count → length (patterns_at words list) ≡ length_at words list
 unfolding patterns_at
 length-patterns_at words count list are =

@@ -1,9 +1,8 @@
 -- Numbers that are exchanged for others in a list, and in the lists of a vector of transitions.
 use Rattle.std.proofs.Common.{◌≡◌, ℕ, suc, ◌+◌, ◌<◌, ◌≤◌, List, [], ◌∷◌, length, get_or, refl, sym, ap, subst, ◌∙◌, inl, inr, arith}
-use Rattle.std.proofs.Math.ListN.{set, length-set}
 use Rattle.std.specs.List.{AllZip}
 use Rattle.std.proofs.lemmas.Bool.{cases_eq, cases_lt}
-use Rattle.std.proofs.lemmas.List.{get_or_past, get_or-set_same, get_or-set_other}
+use Rattle.std.proofs.lemmas.List.{get_or_past}
 use Rattle.std.proofs.lemmas.List.Elements.{AllZip-get_or}
 use Rattle.std.proofs.lemmas.Slice.Zip.{AllZip-long}
 use Rattle.aho_table.specs.Rings.{Entries, list_ending, lists_of, IsRun, here, on, AreRings, AreSideBySide}
@@ -17,25 +16,6 @@ use Rattle.aho_table.proofs.Stores.{length-lists_of, list_at-lists_of, list_at-z
 -- ---- a list is written anew, one item after another
 
 module _ {X : Type 0} (R : X → X → Type 0) (default : X) where
-  pub IsWritten-first : (old : List X) → IsWritten R default 0 old old
-  IsWritten-first old = record { sized = refl; written = λ k less within. absurd (omega arith); left = λ k past. refl }
-
-  pub IsWritten-more : (count : ℕ) (old new : List X) (x : X) → IsWritten R default count old new → count < length new → R (get_or new count default) x → IsWritten R default (count + 1) old (set new count x)
-  IsWritten-more count old new x so_far within related = record {
-    sized = length-set new count x ∙ so_far.sized;
-    written = λ k less below.
-        elim (cases_eq k count) [
-          | inl same ↦
-              subst (λ (n : ℕ). R (get_or old n default) (get_or (set new count x) n default)) (sym same)
-              (subst (λ (y : X). R (get_or old count default) y) (sym (get_or-set_same new count x default within))
-              (subst (λ (y : X). R y x) (so_far.left count (omega arith)) related))
-          | inr there ↦
-              subst (λ (y : X). R (get_or old k default) y) (sym (get_or-set_other new count k x default there))
-              (so_far.written k (omega (arith, there)) below)
-        ];
-    left = λ k past. get_or-set_other new count k x default (λ e. omega arith) ∙ so_far.left k (omega arith);
-  }
-
   AllZip-each : (old new : List X) → length new ≡ length old → ((k : ℕ) → k < length old → R (get_or old k default) (get_or new k default)) → AllZip R old new
   AllZip-each [] [] sized each = tt
   AllZip-each [] (y ∷ new) sized each = absurd (omega arith)

@@ -2,14 +2,13 @@
 use Rattle.std.proofs.Common.{◌≡◌, ℕ, ◌+◌, ◌-◌, ◌<◌, ◌≤◌, Bool, false, List, [], ◌∷◌, ◌++◌, length, map, get_or, drop, take, replicate, refl, sym, ap, subst, ◌∙◌, inl, inr, arith}
 use Rattle.std.proofs.Math.ListN.{set, length-set}
 use Rattle.std.proofs.Math.Seq.{take-append_seam}
-use Rattle.std.proofs.lemmas.Bool.{cases_eq, cases_lt}
-use Rattle.std.proofs.lemmas.List.{drop_more, drop_all, get_or_default, get_or_past, length_push, get_or-replicate, get_or-set_same, get_or-set_other, get_or_append_left, get_or-append-add, get_or-take, length-append, length-take-le, length-replicate, length-map, map-set, take-map, get_or-map}
+use Rattle.std.proofs.lemmas.Bool.{cases_eq}
+use Rattle.std.proofs.lemmas.List.{drop_more, drop_all, get_or_default, length_push, get_or-replicate, get_or-set_same, get_or-set_other, get_or_append_left, get_or-append-add, get_or-take, length-append, length-take-le, length-replicate, length-map, map-set, take-map, get_or-map}
 use Rattle.std.specs.List.{swap}
 use Rattle.std.proofs.lemmas.List.Edits.{swap_is}
 use Rattle.aho_table.specs.Alphabet.{class_of, class_count}
 use Rattle.aho_table.specs.Table.{State, Tables, state_at, transition_at, IsRising, LeadsAlike, no_rows}
 use Rattle.aho_table.specs.Inside.{IsRowOf, IsRowAdded, IsFilled, start_in, is_start, HasRows}
-use Rattle.aho_table.proofs.States.{state_at-set_other, state_at-push_old}
 use Rattle.aho_table.proofs.Classes.{class_of-byte, class_of-count}
 use Rattle.aho_table.proofs.TransitionLists.{transition_at-other, transition_at-at}
 
@@ -96,24 +95,6 @@ IsRowOf-kept classes old new transitions start longer kept is = record {
 }
 
 module _ (states : List State) (starts : List ℕ) (classes : List Bool) (entries : List ℕ) (limit : ℕ) (has : HasRows states starts classes entries limit) where
-  -- the state leads elsewhere, and its row is forgotten
-  pub HasRows-forgotten : (sid again : ℕ) (state : State) → sid < length states → again ≡ sid → HasRows (set states sid state) (set starts again 0) classes entries limit
-  HasRows-forgotten sid again state below same = record {
-    state_count = let count = has.state_count in omega (arith, length-set states sid state, length-set starts again 0);
-    bounded = has.bounded;
-    rows = λ i some.
-        elim (cases_eq i again) [
-          | inl here ↦
-              let count = has.state_count in
-              let none : start_in (set starts again 0) i ≡ 0 = ap (λ (n : ℕ). get_or (set starts again 0) n 0) here ∙ get_or-set_same starts again 0 0 (omega arith) in
-              absurd (omega arith)
-          | inr there ↦
-              let start : start_in (set starts again 0) i ≡ start_in starts i = get_or-set_other starts again i 0 0 there in
-              subst (λ (n : ℕ). IsRowOf classes entries (state_at (set states sid state) i).transitions n) (sym start)
-              (subst (λ (r : State). IsRowOf classes entries r.transitions (start_in starts i)) (sym (state_at-set_other states sid i state (λ e. there (e ∙ sym same)))) (has.rows i (omega arith)))
-        ];
-  }
-
   -- the state gets a row behind the others
   pub HasRows-added : (sid again start : ℕ) (new : List ℕ) → sid < length states → again ≡ sid → start ≡ length entries + 1 → start ≤ limit
       → IsRowAdded classes entries (state_at states sid).transitions new → HasRows states (set starts again start) classes new limit
@@ -135,28 +116,6 @@ module _ (states : List State) (starts : List ℕ) (classes : List Bool) (entrie
                   let other : start_in (set starts again start) i ≡ start_in starts i = get_or-set_other starts again i start 0 there in
                   subst (λ (n : ℕ). IsRowOf classes new (state_at states i).transitions n) (sym other)
                   (IsRowOf-kept classes entries new (state_at states i).transitions (start_in starts i) (omega arith) added.kept (has.rows i (omega arith)))
-            ];
-      }
-
-  -- the last state is taken away
-  pub HasRows-popped : (fewer : List State) (last : State) (place : ℕ) → states ≡ fewer ++ last ∷ [] → place + 1 ≡ length starts → HasRows fewer (take place starts) classes entries limit
-  HasRows-popped fewer last place is least =
-      let count = has.state_count in
-      let length_is : length states ≡ length fewer + 1 = ap length is ∙ length_push fewer last in
-      let short = length-take-le place starts (omega arith) in
-      record {
-        state_count = omega arith;
-        bounded = has.bounded;
-        rows = λ i some.
-            elim (cases_lt i place) [
-              | inl below ↦
-                  let start : start_in (take place starts) i ≡ start_in starts i = get_or-take place starts i 0 below in
-                  let state : state_at states i ≡ state_at fewer i = ap (λ (ss : List State). state_at ss i) is ∙ state_at-push_old fewer last i (omega arith) in
-                  subst (λ (n : ℕ). IsRowOf classes entries (state_at fewer i).transitions n) (sym start)
-                  (subst (λ (r : State). IsRowOf classes entries r.transitions (start_in starts i)) state (has.rows i (omega arith)))
-              | inr past ↦
-                  let none : start_in (take place starts) i ≡ 0 = get_or_past (take place starts) i 0 (omega arith) in
-                  absurd (omega arith)
             ];
       }
 

@@ -2,14 +2,9 @@
 use Rattle.std.proofs.Common.{◌≡◌, ℕ, ◌+◌, ◌<◌, ◌≢◌, List, [], ◌∷◌, ◌++◌, length, get_or, refl, sym, ap, subst, ◌∙◌, inl, inr, arith}
 use Rattle.std.proofs.Math.ListN.{set}
 use Rattle.std.proofs.lemmas.Bool.{cases_eq, cases_order}
-use Rattle.std.proofs.lemmas.List.{get_or_default, get_or_past, length_push, get_or-set_same, get_or-set_other, get_or_append_left, get_or_push}
+use Rattle.std.proofs.lemmas.List.{get_or_past, length_push, get_or-set_same, get_or-set_other, get_or_append_left, get_or_push}
 use Rattle.std.proofs.lemmas.List.Sums.{sum_by-set}
-use Rattle.aho_table.specs.Table.{State, new_state, state_at, with_transition, IsRising, AllRising, transitions_count, matches_count}
-use Rattle.aho_table.proofs.TransitionLists.{IsRising-with_transition}
-
--- the state that stands at the place
-pub state_at-read : (states : List State) (sid place : ℕ) (state : State) → place ≡ sid → place < length states → state ≡ get_or states place state → state_at states sid ≡ state
-state_at-read states sid place state e below is = rw (← e) (get_or_default states place (new_state 0) state below ∙ sym is)
+use Rattle.aho_table.specs.Table.{State, new_state, state_at, IsRising, AllRising, transitions_count, matches_count}
 
 pub transitions_count-set : (states : List State) (sid : ℕ) (state old : State) → sid < length states → old ≡ get_or states sid old
     → transitions_count (set states sid state) + length old.transitions ≡ transitions_count states + length state.transitions
@@ -20,15 +15,6 @@ pub matches_count-set : (states : List State) (sid : ℕ) (state old : State) �
     → matches_count (set states sid state) + length old.matches ≡ matches_count states + length state.matches
 matches_count-set states sid state old below is =
     omega (arith, sum_by-set (λ (r : State). length r.matches) states sid state old below, ap (λ (r : State). length r.matches) is)
-
--- a state's lists are shorter than the tables are
-pub transitions-within : (states : List State) (sid : ℕ) → sid < length states → length (state_at states sid).transitions < transitions_count states
-transitions-within states sid below =
-    omega (arith, transitions_count-set states sid (new_state 0) (state_at states sid) below (get_or_default states sid (new_state 0) (state_at states sid) below))
-
-pub matches-within : (states : List State) (sid : ℕ) → sid < length states → length (state_at states sid).matches < matches_count states
-matches-within states sid below =
-    omega (arith, matches_count-set states sid (new_state 0) (state_at states sid) below (get_or_default states sid (new_state 0) (state_at states sid) below))
 
 -- ---- the states after one was changed or added
 
@@ -54,24 +40,6 @@ pub state_at-push_new : (table : List State) (state : State) → state_at (table
 state_at-push_new table state = get_or_push table state (new_state 0) (length table) refl
 
 -- ---- the lists still rise
-
-pub AllRising-set : (states : List State) (sid : ℕ) (state : State) → sid < length states → IsRising state.transitions → AllRising states → AllRising (set states sid state)
-AllRising-set states sid state below rises rising i =
-    elim (cases_eq i sid) [
-      | inl here ↦ subst (λ (n : ℕ). IsRising (state_at (set states sid state) n).transitions) (sym here) (subst (λ (r : State). IsRising r.transitions) (sym (state_at-set_same states sid state below)) rises)
-      | inr there ↦ subst (λ (r : State). IsRising r.transitions) (sym (state_at-set_other states sid i state there)) (rising i)
-    ]
-
--- what stands at a place is a state whose list rises
-IsRising-read : (states : List State) (sid : ℕ) (state : State) → sid < length states → state ≡ get_or states sid state → AllRising states → IsRising state.transitions
-IsRising-read states sid state below is rising = subst (λ (r : State). IsRising r.transitions) (state_at-read states sid sid state refl below is) (rising sid)
-
--- a byte of one state leads elsewhere
-pub AllRising-led : (states : List State) (sid byte next : ℕ) (state old : State) → sid < length states → old ≡ get_or states sid old
-    → state ≡ record old { transitions = with_transition old.transitions byte next } → AllRising states → AllRising (set states sid state)
-AllRising-led states sid byte next state old below is led rising =
-    AllRising-set states sid state below
-    (subst (λ (r : State). IsRising r.transitions) (sym led) (IsRising-with_transition old.transitions byte next (IsRising-read states sid old below is rising))) rising
 
 -- one state more lists nothing
 pub AllRising-push : (states : List State) (depth : ℕ) → AllRising states → AllRising (states ++ new_state depth ∷ [])

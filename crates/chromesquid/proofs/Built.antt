@@ -25,8 +25,7 @@ use Rattle.aho_levels.specs.declared.levels.Levels.{Levels as LevelsOf}
 use Rattle.aho_backward.specs.declared.backward.Backward.{Backward}
 use Rattle.chromesquid.specs.Backward.{IsHeldFor}
 use Rattle.chromesquid.specs.Engine.{kind_in, laws_by}
-use Rattle.chromesquid.specs.Searcher.{Answers, IsBuiltFrom, IsBuiltFromSome, RefusesSearch, Searcher, StandsFor, allows, kind_for, lengths_of, match_kind_of, patterns_len_of, why_refused, start_by}
-use Rattle.chromesquid.specs.contracts.automaton.AhoCorasickAutomaton.TheImpl.{ghosts as of_searcher}
+use Rattle.chromesquid.specs.Searcher.{Answers, IsBuiltFrom, RefusesSearch, Searcher, allows, kind_for, lengths_of, match_kind_of, patterns_len_of, why_refused, start_by}
 use Rattle.chromesquid.specs.contracts.engine.EngineAutomaton.TheImpl.{ghosts}
 use Rattle.chromesquid.specs.declared.engine.Engine.{Engine}
 use Rattle.chromesquid.specs.declared.engine.Engine.TheVariants.{Levels, Noncontiguous, Rows}
@@ -202,23 +201,3 @@ pub furthest_earliest : (kind : MatchKind) (lengths : List ℕ) (m : Occurrence)
 furthest_earliest Standard lengths m = refl
 furthest_earliest LeftmostFirst lengths m = refl
 furthest_earliest LeftmostLongest lengths m = refl
-
--- rows that a searcher holds answer as it does
-pub rows_stand : (hybrid : HybridOf) (searcher : Searcher) → IsBuiltFromSome searcher → Answers searcher No → searcher.automaton ≡ Rows hybrid → StandsFor of_rows hybrid searcher
-rows_stand hybrid searcher some answers held = record {
-  some = some;
-  of = λ p built. subst (λ (e : Engine). ghosts.is_of e p) held built.reads;
-  kind = ap ghosts.kind (sym held);
-  lengths = ap ghosts.lengths (sym held);
-  start = ap (λ (e : Engine). ghosts.start e No) (sym held) ∙ sym (ap (λ (b : Bool). if b then ghosts.start searcher.automaton No else Err (why_refused No)) answers);
-}
-
--- and so does the searcher itself
-pub stands_itself : (searcher : Searcher) → IsBuiltFromSome searcher → StandsFor of_searcher searcher searcher
-stands_itself searcher some = record {
-  some = some;
-  of = λ p built. built;
-  kind = refl;
-  lengths = refl;
-  start = refl;
-}

@@ -5,8 +5,7 @@ use Rattle.aho_backward.specs.declared.backward.Backward.{Backward}
 use Rattle.aho_corasick.specs.declared.noncontiguous.NFA.{NFA}
 use Rattle.aho_hybrid.specs.contracts.hybrid.HybridAutomaton.TheImpl.{ghosts as of_rows}
 use Rattle.aho_hybrid.specs.declared.hybrid.Hybrid.{Hybrid as HybridOf}
-use Rattle.aho_stream.specs.After.{IsAfter, IsUnderWay, StaysAfter}
-use Rattle.aho_stream.specs.Pushing.{IsSearched}
+use Rattle.aho_stream.specs.After.{IsAfter, StaysAfter}
 use Rattle.aho_stream.specs.declared.progress.StreamProgress.{StreamProgress}
 use Rattle.chromesquid.specs.Searcher.{IsBuiltFrom, Searcher}
 use Rattle.chromesquid.specs.contracts.automaton.AhoCorasickAutomaton.TheImpl.{ghosts as of_searcher}
@@ -89,9 +88,6 @@ module _ (hybrid : HybridOf) (kind : StartKind) (back : Option (Backward NFA)) w
       stopped = a.stopped;
     }
 
-  searched_by_rows : (s : StreamProgress) → IsSearched of_rows hybrid s → IsSearched of_searcher owner s
-  searched_by_rows s a = record { walked = a.walked; unsettled = a.unsettled; near = a.near }
-
 -- ---- of a searcher that holds these rows
 
 module _ (hybrid : HybridOf) (searcher : Searcher) (held : searcher.automaton ≡ Rows hybrid) where
@@ -107,11 +103,5 @@ module _ (hybrid : HybridOf) (searcher : Searcher) (held : searcher.automaton �
   pub after_searcher : (p : Patterns) (lookups : ℕ) (s : StreamProgress) (given : List ℕ) → IsAfter of_rows hybrid p lookups s given → IsAfter of_searcher searcher p lookups s given
   after_searcher p lookups s given a = subst (λ (x : Searcher). IsAfter of_searcher x p lookups s given) (sym is_owner) (from_rows hybrid searcher.start_kind searcher.backward p lookups s given a)
 
-  pub rows_under_way : (lookups : ℕ) (s : StreamProgress) → IsUnderWay of_searcher searcher lookups s → IsUnderWay of_rows hybrid lookups s
-  rows_under_way lookups s way = (way.0, way.1, rows_are_of way.0 way.2, after_rows way.0 lookups s way.1 way.3)
-
   pub rows_stay : (lookups : ℕ) (s : StreamProgress) (lookups' : ℕ) (s' : StreamProgress) → StaysAfter of_rows hybrid lookups s lookups' s' → StaysAfter of_searcher searcher lookups s lookups' s'
   rows_stay lookups s lookups' s' stays = λ p given built a. after_searcher p lookups' s' given (stays p given (rows_are_of p built) (after_rows p lookups s given a))
-
-  pub rows_searched : (s : StreamProgress) → IsSearched of_rows hybrid s → IsSearched of_searcher searcher s
-  rows_searched s a = subst (λ (x : Searcher). IsSearched of_searcher x s) (sym is_owner) (searched_by_rows hybrid searcher.start_kind searcher.backward s a)

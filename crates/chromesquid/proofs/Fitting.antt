@@ -1,5 +1,5 @@
 -- Where the sizes of the patterns are small enough, the limits refuse nothing.
-use Rattle.std.proofs.Common.{add-mul, mul-le-mul_right, mul_comm, ◌≡◌, ◌⊎◌, ℕ, zero, suc, min, ◌+◌, ◌*◌, ◌-◌, ◌<◌, ◌≤◌, Bool, true, false, not, ◌&&◌, cond, nat_eq, nat_lt, nat_le, All, List, [], ◌∷◌, ◌++◌, map, length, take, get_or, find, filter, count_by, sum_by, Option, Some, None, refl, sym, ap, subst, ◌∙◌, inl, inr, arith}
+use Rattle.std.proofs.Common.{add-mul, mul-le-mul_right, mul_comm, ◌≡◌, ◌⊎◌, ℕ, zero, suc, min, ◌+◌, ◌*◌, ◌-◌, ◌<◌, ◌≤◌, Bool, true, false, not, ◌&&◌, cond, nat_eq, nat_lt, nat_le, List, [], ◌∷◌, ◌++◌, map, length, take, get_or, find, filter, count_by, sum_by, Some, None, refl, sym, ap, subst, ◌∙◌, inl, inr, arith}
 use Rattle.std.specs.List.{flat_map, list_any, range_with_len}
 use Rattle.std.proofs.lemmas.Bool.{and_parts, cases_Bool, eqb-true, le-ltb, ltb-false, not-true}
 use Rattle.std.proofs.lemmas.List.{length-append, length-map, length-take-le}
@@ -12,10 +12,10 @@ use Rattle.aho_core.specs.Bytes.{folded}
 use Rattle.aho_core.specs.Listing.{IsMember}
 use Rattle.aho_core.specs.MatchList.{matches_of}
 use Rattle.aho_core.specs.Patterns.{Patterns, numbers, pattern_at}
-use Rattle.aho_core.specs.Trie.{begins, is_kept, is_node, pattern_word}
+use Rattle.aho_core.specs.Trie.{begins, is_kept, pattern_word}
 use Rattle.aho_laws.proofs.Kept.{is_node-root}
 use Rattle.aho_build.specs.Dense.{classes_size, is_near, is_parted_among, rows_size}
-use Rattle.aho_build.specs.Refusals.{Growth, IsAccepted, PatternLength, PatternNumber, TableIndex, cause, entries_from, first_growth, growth_for, growth_for_kept, is_refused, own_size, start_size, trie_growth}
+use Rattle.aho_build.specs.Refusals.{IsAccepted, PatternLength, PatternNumber, cause, entries_from, first_growth, growth_for, growth_for_kept, is_refused}
 use Rattle.aho_build.specs.Settings.{in_force}
 use Rattle.aho_build.specs.Sizes.{bytes_leading_to, kept_before, matches_size, new_nodes, nodes, nodes_before, transitions_for}
 use Rattle.aho_build.specs.declared.settings.Limits.{Limits}

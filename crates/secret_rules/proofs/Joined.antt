@@ -322,10 +322,6 @@ WereJoined-runs found runs None were =
     subst (AreRunsOf (IsMember found)) (sym were.1) (AreRunsOf-none (IsMember found) (λ x there. subst (λ (xs : List Occurrence). IsMember xs x) were.0 there))
 WereJoined-runs found runs (Some hand) were = AreRunsOf-joined (IsMember found) runs hand were
 
--- a run in hand is not empty
-pub hand-ordered : (found runs : List Occurrence) (hand : Open) → WereJoined found runs (Some hand) → hand.longest.start < hand.end
-hand-ordered found runs hand were = were.some
-
 -- the runs of the same members are the same
 pub AreRunsOf-same : (One Other : Occurrence → Type 0) (runs : List Occurrence) → ((x : Occurrence) → One x → Other x) → ((x : Occurrence) → Other x → One x) → AreRunsOf One runs → AreRunsOf Other runs
 AreRunsOf-same One Other runs to back are = record {

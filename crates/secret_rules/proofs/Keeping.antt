@@ -1,5 +1,5 @@
 -- The bytes of a line as they are read for a visitor.
-use Rattle.std.proofs.Common.{◌≡◌, ℕ, ◌+◌, ◌<◌, ◌≤◌, List, [], ◌++◌, length, sym, ◌∙◌, ap, subst, arith, length-append}
+use Rattle.std.proofs.Common.{◌≡◌, ℕ, ◌+◌, ◌<◌, ◌≤◌, List, [], ◌++◌, length, sym, ◌∙◌, subst, arith, length-append}
 use Rattle.secret_rules.specs.Marking.{HasMarked}
 use Rattle.secret_rules.specs.SeenLines.{HasKept, HoldsBehind}
 use Rattle.secret_rules.specs.declared.marker.Marker.{Marker}
@@ -8,17 +8,6 @@ use Rattle.secret_rules.specs.declared.open_line.OpenLine.{OpenLine}
 module _ {A : Type 0} (line line' : OpenLine A) (count count' : ℕ) (read bytes : List ℕ) (has : HasKept line count read) (same : line'.setting.most ≡ line.setting.most) (grown : count' ≡ count + length bytes) where
   counted-more : count' ≡ length (read ++ bytes)
   counted-more = omega (arith, grown, has.counted, length-append read bytes)
-
-  -- they are too many now
-  pub kept-over : line'.setting.most < count' → HasKept line' count' (read ++ bytes)
-  kept-over over = record { counted = counted-more; kept = λ within. absurd (omega (arith, within, over)) }
-
-  -- or all are kept
-  pub kept-more : count' ≤ line'.setting.most → line'.line.items ≡ line.line.items ++ bytes → HasKept line' count' (read ++ bytes)
-  kept-more within items = record {
-    counted = counted-more;
-    kept = λ few. items ∙ ap (λ (xs : List ℕ). xs ++ bytes) (has.kept (omega (arith, within, same, grown)));
-  }
 
 -- more bytes of the same line were read
 pub stands-grown : {A : Type 0} (line line' : OpenLine A) (count count' : ℕ) (before : List (List ℕ)) (read bytes : List ℕ) → HoldsBehind line count before read → line'.marker ≡ line.marker

@@ -1,5 +1,5 @@
 -- The lines of a text, as they come, with their runs.
-use Rattle.std.proofs.Common.{◌≡◌, inl, inr, ℕ, zero, suc, ◌+◌, ◌<◌, ◌≤◌, Bool, true, false, List, [], ◌∷◌, ◌++◌, length, map, refl, sym, ◌∙◌, ap, subst, arith, append_assoc}
+use Rattle.std.proofs.Common.{◌≡◌, inl, inr, ℕ, suc, ◌+◌, ◌<◌, ◌≤◌, List, [], ◌∷◌, ◌++◌, length, map, refl, sym, ◌∙◌, ap, subst, arith, append_assoc}
 use Rattle.std.specs.Prelude.{◌==◌}
 use Rattle.std.proofs.lemmas.Bool.{cases_Bool, cond-true, cond-false}
 use Rattle.std.proofs.lemmas.List.{append-nil}
@@ -27,13 +27,6 @@ lines-part read (byte ∷ part) more none =
           ∙ ap (λ (xs : List ℕ). lines_from xs more) (append_assoc read (byte ∷ []) part)
     ]
 
--- and a line end ends it
-pub lines-end : (read more : List ℕ) → lines_from read (10 ∷ more) ≡ ended_line read ∷ lines_from [] more
-lines-end read more = refl
-
-pub lines-last : (read : List ℕ) → lines_from read [] ≡ last_line read ∷ []
-lines-last read = refl
-
 -- there always is a next line
 pub lines-some : (read more : List ℕ) → (next : Line) × (later : List Line) × (lines_from read more ≡ next ∷ later)
 lines-some read [] = (last_line read, [], refl)
@@ -60,13 +53,6 @@ lines_cover-append rule (line ∷ lines) later (own ∷ runs) more same =
     ∙ sym (append_assoc (line_cover rule line own) (lines_cover rule lines runs) (lines_cover rule later more))
 
 module _ (covering : Covering) where
-  -- each line has its runs
-  pub runs-as_many : (before : List (List ℕ)) (lines : List Line) (runs : List (List Occurrence)) → AreLineRuns covering before lines runs → length runs ≡ length lines
-  runs-as_many before [] [] are = refl
-  runs-as_many before [] (own ∷ runs) are = absurd are
-  runs-as_many before (line ∷ lines) [] are = absurd are
-  runs-as_many before (line ∷ lines) (own ∷ runs) are = omega (arith, runs-as_many (before ++ seen_line covering.most line.bytes ∷ []) lines runs are.1)
-
   seen-next : (before : List (List ℕ)) (line : Line) (lines : List Line)
       → (before ++ seen_line covering.most line.bytes ∷ []) ++ seen_lines covering.most lines ≡ before ++ seen_lines covering.most (line ∷ lines)
   seen-next before line lines = append_assoc before (seen_line covering.most line.bytes ∷ []) (seen_lines covering.most lines)

@@ -1,5 +1,5 @@
 -- What rules mark of a line lies in it.
-use Rattle.std.proofs.Common.{◌≡◌, ◌∙◌, ℕ, zero, suc, ◌+◌, ◌-◌, ◌≤◌, Bool, true, false, All, List, [], ◌∷◌, None, Option, Some, String, Global, length, refl, sym, ap, inl, inr, arith}
+use Rattle.std.proofs.Common.{◌≡◌, ◌∙◌, ℕ, zero, suc, ◌+◌, ◌-◌, ◌≤◌, Bool, false, All, List, [], ◌∷◌, None, Option, Some, String, Global, length, refl, sym, ap, inl, inr, arith}
 use Rattle.std.specs.Prelude.{◌==◌, IfSome, nat_lt, option_and_then, unwrap_or}
 use Rattle.std.specs.List.{range_with_len}
 use Rattle.std.specs.Option.{option_or}

@@ -1,5 +1,5 @@
 -- Walks over the matches of a line: what is made of those that are left.
-use Rattle.std.proofs.Common.{◌≡◌, ◌⊎◌, ◌↔◌, ℕ, ◌+◌, List, [], ◌∷◌, ◌++◌, Option, Some, true, false, map, sym, ap, ◌∙◌, refl, append_assoc, subst, inl, inr}
+use Rattle.std.proofs.Common.{◌≡◌, ◌⊎◌, ◌↔◌, ℕ, ◌+◌, List, [], ◌∷◌, ◌++◌, Some, true, false, map, sym, ap, ◌∙◌, append_assoc, subst, inl, inr}
 use Rattle.std.proofs.lemmas.Bool.{false≢true}
 use Rattle.regex.specs.Patterns.{Match, Re, find_all, span}
 use Rattle.regex.specs.Search.{matches_after, next_match}

@@ -1,5 +1,5 @@
 -- Some occurrences that stand for all that count.
-use Rattle.std.proofs.Common.{◌≡◌, inl, inr, ℕ, zero, suc, ◌+◌, ◌<◌, ◌≤◌, Bool, true, false, List, [], ◌∷◌, ◌++◌, length, refl, sym, ◌∙◌, ap, subst, arith}
+use Rattle.std.proofs.Common.{◌≡◌, inl, inr, ℕ, ◌+◌, ◌<◌, ◌≤◌, Bool, true, false, List, [], ◌∷◌, ◌++◌, length, refl, sym, ◌∙◌, ap, subst, arith}
 use Rattle.std.specs.Prelude.{◌⊎◌, ◌-◌}
 use Rattle.std.proofs.lemmas.Bool.{and_parts, and_from, cases_lt}
 use Rattle.aho_core.specs.declared.search.MatchKind.TheVariants.{LeftmostLongest, Standard}
@@ -40,10 +40,6 @@ listed-before {X = X} Before (y ∷ xs) last x listed there =
       | inl e ↦ subst (λ (z : X). Before z last) (sym e) (listed.0 last (member-right xs (last ∷ []) last (inl refl)))
       | inr later ↦ listed-before Before xs last x listed.1 later
     ]
-
--- before any came
-pub Picks-none : (words : Bool) (line : List ℕ) → Picks words line [] []
-Picks-none words line = record { only = λ x there. absurd there; has = λ listed x there counts. absurd there }
 
 -- one more came
 pub Picks-more : (words : Bool) (line : List ℕ) (items found found' : List Occurrence) (m : Occurrence) → Picks words line items found → PicksOne words line m found found' → Picks words line (items ++ m ∷ []) found'

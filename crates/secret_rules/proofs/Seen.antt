@@ -10,9 +10,7 @@ use Rattle.secret_rules.specs.Lines.{Line, line_with}
 use Rattle.secret_rules.specs.Marking.{HasMarked}
 use Rattle.secret_rules.specs.OpenLines.{AreRunsBy, IsSetting, line_rules}
 use Rattle.secret_rules.specs.SeenLines.{MissesLine, SeesLine, SeesOpen, HoldsBehind, TakesLine}
-use Rattle.secret_rules.specs.Visitors.{CanBeVisited}
 use Rattle.secret_rules.specs.Visits.{IsUnvisited}
-use Rattle.secret_rules.specs.Writing.{LieFrom}
 use Rattle.secret_rules.specs.declared.error.LineError.{LineError}
 use Rattle.secret_rules.specs.declared.error.LineError.TheVariants.{Stream}
 use Rattle.secret_rules.specs.declared.open_line.OpenLine.{OpenLine}
@@ -104,12 +102,3 @@ misses-unseen G setting rules L visitor before line error unvisited = record {
   stops = inl (refl, unvisited);
   first = (line ∷ [], refl);
 }
-
--- it can be visited where it was found that it can
-pub visited-told : (items items' : List ℕ) (own own' : List Occurrence) → items' ≡ items → own' ≡ own → CanBeVisited items own → CanBeVisited items' own'
-visited-told items items' own own' same_items same_runs can =
-    subst (λ (xs : List ℕ). CanBeVisited xs own') (sym same_items) (subst (CanBeVisited items) (sym same_runs) can)
-
--- where runs lie in it, and where it has no bytes
-pub visited-short : (items items' : List ℕ) (own : List Occurrence) → items' ≡ items → LieFrom items 0 own → CanBeVisited items' own
-visited-short items items' own same lie = inl (subst (λ (xs : List ℕ). LieFrom xs 0 own) (sym same) lie)

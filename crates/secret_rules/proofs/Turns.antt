@@ -3,16 +3,12 @@ use Rattle.std.proofs.Common.{◌≡◌, ◌≢◌, ◌∙◌, ◌⊎◌, ◌↔
 use Rattle.std.proofs.lemmas.Bool.{cases_eq, false≢true}
 use Rattle.std.proofs.lemmas.Option.{same_Some, slice_get-get_or, slice_get_within}
 use Rattle.aho_core.specs.Listing.{IsMember}
-use Rattle.secret_rules.specs.Faults.{IsMarkFailure}
 use Rattle.secret_rules.specs.Markers.{AddsMarks, AreFlagsBehind, AreMarksWith, IsMarkWith, NoneApplies, NoneIsSet, flag_at}
-use Rattle.secret_rules.specs.Marking.{IsLineFailure}
 use Rattle.secret_rules.specs.MarkLists.{HasOneOpen}
 use Rattle.secret_rules.specs.Marks.{AreAllMarks, GoesOnAfter, IsRuleAt, MarksOnward, MarksRange, MarksSecret, StaysOpen}
 use Rattle.secret_rules.specs.Rules.{AppliesTo, regex_of, until_of}
 use Rattle.secret_rules.specs.Secrets.{match_ranges}
 use Rattle.secret_rules.specs.Standing.{StandsInLine}
-use Rattle.secret_rules.specs.declared.error.MarkError.{MarkError}
-use Rattle.secret_rules.specs.declared.error.MarkError.TheVariants.{OutOfMemory, TooBig}
 use Rattle.secret_rules.specs.declared.marks.Mark.{Mark}
 use Rattle.secret_rules.specs.declared.rule.Rule.{Rule}
 use Rattle.secret_rules.proofs.Onward.{GoesOnAfter-next, StaysOpen-of_next}
@@ -55,11 +51,6 @@ behind-told rule line text goes_on applies still begun behind of tells first sec
       (λ does. subst Of of (elim (is.0 does) [ inl on ↦ inl (first.0 on) | inr new ↦ inr (tells.0 (second.0 new).0, (second.0 new).1) ])),
       (λ stays. is.1 (elim (subst Of (sym of) stays) [ inl on ↦ inl (first.1 on) | inr new ↦ inr (second.1 (tells.1 new.0, new.1)) ])),
     )
-
--- a rule's failure is one of the line
-pub line_failure : (rules : List Rule) (number : ℕ) (error : MarkError) → number < length rules → IsMarkFailure number error → IsLineFailure rules error
-line_failure rules number (TooBig told) within is = subst (λ (n : ℕ). n < length rules) (sym is) within
-line_failure rules number OutOfMemory within is = tt
 
 -- marks do not depend on how it is said whether a match goes on
 MarksRange-same : (rule : Rule) (A B : Type 0) (line : List ℕ) (range : ℕ × ℕ) → (IsSome rule.until → A → B) → MarksRange rule A line range → MarksRange rule B line range
@@ -108,13 +99,6 @@ pub record AreTurnsDone (rules : List Rule) (line : List ℕ) (old new : List Bo
   pub marked : (mark : Mark) → IsMember marks mark ↔ ((mark.rule < number) × IsMarkWith rules old line mark)
 
 module _ (rules : List Rule) (line : List ℕ) (old : List Bool) where
-  pub turns-first : AreTurnsDone rules line old old 0 []
-  turns-first = record {
-    done = λ k rule low at some. absurd (omega (arith, low));
-    left = λ k low. refl;
-    marked = λ mark. ((λ is. absurd is), (λ h. absurd (omega (arith, h.0))));
-  }
-
   pub turns-next : (new new' : List Bool) (number : ℕ) (marks marks' : List Mark) (rule : Rule) → IsRuleAt rules number rule → AreTurnsDone rules line old new number marks
       → AddsMarks marks marks' number (MarksRange rule (IsTrue (flag_at new number)) line)
       → (IsSome rule.until → IsTrue (flag_at new' number) ↔ StaysOpen rule (IsTrue (flag_at new number)) line)

@@ -1,8 +1,8 @@
 -- What was written of a line.
-use Rattle.std.proofs.Common.{◌≡◌, ◌≤◌, ◌+◌, ◌∷◌, ◌++◌, [], List, ℕ, drop, length, refl, sym, ◌∙◌, ap, append_assoc, length-append, subst, arith}
+use Rattle.std.proofs.Common.{◌≡◌, ◌≤◌, ◌+◌, ◌∷◌, ◌++◌, [], List, ℕ, drop, length, sym, ◌∙◌, ap, append_assoc, length-append, subst, arith}
 use Rattle.std.specs.Prelude.{Option, slice_range}
 use Rattle.std.specs.Io.KnownBytes.{Appends}
-use Rattle.std.proofs.KnownBytes.{Appends-nil, Appends-trans}
+use Rattle.std.proofs.KnownBytes.{Appends-trans}
 use Rattle.std.proofs.lemmas.List.{take-append-le}
 use Rattle.aho_core.specs.Occurrence.{Occurrence}
 use Rattle.aho_core.specs.Replacement.{replaced_by, replaced_from}
@@ -23,9 +23,6 @@ begins-more old new bytes more (count, within, appends) = (
   omega (arith, within, length-append bytes more),
   subst (Appends old new) (sym (take-append-le count bytes more within)) appends,
 )
-
-pub written-none : (old : Option (List ℕ)) (line : List ℕ) (piece : Occurrence → List ℕ) (runs : List Occurrence) → HasWritten old old line piece runs 0 runs
-written-none old line piece runs = record { bytes = []; appends = Appends-nil old; rest = refl }
 
 module _ (a b c : Option (List ℕ)) (line : List ℕ) (piece : Occurrence → List ℕ) (runs : List Occurrence) (at : ℕ) where
   module _ (run : Occurrence) (left : List Occurrence) (written : HasWritten a b line piece runs at (run ∷ left)) where
@@ -56,9 +53,6 @@ module _ (a b c : Option (List ℕ)) (line : List ℕ) (piece : Occurrence → L
     rest-here = sym (append_assoc written.bytes (drop at line) end) ∙ ap (λ (xs : List ℕ). xs ++ end) written.rest
 
     -- what stands behind the last run, and the end of the line
-    pub written-all : Appends b c (drop at line ++ end) → Appends a c (replaced_by line runs piece ++ end)
-    written-all more = subst (Appends a c) rest-here (Appends-trans a b c written.bytes (drop at line ++ end) written.appends more)
-
     pub written-end : AppendsBeginning b c (drop at line ++ end) → AppendsBeginning a c (replaced_by line runs piece ++ end)
     written-end part = subst (AppendsBeginning a c) rest-here (appends_then a b c written.bytes (drop at line ++ end) written.appends part)
 

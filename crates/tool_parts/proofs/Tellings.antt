@@ -17,7 +17,7 @@ use Rattle.aho_devices.specs.Refusals.{IsWriteRefusal, is_write_fault, is_write_
 use Rattle.aho_devices.specs.declared.device.Sink.{Ghosts as SinkGhosts}
 use Rattle.tool_parts.specs.Telling.{NoneFailed, OneFailed, TellsBytes, TakesBytes}
 use Rattle.tool_parts.specs.declared.errors.Errors.{Errors}
-use Rattle.tool_parts.proofs.Beginnings.{beginning-later, beginning-more, beginning-whole}
+use Rattle.tool_parts.proofs.Beginnings.{beginning-later, beginning-more}
 
 -- nothing is a beginning
 beginning-nothing : (known : Option (List ℕ)) (bs : List ℕ) → AppendsBeginning known known bs
@@ -47,14 +47,6 @@ module _ {E : Type 0} (K : SinkGhosts E) where
     pub written : Appends (K.taken old) (K.taken new) (concat first)
     pub none_failed : NoneFailed K old new
 
-  pub first-none : (old : E) (parts : List (List ℕ)) → WritesFirst old old parts parts
-  first-none old parts = record {
-    first = [];
-    cut = refl;
-    written = Appends-nil (K.taken old);
-    none_failed = record { failures = refl; empty_writes = refl };
-  }
-
   -- a further one is
   pub first-more : (old mid new : E) (parts : List (List ℕ)) (part : List ℕ) (rest : List (List ℕ)) → WritesFirst old mid parts (part ∷ rest)
       → Appends (K.taken mid) (K.taken new) part → K.failures new ≡ K.failures mid → K.empty_writes new ≡ K.empty_writes mid → WritesFirst old new parts rest
@@ -68,19 +60,6 @@ module _ {E : Type 0} (K : SinkGhosts E) where
       empty_writes = empty_writes ∙ so_far.none_failed.empty_writes;
     };
   }
-
-  -- all are
-  pub first-all : (old new : E) (parts : List (List ℕ)) → WritesFirst old new parts [] → TakesBytes K old new (concat parts) (Ok tt)
-  first-all old new parts so_far =
-      let all : Appends (K.taken old) (K.taken new) (concat parts) =
-      subst (λ l. Appends (K.taken old) (K.taken new) (concat l)) (sym (so_far.cut ∙ append-nil so_far.first)) so_far.written in
-      record {
-        whole = all;
-        begun = beginning-whole (K.taken old) (K.taken new) (concat parts) all;
-        none_failed = so_far.none_failed;
-        one_failed = tt;
-        only = tt;
-      }
 
   -- the write of a further one fails
   pub first-fails : (old mid new : E) (parts : List (List ℕ)) (part : List ℕ) (rest : List (List ℕ)) (error : StreamError) → WritesFirst old mid parts (part ∷ rest)
@@ -109,37 +88,6 @@ module _ {E : Type 0} (K : SinkGhosts E) where
     ended = λ was. refl;
   }
 
-  -- where a write failed before nothing more is written
-  pub tells-ended : (e : Errors E) (bytes : List ℕ) → e.failed ≡ true → TellsBytes K e e bytes
-  tells-ended e bytes failed = record {
-    begun = beginning-nothing (K.taken e.sink) bytes;
-    whole = λ going. let clash : true ≡ false = sym failed ∙ going in absurd (cc);
-    none_failed = λ going. record { failures = refl; empty_writes = refl };
-    one_failed = λ one going. let clash : true ≡ false = sym failed ∙ going in absurd (cc);
-    ended = λ was. refl;
-  }
-
-  -- all is written
-  pub tells-whole : (old : Errors E) (sink : E) (bytes : List ℕ) → old.failed ≡ false → TakesBytes K old.sink sink bytes (Ok tt) → TellsBytes K old (record old { sink = sink }) bytes
-  tells-whole old sink bytes going written = record {
-    begun = written.begun;
-    whole = λ is. written.whole;
-    none_failed = λ is. written.none_failed;
-    one_failed = λ one is. let clash : true ≡ false = sym one ∙ going in absurd (cc);
-    ended = λ was. let clash : true ≡ false = sym was ∙ going in absurd (cc);
-  }
-
-  -- or a beginning
-  pub tells-begun : (old : Errors E) (sink : E) (bytes : List ℕ) (error : StreamError) → old.failed ≡ false → TakesBytes K old.sink sink bytes (Err error)
-      → TellsBytes K old (record old { sink = sink; failed = true }) bytes
-  tells-begun old sink bytes error going written = record {
-    begun = written.begun;
-    whole = λ is. let clash : true ≡ false = is in absurd (cc);
-    none_failed = λ is. let clash : true ≡ false = is in absurd (cc);
-    one_failed = λ one is. written.one_failed;
-    ended = λ was. let clash : true ≡ false = sym was ∙ going in absurd (cc);
-  }
-
   -- one part, and then another
   tells-parts : (old mid new : Errors E) (bs cs : List ℕ) (failed : Bool) → mid.failed ≡ failed → TellsBytes K old mid bs → TellsBytes K mid new cs → TellsBytes K old new (bs ++ cs)
   tells-parts old mid new bs cs true is first later =
@@ -164,10 +112,6 @@ module _ {E : Type 0} (K : SinkGhosts E) where
 
   pub tells-later : {old mid new : Errors E} {bs cs : List ℕ} → TellsBytes K old mid bs → TellsBytes K mid new cs → TellsBytes K old new (bs ++ cs)
   tells-later {old} {mid} {new} {bs} {cs} first later = tells-parts old mid new bs cs mid.failed refl first later
-
--- a count that rose is another one
-pub count-rose : (n : ℕ) → counted true n ≡ n → ⊥
-count-rose n same = omega (arith, same)
 
 -- the first of some parts, and those behind it
 pub parts-cut : (parts : List (Bor (List ℕ))) (d : Bor (List ℕ)) → 0 < length parts → pieces_of parts ≡ (get_or parts 0 d).now ∷ pieces_of (take (length parts - 1) (drop 1 parts))

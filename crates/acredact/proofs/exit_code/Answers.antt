@@ -1,10 +1,9 @@
 -- The status is that of the call, but for what was told of names.
-use Rattle.std.proofs.Common.{◌≡◌, ℕ, List, IfOk, true, sym, subst, ◌∙◌}
+use Rattle.std.proofs.Common.{◌≡◌, ℕ, List, IfOk, sym, subst, ◌∙◌}
 use Rattle.std.specs.Prelude.{Some}
 use Rattle.std.specs.Process.{exit_status}
 use Rattle.tool_parts.specs.Arguments.{texts}
-use Rattle.acredact.specs.Arguments.{AreMistaken, AsksForRules, AsksForRulesCheck, AsksToCheck, AsksToRedact, Given, IfAsked, IfNoCheck, IsCheck, RefusesUnclean, all_asked}
-use Rattle.acredact.specs.Calls.{LeavesNoneAsked}
+use Rattle.acredact.specs.Arguments.{AsksForRules, AsksForRulesCheck, AsksToCheck, AsksToRedact, Given, all_asked}
 use Rattle.acredact.proofs.SetApart.{behind_one, behind_two, behind_zero}
 use Rattle.acredact.proofs.exit_code.Goals.{After-drop-apart-in-Ok}
 use Rattle.acredact.proofs.exit_code.Given.{Over}
@@ -22,26 +21,23 @@ by_call : (g : Over) (c : After-drop-apart-in-Ok g) (Asks Done : List Given → 
     → ((given : List Given) → all_asked (texts c.as_slice.result.now) ≡ Some given → Asks given → c.run-status.result ≡ n → Done given)
     → IfOk c.args.given (λ apart. (given : List Given) → all_asked (texts apart.arguments.items) ≡ Some given → Asks given → exit_status c.from.result ≡ n → Done given)
 by_call g c Asks Done n same holds =
-    subst (λ all. IfOk all (λ apart. (given : List Given) → all_asked (texts apart.arguments.items) ≡ Some given → Asks given → exit_status c.from.result ≡ n → Done given)) (sym c.in-Ok.is)
+    rw c.in-Ok.is
     (λ given is asks ended. holds given (subst (λ l. all_asked (texts l) ≡ Some given) (sym c.as_slice.ensures.value) is) asks (same ended))
 
 pub returns-in-Ok-clause-flushed : goal.returns-in-Ok-clause-flushed
 returns-in-Ok-clause-flushed g c =
-    subst (λ given. IfOk given (λ apart. IfNoCheck apart.arguments.items (exit_status c.from.result ≡ 0 → c.run-status.new.streams.output.device.flushed ≡ true))) (sym c.in-Ok.is)
-    (λ unchecked zero. subst (λ l. IfNoCheck l (c.run-status.result ≡ 0 → c.run-status.new.streams.output.device.flushed ≡ true)) c.as_slice.ensures.value c.run-status.ensures.flushed unchecked (ended_zero g c zero))
+    rw c.in-Ok.is
+    (λ unchecked zero. (rw c.as_slice.ensures.value at c.run-status.ensures.flushed) unchecked (ended_zero g c zero))
 
 pub returns-in-Ok-clause-wrong : goal.returns-in-Ok-clause-wrong
 returns-in-Ok-clause-wrong g c =
-    subst (λ given. IfOk given (λ apart. AreMistaken apart.arguments.items → exit_status c.from.result ≡ 2)) (sym c.in-Ok.is)
-    (λ mistaken. c.from.ensures ∙ (c.status_behind.ensures.status ∙ behind_two c.args.told c.run-status.result (subst (λ l. AreMistaken l → c.run-status.result ≡ 2) c.as_slice.ensures.value c.run-status.ensures.wrong mistaken)))
+    rw c.in-Ok.is
+    (λ mistaken. c.from.ensures ∙ (c.status_behind.ensures.status ∙ behind_two c.args.told c.run-status.result ((rw c.as_slice.ensures.value at c.run-status.ensures.wrong) mistaken)))
 
 pub returns-in-Ok-clause-strict : goal.returns-in-Ok-clause-strict
 returns-in-Ok-clause-strict g c =
-    subst (λ given. IfOk given (λ apart. IfAsked apart.arguments.items (λ asked. RefusesUnclean asked → exit_status c.from.result ≡ 0
-    → LeavesNoneAsked g.W.Write g.F.Folder c.args.folder.now asked c.args.streams.now c.run-status.new.streams))) (sym c.in-Ok.is)
-    (λ asked is redacts refuses zero. subst (λ l. IfAsked l (λ asked. RefusesUnclean asked → c.run-status.result ≡ 0
-    → LeavesNoneAsked g.W.Write g.F.Folder c.args.folder.now asked c.args.streams.now c.run-status.new.streams)) c.as_slice.ensures.value
-    c.run-status.ensures.strict asked is redacts refuses (ended_zero g c zero))
+    rw c.in-Ok.is
+    (λ asked is redacts refuses zero. (rw c.as_slice.ensures.value at c.run-status.ensures.strict) asked is redacts refuses (ended_zero g c zero))
 
 pub returns-in-Ok-clause-redacts : goal.returns-in-Ok-clause-redacts
 returns-in-Ok-clause-redacts g c = by_call g c AsksToRedact _ 0 (ended_zero g c) c.run-status.ensures.redacts
@@ -63,5 +59,5 @@ returns-in-Ok-clause-rules_matched g c = by_call g c AsksForRulesCheck _ 1 (ende
 
 pub returns-in-Ok-clause-one : goal.returns-in-Ok-clause-one
 returns-in-Ok-clause-one g c = λ one.
-    subst (λ given. IfOk given (λ apart. IsCheck apart.arguments.items)) (sym c.in-Ok.is)
-    (subst (λ l. IsCheck l) c.as_slice.ensures.value (c.run-status.ensures.one (ended_one g c one)))
+    rw c.in-Ok.is
+    (rw c.as_slice.ensures.value at (c.run-status.ensures.one (ended_one g c one)))

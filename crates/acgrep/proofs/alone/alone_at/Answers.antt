@@ -1,5 +1,5 @@
 -- The longest is tried first, and then the shorter ones, one after another.
-use Rattle.std.proofs.Common.{◌≡◌, ◌≤◌, ◌<◌, false, Option, sym, ◌∙◌, ap, subst, arith}
+use Rattle.std.proofs.Common.{◌<◌, ◌∙◌, ◌≡◌, ◌≤◌, Option, ap, arith, false, subst, sym}
 use Rattle.std.specs.Prelude.{IfSome}
 use Rattle.aho_core.specs.Best.{IsBestOrNone}
 use Rattle.aho_core.specs.Occurrence.{Occurrence}

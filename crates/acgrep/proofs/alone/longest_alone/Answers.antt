@@ -1,5 +1,5 @@
 -- Nothing that stands alone is passed: what the search finds first is tried, and then what begins behind it.
-use Rattle.std.proofs.Common.{◌≤◌, Option, None, Some, length, subst, arith}
+use Rattle.std.proofs.Common.{◌≤◌, None, Option, Some, arith, length, subst}
 use Rattle.std.specs.Prelude.{IfSome}
 use Rattle.aho_core.specs.Answer.{IsAnswer}
 use Rattle.aho_core.specs.Best.{IsBestOrNone}

@@ -1,7 +1,7 @@
 -- All bytes so far are digits.
-use Rattle.std.proofs.Common.{◌≡◌, ℕ, ◌-◌, ◌≤◌, ◌<◌, true, length}
-use Rattle.std.specs.Prelude.{slice_index}
+use Rattle.std.proofs.Common.{◌-◌, ◌<◌, ◌≡◌, ◌≤◌, length, true, ℕ}
 use Rattle.std.specs.Char.{is_ascii_digit}
+use Rattle.std.specs.Prelude.{slice_index}
 use Rattle.acgrep.proofs.arguments.digits_in.Given as goal
 
 abbrev pub invariant-loop-count : goal.invariant-loop-count

@@ -1,9 +1,9 @@
 -- What was read is what the digits mean.
 use Rattle.std.proofs.Common.{arith}
-use Rattle.std.specs.Prelude.{◌≢◌}
 use Rattle.std.proofs.Math.ListN.{get_or}
 use Rattle.std.proofs.lemmas.Bool.Decides.{not_from_Decides}
 use Rattle.std.proofs.lemmas.Str.Pattern.{starts_char}
+use Rattle.std.specs.Prelude.{◌≢◌}
 use Rattle.acgrep.proofs.Numbers.{number_read, number_refused}
 use Rattle.acgrep.proofs.arguments.number_of.Goals as goal
 

@@ -1,5 +1,5 @@
 -- A letter that is no digit turns something on.
-use Rattle.std.proofs.Common.{rules, ◌≡◌, ◌∙◌, ◌∷◌, List, ℕ, None, Some, ap, arith, subst, sym}
+use Rattle.std.proofs.Common.{◌∙◌, ◌∷◌, ◌≡◌, List, None, Some, ap, arith, rules, subst, sym, ℕ}
 use Rattle.acgrep.specs.Arguments.{AreDigits, letters_by, said, switch_by, valued_letter}
 use Rattle.acgrep.specs.Mistakes.{wrong_letters}
 use Rattle.acgrep.specs.declared.options.Flags.{Flags}

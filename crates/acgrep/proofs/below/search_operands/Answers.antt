@@ -1,8 +1,8 @@
 -- What was found was searched, and what cannot be read was told before.
-use Rattle.std.proofs.Common.{◌≡◌, ◌∙◌, [], ℕ, ap, inl, inr, refl, subst, sym}
+use Rattle.std.proofs.Common.{◌∙◌, ◌≡◌, [], ap, inl, inr, refl, subst, sym, ℕ}
 use Rattle.aho_core.specs.Patterns.{Patterns}
-use Rattle.tool_parts.specs.Names.{name_bytes}
 use Rattle.tool_parts.proofs.Lines.{some-weaker}
+use Rattle.tool_parts.specs.Names.{name_bytes}
 use Rattle.acgrep.specs.Arguments.{ending_by, said, shown_by}
 use Rattle.acgrep.specs.Folders.{missed_of}
 use Rattle.acgrep.specs.Listed.{listed_bytes}
@@ -42,9 +42,7 @@ returns g c =
         reached = c.in-Some.ensures.reached;
         job = job;
         is_job = is_job;
-        found = found;
-        searched = rw listed at c.search_names-status.ensures.searched p is (free p plain) (reached-low flags unread found (rw status at low));
-        told = status;
+        does = (found, rw listed at c.search_names-status.ensures.searched p is (free p plain) (reached-low flags unread found (rw status at low)), status);
       };
       begun = λ p is plain. inr (record {
         files = files;
@@ -52,7 +50,7 @@ returns g c =
         reached = c.in-Some.ensures.reached;
         job = job;
         is_job = is_job;
-        begun = rw listed at c.search_names-status.ensures.begun p is (free p plain);
+        does = rw listed at c.search_names-status.ensures.begun p is (free p plain);
       });
       told = rw status (reached-told _ given _ files unread c.in-Some.ensures.reached g.E.Sink _ _ _ found c.in-Some.ensures.told told);
     }

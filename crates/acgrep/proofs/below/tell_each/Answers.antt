@@ -1,10 +1,10 @@
 -- A name more was told.
-use Rattle.std.proofs.Common.{◌≡◌, [], ◌∷◌, Bool, ℕ, List, ap, length, subst, sym}
+use Rattle.std.proofs.Common.{◌∷◌, ◌≡◌, Bool, List, [], ap, length, subst, sym, ℕ}
+use Rattle.std.proofs.lemmas.List.{nil_from_length}
 use Rattle.acgrep.specs.Folders.{missed_of}
 use Rattle.acgrep.specs.Reached.{TellsMissed}
 use Rattle.acgrep.specs.Told.{TellsOfFile}
 use Rattle.acgrep.proofs.Reaching.{IsTold, told-end, told-hushed, told-more, told-start}
-use Rattle.acgrep.proofs.Walking.{all-gone}
 use Rattle.acgrep.proofs.below.tell_each.Goals as goal
 
 pub loop-first-init : goal.loop-first-init
@@ -29,7 +29,7 @@ returns-then-hushed g c =
 pub returns : goal.returns
 returns g c =
     let all = missed_of c.args.unread.now in
-    let gone : c.loop-first.rest.now ≡ [] = all-gone c.loop-first.rest.now c.in_default.ensures.cases in
+    let gone : c.loop-first.rest.now ≡ [] = nil_from_length c.loop-first.rest.now c.in_default.ensures.cases in
     record {
       told = subst (λ (hushed : Bool). TellsMissed g.E.Sink hushed all c.args.errors.now c.loop-first.errors) (sym c.if-hushed.false)
           (told-end g.E.Sink all (missed_of c.loop-first.rest.now) c.args.errors.now c.loop-first.errors (ap (λ l. length (missed_of l)) gone) c.loop-first.invariant);

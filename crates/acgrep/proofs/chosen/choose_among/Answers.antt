@@ -1,5 +1,5 @@
 -- A name more was looked at.
-use Rattle.std.proofs.Common.{◌≡◌, [], ◌<◌, ℕ, Bor, List, arith, length}
+use Rattle.std.proofs.Common.{◌<◌, ◌≡◌, Bor, List, [], arith, length, ℕ}
 use Rattle.std.proofs.lemmas.Grind.{common_steps}
 use Rattle.tool_parts.specs.Names.{name_bytes}
 use Rattle.acgrep.specs.Folders.{tree_of}

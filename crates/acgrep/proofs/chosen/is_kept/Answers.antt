@@ -1,5 +1,5 @@
 -- Where none is left out a name is not looked at.
-use Rattle.std.proofs.Common.{sym, ◌∙◌}
+use Rattle.std.proofs.Common.{◌∙◌, sym}
 use Rattle.acgrep.specs.Folders.{tree_of}
 use Rattle.acgrep.specs.Rules.{rules_said}
 use Rattle.acgrep.proofs.Choosing.{all_kept}

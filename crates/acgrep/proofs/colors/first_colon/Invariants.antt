@@ -1,5 +1,5 @@
 -- No colon so far.
-use Rattle.std.proofs.Common.{◌≡◌, ℕ, ◌-◌, ◌≤◌, ◌<◌, false, length}
+use Rattle.std.proofs.Common.{◌-◌, ◌<◌, ◌≡◌, ◌≤◌, false, length, ℕ}
 use Rattle.std.proofs.Math.ListN.{get_or}
 use Rattle.acgrep.specs.Colors.{is_colon}
 use Rattle.acgrep.proofs.colors.first_colon.Given as goal

@@ -1,11 +1,26 @@
 -- One part more, or the last.
-use Rattle.std.proofs.Common.{◌≡◌, ℕ, ◌+◌, ◌<◌, Bool, false, true, List, length, drop, take, ap, arith, sym, ◌∙◌}
+use Rattle.std.proofs.Common.{◌+◌, ◌<◌, ◌∙◌, ◌∷◌, ◌≡◌, Bool, List, [], ap, arith, drop, false, length, subst, sym, take, true, ℕ}
 use Rattle.std.proofs.lemmas.Grind.{common_steps}
-use Rattle.std.specs.List.{slice_split}
+use Rattle.std.proofs.lemmas.List.Elements.{All-from_get_or}
+use Rattle.std.proofs.lemmas.List.Splits.{slice_split_first, slice_split_none}
+use Rattle.std.proofs.lemmas.List.Sums.{fails_before_first}
+use Rattle.std.specs.List.{position_or_len, slice_split}
 use Rattle.std.specs.Prelude.{if◌then◌else◌}
 use Rattle.acgrep.specs.Colors.{is_colon, is_right, palette_of, with_part, with_parts}
-use Rattle.acgrep.proofs.ColorParts.{parts_first, parts_last}
 use Rattle.acgrep.proofs.colors.read_parts.Goals as goal
+
+-- the first part, and those behind its colon
+parts_first : (text : List ℕ) (end : ℕ) → end ≡ position_or_len is_colon text → end < length text
+    → slice_split is_colon text ≡ take end text ∷ slice_split is_colon (drop (end + 1) text)
+parts_first text end is inside =
+    subst (λ (n : ℕ). slice_split is_colon text ≡ take n text ∷ slice_split is_colon (drop (n + 1) text)) (sym is)
+    (slice_split_first is_colon text 0 (subst (λ (n : ℕ). n < length text) is inside))
+
+-- where there is no colon it is the only one
+parts_last : (text : List ℕ) (end : ℕ) → end ≡ position_or_len is_colon text → (end < length text → ⊥) → slice_split is_colon text ≡ text ∷ []
+parts_last text end is behind =
+    slice_split_none is_colon text (All-from_get_or (λ (byte : ℕ). is_colon byte ≡ false) text 0
+    (λ k inside. fails_before_first is_colon text k 0 (omega (arith, is, behind, inside))))
 
 pub returns-then-not-is_right : goal.returns-then-not-is_right
 returns-then-not-is_right c =

@@ -1,5 +1,5 @@
 -- A line is selected or not.
-use Rattle.std.proofs.Common.{[], ◌∷◌, refl, subst}
+use Rattle.std.proofs.Common.{◌∷◌, [], refl, subst}
 use Rattle.std.proofs.KnownBytes.{Appends-nil}
 use Rattle.acgrep.specs.Contexts.{IsChosenBy, WalksSome, walk_of}
 use Rattle.acgrep.proofs.Beginnings.{on_err}

@@ -1,5 +1,5 @@
 -- A line that is passed over is held.
-use Rattle.std.proofs.Common.{◌≡◌, [], ◌∷◌, refl, ap, arith}
+use Rattle.std.proofs.Common.{◌∷◌, ◌≡◌, [], ap, arith, refl}
 use Rattle.std.proofs.KnownBytes.{Appends-nil}
 use Rattle.acgrep.specs.Contexts.{Holding, WalksSome, walk_of}
 use Rattle.acgrep.proofs.Beginnings.{on_err}

@@ -1,5 +1,5 @@
 -- One line more is put together.
-use Rattle.std.proofs.Common.{◌≡◌, ◌<◌, ◌+◌, List, ℕ, [], length, drop, sym, ap, subst, arith}
+use Rattle.std.proofs.Common.{◌+◌, ◌<◌, ◌≡◌, List, [], ap, arith, drop, length, subst, sym, ℕ}
 use Rattle.std.proofs.lemmas.List.{drop_all}
 use Rattle.acgrep.specs.Filled.{cut_by, held_lines}
 use Rattle.acgrep.specs.declared.print.Place.{Place}

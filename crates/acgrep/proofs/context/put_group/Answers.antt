@@ -1,10 +1,10 @@
 -- A selected line follows those that are held before it.
-use Rattle.std.proofs.Common.{List, ℕ, subst}
-use Rattle.std.specs.Io.KnownBytes.{Appends}
+use Rattle.std.proofs.Common.{List, subst, ℕ}
 use Rattle.std.proofs.lemmas.Result.{on_ok_weaker}
+use Rattle.std.specs.Io.KnownBytes.{Appends}
 use Rattle.acgrep.specs.Contexts.{ShowsEach, walk_of}
 use Rattle.acgrep.specs.Filled.{held_lines}
-use Rattle.acgrep.specs.declared.select.Job.{Job}
+use Rattle.acgrep.specs.declared.job.Job.{Job}
 use Rattle.acgrep.proofs.Stepped.{group_put}
 use Rattle.acgrep.proofs.context.put_group.Goals as goal
 

@@ -1,5 +1,5 @@
 -- One line more is searched.
-use Rattle.std.proofs.Common.{◌≡◌, List, ℕ, suc, ◌∷◌, take, drop, sym, ◌∙◌, ap, add-one}
+use Rattle.std.proofs.Common.{◌∙◌, ◌∷◌, ◌≡◌, List, add-one, ap, drop, suc, sym, take, ℕ}
 use Rattle.acgrep.specs.Contexts.{walk_of}
 use Rattle.acgrep.specs.Lines.{lines}
 use Rattle.acgrep.proofs.Beginnings.{on_err}

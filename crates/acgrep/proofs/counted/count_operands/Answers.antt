@@ -1,5 +1,5 @@
 -- What was put down of the search is counted.
-use Rattle.std.proofs.Common.{◌≡◌, ◌<◌, ◌≤◌, ◌∙◌, inl, inr, ℕ, List, [], Option, Some, ap, sym, subst, arith}
+use Rattle.std.proofs.Common.{◌<◌, ◌∙◌, ◌≡◌, ◌≤◌, List, Option, Some, [], ap, arith, inl, inr, subst, sym, ℕ}
 use Rattle.std.specs.Io.KnownBytes.{Appends}
 use Rattle.aho_core.specs.Replacement.{pieces_of}
 use Rattle.aho_devices.specs.Counts.{AppendsBeginning}

@@ -1,5 +1,5 @@
 -- The rows of the counts are those that are told.
-use Rattle.std.proofs.Common.{◌∙◌, ◌++◌, ℕ, List, ap, subst}
+use Rattle.std.proofs.Common.{◌++◌, ◌∙◌, List, ap, subst, ℕ}
 use Rattle.std.proofs.lemmas.Result.{on_ok_weaker}
 use Rattle.aho_core.specs.Replacement.{pieces_of}
 use Rattle.acgrep.specs.Lines.{lines}

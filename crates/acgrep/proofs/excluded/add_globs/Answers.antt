@@ -1,8 +1,8 @@
 -- The rule of a line more is added.
-use Rattle.std.proofs.Common.{◌≡◌, suc, ◌<◌, ◌++◌, [], length, take, drop, sym, ◌∙◌, ap, add-one, append_assoc, arith}
+use Rattle.std.proofs.Common.{◌++◌, ◌<◌, ◌∙◌, ◌≡◌, [], add-one, ap, append_assoc, arith, drop, length, suc, sym, take}
 use Rattle.std.proofs.lemmas.Grind.{common_steps}
 use Rattle.acgrep.specs.Lines.{lines}
-use Rattle.acgrep.specs.Rules.{rule_before, rules_in, rules_of_lines, rules_said, glob_of_line}
+use Rattle.acgrep.specs.Rules.{glob_of_line, rule_before, rules_in, rules_of_lines, rules_said}
 use Rattle.acgrep.proofs.FirstLines.{lines_first}
 use Rattle.acgrep.proofs.RuleTexts.{rule_front}
 use Rattle.acgrep.proofs.excluded.add_globs.Goals as goal

@@ -1,5 +1,5 @@
 -- The rules so far, and those of the lines that are left.
-use Rattle.std.proofs.Common.{◌≡◌, ◌++◌, length}
+use Rattle.std.proofs.Common.{◌++◌, ◌≡◌, length}
 use Rattle.acgrep.specs.Rules.{rules_in, rules_said}
 use Rattle.acgrep.proofs.excluded.add_globs.Given as goal
 

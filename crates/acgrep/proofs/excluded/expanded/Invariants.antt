@@ -1,5 +1,5 @@
 -- The rules so far, and those that are left with their texts.
-use Rattle.std.proofs.Common.{◌≡◌, ◌++◌, length}
+use Rattle.std.proofs.Common.{◌++◌, ◌≡◌, length}
 use Rattle.acgrep.specs.Listed.{listed_bytes}
 use Rattle.acgrep.specs.Rules.{expanded, rules_said}
 use Rattle.acgrep.proofs.excluded.expanded.Given as goal

@@ -1,5 +1,5 @@
 -- The text of a rule more was read.
-use Rattle.std.proofs.Common.{◌≡◌, ◌∙◌, ◌<◌, length, arith, [], subst}
+use Rattle.std.proofs.Common.{◌<◌, ◌∙◌, ◌≡◌, [], arith, length, subst}
 use Rattle.std.proofs.lemmas.Grind.{common_steps}
 use Rattle.tool_parts.specs.Telling.{TellsSome}
 use Rattle.tool_parts.specs.declared.errors.Errors.{Errors}

@@ -1,6 +1,6 @@
 -- The last byte is white space or ends the line.
-use Rattle.std.proofs.Common.{◌≡◌, ◌∙◌, [], ◌∷◌, ◌++◌, ap, false, sym, true}
-use Rattle.acgrep.specs.Rules.{is_space, glob_of_line}
+use Rattle.std.proofs.Common.{◌++◌, ◌∙◌, ◌∷◌, ◌≡◌, [], ap, false, sym, true}
+use Rattle.acgrep.specs.Rules.{glob_of_line, is_space}
 use Rattle.acgrep.proofs.RuleTexts.{trimmed_end, trimmed_space}
 use Rattle.acgrep.proofs.excluded.trimmed.Goals as goal
 

@@ -1,8 +1,8 @@
 -- A flush keeps what was written, and behind it a beginning of the total stands.
 use Rattle.std.proofs.Common.{Bool, subst}
 use Rattle.acgrep.specs.Told.{IsMessage, TellsOutcome, stopped_if}
-use Rattle.acgrep.proofs.Told.{unread-then}
 use Rattle.acgrep.proofs.FilesBegun.{total_kept, total_none}
+use Rattle.acgrep.proofs.Told.{unread-then}
 use Rattle.acgrep.proofs.files.break_off.Goals as goal
 
 pub returns-then-tell_stop-clause-begun : goal.returns-then-tell_stop-clause-begun

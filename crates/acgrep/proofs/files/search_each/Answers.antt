@@ -1,5 +1,5 @@
 -- A file more was searched.
-use Rattle.std.proofs.Common.{◌≡◌, ◌∷◌, ◌-◌, ℕ, List, length, take, drop, subst, sym, ap, refl}
+use Rattle.std.proofs.Common.{◌-◌, ◌∷◌, ◌≡◌, List, ap, drop, length, refl, subst, sym, take, ℕ}
 use Rattle.acgrep.specs.Files.{search_work}
 use Rattle.acgrep.specs.Listed.{listed_bytes}
 use Rattle.acgrep.specs.Told.{IsMessage, TellsIf, files_told}

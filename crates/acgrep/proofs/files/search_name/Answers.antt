@@ -1,10 +1,10 @@
 -- The name that is told is that of the file.
-use Rattle.std.proofs.Common.{◌≡◌, ℕ, true, false, refl, sym, ap, subst, ◌∙◌}
+use Rattle.std.proofs.Common.{◌∙◌, ◌≡◌, ap, false, refl, subst, sym, true, ℕ}
 use Rattle.aho_core.specs.Patterns.{Patterns}
 use Rattle.tool_parts.specs.Names.{is_input}
 use Rattle.acgrep.specs.Files.{SearchesFile, SearchesReader, shown_name}
 use Rattle.acgrep.specs.Selected.{HoldNoEnding}
-use Rattle.acgrep.specs.declared.select.Job.{Job}
+use Rattle.acgrep.specs.declared.job.Job.{Job}
 use Rattle.acgrep.proofs.InTurn.{if_broken, if_searched}
 use Rattle.acgrep.proofs.Told.{told-named}
 use Rattle.acgrep.proofs.files.search_name.Goals as goal

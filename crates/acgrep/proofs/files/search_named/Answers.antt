@@ -1,7 +1,7 @@
 -- The bytes of the file are those of its reader.
 use Rattle.acgrep.specs.Files.{SearchesFile, SearchesReader}
-use Rattle.acgrep.proofs.InTurn.{if_broken, if_searched}
 use Rattle.acgrep.proofs.FilesBegun.{file_known, file_none, file_read}
+use Rattle.acgrep.proofs.InTurn.{if_broken, if_searched}
 use Rattle.acgrep.proofs.files.search_named.Goals as goal
 
 pub returns-in-Ok-clause-begun : goal.returns-in-Ok-clause-begun

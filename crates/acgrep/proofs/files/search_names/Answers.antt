@@ -1,5 +1,5 @@
 -- The status tells what was seen.
-use Rattle.std.proofs.Common.{◌<◌, ℕ, false, subst, sym}
+use Rattle.std.proofs.Common.{◌<◌, false, subst, sym, ℕ}
 use Rattle.std.proofs.KnownBytes.{Keeps-refl}
 use Rattle.acgrep.specs.Files.{AreSearchedOr, search_work}
 use Rattle.acgrep.specs.Listed.{listed_bytes}

@@ -1,9 +1,9 @@
 -- What was searched of the reader, and what is asked of the file as a whole.
-use Rattle.std.proofs.Common.{◌≡◌, Bool, ap, sym, ◌∙◌}
+use Rattle.std.proofs.Common.{◌∙◌, ◌≡◌, Bool, ap, sym}
 use Rattle.std.specs.Prelude.{◌||◌}
 use Rattle.acgrep.specs.Binary.{is_guarded, takes_text}
-use Rattle.acgrep.proofs.InTurn.{if_broken, if_searched, on_broken}
 use Rattle.acgrep.proofs.FilesBegun.{file_begins, file_grown}
+use Rattle.acgrep.proofs.InTurn.{if_broken, if_searched, on_broken}
 use Rattle.acgrep.proofs.TextAlone.{ends_begun, ends_searched}
 use Rattle.acgrep.proofs.files.search_one.Given.{Over}
 use Rattle.acgrep.proofs.files.search_one.Goals.{After-takes_text-alone}

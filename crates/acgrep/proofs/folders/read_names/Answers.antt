@@ -1,5 +1,5 @@
 -- What a read gave stands behind what was read before; where it is nothing, that is all.
-use Rattle.std.proofs.Common.{rules, ◌≡◌, ◌<◌, ◌++◌, arith, length, take}
+use Rattle.std.proofs.Common.{◌++◌, ◌<◌, ◌≡◌, arith, length, rules, take}
 use Rattle.acgrep.proofs.FolderTexts.{text_more, text_whole}
 use Rattle.acgrep.proofs.folders.read_names.Goals as goal
 

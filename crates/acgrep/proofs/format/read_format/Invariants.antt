@@ -1,5 +1,5 @@
 -- The pieces so far, and those of what is left.
-use Rattle.std.proofs.Common.{◌≡◌, ◌++◌, length}
+use Rattle.std.proofs.Common.{◌++◌, ◌≡◌, length}
 use Rattle.std.specs.Prelude.{option_map}
 use Rattle.acgrep.specs.Formats.{format_pieces, unknown_in}
 use Rattle.acgrep.proofs.format.read_format.Given as goal

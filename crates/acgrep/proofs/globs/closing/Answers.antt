@@ -1,5 +1,5 @@
 -- An item more was passed.
-use Rattle.std.proofs.Common.{rules, ◌≡◌, ◌∷◌, ◌∙◌, ap, arith, length}
+use Rattle.std.proofs.Common.{◌∙◌, ◌∷◌, ◌≡◌, ap, arith, length, rules}
 use Rattle.acgrep.specs.Globs.{closes_at, closing}
 use Rattle.acgrep.proofs.Globbed.{closes_first, closes_more, passed_first}
 use Rattle.acgrep.proofs.globs.closing.Goals as goal

@@ -1,5 +1,5 @@
 -- What is left decides.
-use Rattle.std.proofs.Common.{◌≡◌, ◌+◌, length}
+use Rattle.std.proofs.Common.{◌+◌, ◌≡◌, length}
 use Rattle.acgrep.specs.Globs.{closes_at, closing}
 use Rattle.acgrep.proofs.globs.closing.Given as goal
 

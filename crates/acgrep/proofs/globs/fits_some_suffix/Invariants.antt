@@ -1,5 +1,5 @@
 -- What is left decides.
-use Rattle.std.proofs.Common.{◌≡◌, ◌+◌, length}
+use Rattle.std.proofs.Common.{◌+◌, ◌≡◌, length}
 use Rattle.acgrep.specs.Globs.{any_suffix, fits}
 use Rattle.acgrep.proofs.globs.fits_some_suffix.Given as goal
 

@@ -1,5 +1,5 @@
 -- A part more fits.
-use Rattle.std.proofs.Common.{rules, ◌≡◌, ◌∷◌, ◌-◌, ◌∙◌, ℕ, List, true, ap, length, subst, sym, take, drop}
+use Rattle.std.proofs.Common.{◌-◌, ◌∙◌, ◌∷◌, ◌≡◌, List, ap, drop, length, rules, subst, sym, take, true, ℕ}
 use Rattle.acgrep.specs.Globs.{part_len, stands_for}
 use Rattle.acgrep.proofs.Globbed.{IsRead, behind_slice, read_more}
 use Rattle.acgrep.proofs.globs.front_of.Goals as goal

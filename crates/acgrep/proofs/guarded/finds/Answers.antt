@@ -2,7 +2,7 @@
 use Rattle.std.proofs.Common.{subst, sym, take}
 use Rattle.acgrep.specs.Selected.{HoldNoEnding}
 use Rattle.acgrep.specs.Streamed.{course}
-use Rattle.acgrep.specs.declared.select.Job.{Job}
+use Rattle.acgrep.specs.declared.job.Job.{Job}
 use Rattle.acgrep.proofs.Beginnings.{on_err}
 use Rattle.acgrep.proofs.BinaryTold.{begins_sought, finds_sought, past_all}
 use Rattle.acgrep.proofs.guarded.finds.Goals as goal

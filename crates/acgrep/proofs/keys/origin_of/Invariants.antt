@@ -1,5 +1,5 @@
 -- The pattern is none of those of the sources so far.
-use Rattle.std.proofs.Common.{◌≡◌, ◌+◌, ◌-◌, ◌≤◌, length}
+use Rattle.std.proofs.Common.{◌+◌, ◌-◌, ◌≡◌, ◌≤◌, length}
 use Rattle.acgrep.specs.Origins.{count_up_to}
 use Rattle.acgrep.proofs.keys.origin_of.Given as goal
 

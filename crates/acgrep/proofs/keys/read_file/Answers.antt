@@ -1,5 +1,5 @@
 -- The lines of the file are added.
-use Rattle.std.proofs.Common.{ℕ, List, subst}
+use Rattle.std.proofs.Common.{List, subst, ℕ}
 use Rattle.acgrep.specs.Loading.{AddsText}
 use Rattle.acgrep.proofs.WordLists.{file_words}
 use Rattle.acgrep.proofs.keys.read_file.Goals as goal

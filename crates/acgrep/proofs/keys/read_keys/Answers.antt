@@ -1,9 +1,9 @@
 -- The patterns of a source more were read.
-use Rattle.std.proofs.Common.{rules, ◌≡◌, ◌<◌, length, arith, [], subst}
+use Rattle.std.proofs.Common.{◌<◌, ◌≡◌, [], arith, length, rules, subst}
 use Rattle.std.proofs.lemmas.Grind.{common_steps}
-use Rattle.acgrep.specs.Runs.{origins_of}
 use Rattle.tool_parts.specs.Telling.{TellsSome}
 use Rattle.tool_parts.specs.declared.errors.Errors.{Errors}
+use Rattle.acgrep.specs.Runs.{origins_of}
 use Rattle.acgrep.specs.Told.{IsMessage, source_names}
 use Rattle.acgrep.specs.declared.arguments.Source.{Source}
 use Rattle.acgrep.specs.declared.arguments.Source.TheVariants.{Text}

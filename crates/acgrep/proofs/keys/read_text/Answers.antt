@@ -1,5 +1,5 @@
 -- What was read stands behind the bytes before.
-use Rattle.std.proofs.Common.{sym, ◌∙◌}
+use Rattle.std.proofs.Common.{◌∙◌, sym}
 use Rattle.acgrep.proofs.WordLists.{file_added, input_added}
 use Rattle.acgrep.proofs.keys.read_text.Goals as goal
 

@@ -1,6 +1,6 @@
 -- Standard input is read, unless it was read before.
-use Rattle.acgrep.proofs.FilesMarked.{input_again, input_first, input_none}
 use Rattle.acgrep.specs.declared.files.Outcome.TheVariants.{Unread}
+use Rattle.acgrep.proofs.FilesMarked.{input_again, input_first, input_none}
 use Rattle.acgrep.proofs.MarksTold.{end-told, outcome-told}
 use Rattle.acgrep.proofs.marked_files.mark_input.Goals as goal
 

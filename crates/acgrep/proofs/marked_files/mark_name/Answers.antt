@@ -1,9 +1,9 @@
 -- The name is that of standard input, or of a file.
-use Rattle.std.proofs.Common.{Bool, List, ℕ, ap, false, subst, sym, ◌∙◌}
+use Rattle.std.proofs.Common.{◌∙◌, Bool, List, ap, false, subst, sym, ℕ}
 use Rattle.acgrep.specs.Files.{IsNamed}
 use Rattle.acgrep.specs.Told.{TellsOutcome}
 use Rattle.acgrep.specs.ToldByRules.{IsMarkTold}
-use Rattle.acgrep.specs.declared.select.Job.{Job}
+use Rattle.acgrep.specs.declared.job.Job.{Job}
 use Rattle.acgrep.proofs.FilesMarked.{name_file, name_input}
 use Rattle.acgrep.proofs.marked_files.mark_name.Goals as goal
 

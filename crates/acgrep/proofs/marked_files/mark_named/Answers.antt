@@ -1,6 +1,6 @@
 -- The bytes of the file are those of its reader.
-use Rattle.acgrep.proofs.FilesMarked.{comes_known, comes_none}
 use Rattle.acgrep.specs.declared.files.Outcome.TheVariants.{Unread}
+use Rattle.acgrep.proofs.FilesMarked.{comes_known, comes_none}
 use Rattle.acgrep.proofs.MarksTold.{outcome-told}
 use Rattle.acgrep.proofs.marked_files.mark_named.Goals as goal
 

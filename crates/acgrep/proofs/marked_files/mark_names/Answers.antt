@@ -1,11 +1,11 @@
 -- The status tells what was seen.
-use Rattle.std.proofs.Common.{◌<◌, ℕ, false, subst, sym}
+use Rattle.std.proofs.Common.{◌<◌, false, subst, sym, ℕ}
 use Rattle.acgrep.specs.InTurn.{AreDoneOr}
 use Rattle.acgrep.specs.Listed.{listed_bytes}
 use Rattle.acgrep.specs.MarkedFiles.{mark_work}
-use Rattle.acgrep.proofs.InTurn.{status_seen}
 use Rattle.acgrep.specs.Told.{TellsStatus}
 use Rattle.acgrep.specs.ToldByRules.{IsMarkTold}
+use Rattle.acgrep.proofs.InTurn.{status_seen}
 use Rattle.acgrep.proofs.Told.{status-seen}
 use Rattle.acgrep.proofs.marked_files.mark_names.Goals as goal
 

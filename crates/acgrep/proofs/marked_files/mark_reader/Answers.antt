@@ -1,13 +1,14 @@
 -- What comes of the lines, and then what is asked of the file as a whole.
-use Rattle.std.proofs.Common.{◌≢◌, ◌∙◌, List, Option, ℕ, ap, refl, sym}
-use Rattle.tool_parts.proofs.Ends.{at_end}
+use Rattle.std.proofs.Common.{◌∙◌, List, Option, ap, refl, sym, ℕ}
+use Rattle.std.specs.Prelude.{◌≢◌}
 use Rattle.secret_rules.specs.Covering.{Covering}
+use Rattle.tool_parts.proofs.Ends.{at_end}
 use Rattle.acgrep.specs.Files.{BeginsTotal}
 use Rattle.acgrep.specs.MarkedFiles.{BeginsMarks, MarksBy, file_asked}
 use Rattle.acgrep.proofs.FilesBegun.{total_none}
 use Rattle.acgrep.proofs.FilesMarked.{covering_rules, file_part, file_searched}
-use Rattle.acgrep.proofs.MarksTold.{end-told, outcome-told}
 use Rattle.acgrep.proofs.InTurn.{if_broken, if_searched, on_broken}
+use Rattle.acgrep.proofs.MarksTold.{end-told, outcome-told}
 use Rattle.acgrep.proofs.marked_files.mark_reader.Given.{Over}
 use Rattle.acgrep.proofs.marked_files.mark_reader.Goals.{After-mark_source-came}
 use Rattle.acgrep.proofs.marked_files.mark_reader.Goals as goal

@@ -1,5 +1,5 @@
 -- The line names the rule, or tells that memory ran out.
-use Rattle.std.proofs.Common.{inl, inr, []}
+use Rattle.std.proofs.Common.{[], inl, inr}
 use Rattle.tool_parts.proofs.Lines.{some-one}
 use Rattle.acgrep.specs.ToldByRules.{IsMarkTold}
 use Rattle.acgrep.proofs.MarksTold.{some-told}

@@ -1,5 +1,5 @@
 -- What is written is what the visits of lines leave.
-use Rattle.std.proofs.Common.{sym, subst}
+use Rattle.std.proofs.Common.{subst, sym}
 use Rattle.secret_rules.specs.Covering.{Covering}
 use Rattle.acgrep.specs.Marked.{asked_of}
 use Rattle.acgrep.specs.MarkedFiles.{WalksLines}

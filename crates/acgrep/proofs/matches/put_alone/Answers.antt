@@ -1,5 +1,5 @@
 -- Whatever comes, it is written behind the others.
-use Rattle.std.proofs.Common.{[], ◌∷◌, ◌++◌, Some, subst}
+use Rattle.std.proofs.Common.{◌++◌, ◌∷◌, Some, [], subst}
 use Rattle.acgrep.specs.Alone.{IsNextAlone}
 use Rattle.acgrep.proofs.AloneTried.{alone_behind, alone_end, alone_step}
 use Rattle.acgrep.proofs.Coloring.{put_end, put_step}

@@ -1,5 +1,5 @@
 -- The matches that came so far were written, and what stands between them.
-use Rattle.std.proofs.Common.{◌≤◌, ◌+◌, ◌-◌, List, length}
+use Rattle.std.proofs.Common.{◌+◌, ◌-◌, ◌≤◌, List, length}
 use Rattle.aho_core.specs.Occurrence.{Occurrence}
 use Rattle.aho_core.specs.Patterns.{Patterns}
 use Rattle.chromesquid.specs.Searcher.{IsBuiltFrom}

@@ -1,11 +1,11 @@
 -- One pattern more does not hold the byte.
-use Rattle.std.proofs.Common.{◌≡◌, List, ℕ, [], length, inl, inr, arith, subst, sym}
+use Rattle.std.proofs.Common.{◌≡◌, List, [], arith, inl, inr, length, subst, sym, ℕ}
 use Rattle.std.proofs.lemmas.Bool.{cases_lt}
 use Rattle.std.proofs.lemmas.List.{get_or-map}
 use Rattle.std.specs.Prelude.{slice_index_or}
+use Rattle.aho_core.specs.Replacement.{pieces_of}
 use Rattle.memchr.specs.Find.{Nowhere}
 use Rattle.acgrep.specs.Lines.{IsEnding}
-use Rattle.aho_core.specs.Replacement.{pieces_of}
 use Rattle.acgrep.proofs.patterns.first_holding.Goals as goal
 
 pub loop-number-preserved : goal.loop-number-preserved

@@ -1,5 +1,5 @@
 -- What the loop keeps: no pattern before the number holds the byte.
-use Rattle.std.proofs.Common.{◌<◌, ℕ, [], length}
+use Rattle.std.proofs.Common.{◌<◌, [], length, ℕ}
 use Rattle.std.specs.Prelude.{slice_index_or}
 use Rattle.aho_core.specs.Replacement.{pieces_of}
 use Rattle.memchr.specs.Find.{Nowhere}

@@ -1,8 +1,8 @@
 -- The rules are those of the program, or of the file.
-use Rattle.acgrep.proofs.MarksTold.{some-told}
-use Rattle.std.proofs.Common.{inl, refl, [], ◌∷◌, ◌≡◌, ◌∙◌, ◌++◌, List, ℕ, ap, subst, sym}
+use Rattle.std.proofs.Common.{◌++◌, ◌∙◌, ◌∷◌, ◌≡◌, List, [], ap, inl, refl, subst, sym, ℕ}
 use Rattle.secret_rules.specs.Tables.{TellsRules}
 use Rattle.acgrep.specs.RunsByRules.{AddsRules}
+use Rattle.acgrep.proofs.MarksTold.{some-told}
 use Rattle.acgrep.proofs.RulesGiven.{file_added, own_added}
 use Rattle.acgrep.proofs.rule_lists.add_rules.Goals as goal
 

@@ -1,13 +1,13 @@
 -- Those of a name more were read.
+use Rattle.std.proofs.Common.{◌-◌, ◌<◌, ◌∙◌, ◌≡◌, Bor, List, [], arith, drop, length, refl, subst, sym, take, ℕ}
+use Rattle.std.proofs.Math.ListN.{get_or}
+use Rattle.std.proofs.lemmas.Grind.{common_steps}
+use Rattle.secret_rules.specs.declared.rule.Rule.{Rule}
+use Rattle.tool_parts.specs.Names.{name_bytes}
 use Rattle.tool_parts.specs.Telling.{TellsSome}
 use Rattle.tool_parts.specs.declared.errors.Errors.{Errors}
-use Rattle.acgrep.specs.ToldByRules.{IsMarkTold}
-use Rattle.std.proofs.Common.{refl, ◌∙◌, ◌≡◌, ◌<◌, [], ◌-◌, ℕ, List, Bor, length, take, drop, subst, sym, arith}
-use Rattle.std.proofs.lemmas.Grind.{common_steps}
-use Rattle.std.proofs.Math.ListN.{get_or}
-use Rattle.tool_parts.specs.Names.{name_bytes}
-use Rattle.secret_rules.specs.declared.rule.Rule.{Rule}
 use Rattle.acgrep.specs.RunsByRules.{AreAllRules}
+use Rattle.acgrep.specs.ToldByRules.{IsMarkTold}
 use Rattle.acgrep.proofs.InTurn.{names_cut}
 use Rattle.acgrep.proofs.RulesGiven.{AllSoFar, all_end, all_next, all_none, names_end}
 use Rattle.acgrep.proofs.rule_lists.read_rules.Goals as goal

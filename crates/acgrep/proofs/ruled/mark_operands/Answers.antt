@@ -1,5 +1,5 @@
 -- What was found was searched, and what cannot be read was told before.
-use Rattle.std.proofs.Common.{[], ◌≡◌, ◌∙◌, ap, inr, refl}
+use Rattle.std.proofs.Common.{◌∙◌, ◌≡◌, [], ap, inr, refl}
 use Rattle.tool_parts.specs.Names.{name_bytes}
 use Rattle.acgrep.specs.Arguments.{shown_by}
 use Rattle.acgrep.specs.Folders.{missed_of}
@@ -36,9 +36,7 @@ returns g c =
         reached = c.in-Some.ensures.reached;
         job = job;
         is_job = is_job;
-        found = found;
-        searched = rw listed at c.mark_names-status.ensures.searched covering by (reached-low flags unread found (rw status at low));
-        told = status;
+        does = (found, rw listed at c.mark_names-status.ensures.searched covering by (reached-low flags unread found (rw status at low)), status);
       };
       begun = λ covering by. inr (record {
         files = files;
@@ -46,7 +44,7 @@ returns g c =
         reached = c.in-Some.ensures.reached;
         job = job;
         is_job = is_job;
-        begun = rw listed at c.mark_names-status.ensures.begun covering by;
+        does = rw listed at c.mark_names-status.ensures.begun covering by;
       });
       told = rw status (missed-told g.E.Sink flags unread found _ _ _ c.in-Some.ensures.told told);
     }

@@ -1,18 +1,18 @@
 -- The rules in files were read, and what was said was done by them.
-use Rattle.std.proofs.Common.{[], refl, ap, inl, inr, subst}
+use Rattle.std.proofs.Common.{[], ap, inl, inr, refl, subst}
 use Rattle.std.proofs.KnownBytes.{Keeps-refl}
+use Rattle.tool_parts.specs.declared.errors.Errors.{Errors}
 use Rattle.acgrep.specs.Arguments.{Said, said}
 use Rattle.acgrep.specs.Folders.{known_by}
 use Rattle.acgrep.specs.Listed.{listed_bytes}
 use Rattle.acgrep.specs.Rules.{rules_said}
 use Rattle.acgrep.specs.Runs.{AreRules}
 use Rattle.acgrep.specs.RunsByRules.{MarksAsked, MayBeginAsked}
-use Rattle.acgrep.proofs.RuleTexts.{rules_read}
-use Rattle.tool_parts.specs.declared.errors.Errors.{Errors}
 use Rattle.acgrep.specs.Told.{TellsStatus, rule_files}
 use Rattle.acgrep.specs.ToldByRules.{IsMarkTold}
 use Rattle.acgrep.specs.declared.options.Shown.TheVariants.{Nothing}
 use Rattle.acgrep.proofs.MarksTold.{some-told}
+use Rattle.acgrep.proofs.RuleTexts.{rules_read}
 use Rattle.acgrep.proofs.Told.{status-some}
 use Rattle.acgrep.proofs.ruled.mark_said.Goals as goal
 
@@ -50,8 +50,8 @@ returns g c =
     let is = c.with_rules-ruled.ensures.ruled in
     record {
       bound = c.mark_asked.ensures.bound;
-      searches = λ low. record { globs = rules; between = between; read = read; searched = subst (λ (s : Said). MarksAsked known screen s between held held' status) is (c.mark_asked.ensures.searches low) };
-      begins = inr (record { globs = rules; between = between; read = read; begun = subst (λ (s : Said). MayBeginAsked known screen s between held held') is c.mark_asked.ensures.begins });
+      searches = λ low. record { what = rules; between = between; read = read; does = subst (λ (s : Said). MarksAsked known screen s between held held' status) is (c.mark_asked.ensures.searches low) };
+      begins = inr (record { what = rules; between = between; read = read; does = subst (λ (s : Said). MayBeginAsked known screen s between held held') is c.mark_asked.ensures.begins });
       told = subst (λ (e : Errors g.row.E.Denot). TellsStatus g.E.Sink IsMarkTold c.args.given.flags.no_messages Nothing status e new) (c.in-Some.ensures.silent refl)
           (subst (λ (s : Said). TellsStatus g.E.Sink IsMarkTold s.flags.no_messages Nothing status c.read_globs.new.errors new) is c.mark_asked.ensures.told);
     }

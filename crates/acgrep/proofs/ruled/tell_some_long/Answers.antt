@@ -1,6 +1,6 @@
 -- The line by its parts.
-use Rattle.std.proofs.Common.{List, ℕ, ◌++◌, subst}
-use Rattle.std.specs.Prelude.{codes, decimal}
+use Rattle.std.proofs.Common.{◌++◌, List, codes, subst, ℕ}
+use Rattle.std.specs.Prelude.{decimal}
 use Rattle.tool_parts.specs.Telling.{TellsBytes}
 use Rattle.acgrep.proofs.ruled.tell_some_long.Goals as goal
 

@@ -1,5 +1,5 @@
 -- What is left decides.
-use Rattle.std.proofs.Common.{◌≡◌, ◌≤◌, ◌+◌, length}
+use Rattle.std.proofs.Common.{◌+◌, ◌≡◌, ◌≤◌, length}
 use Rattle.acgrep.specs.Rules.{kept_len}
 use Rattle.acgrep.proofs.rules.kept_len.Given as goal
 

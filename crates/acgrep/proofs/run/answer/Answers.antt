@@ -1,18 +1,47 @@
 -- A text is written, or a search is made, and its status told.
-use Rattle.std.proofs.Common.{◌<◌, ◌∙◌, arith, ℕ, Some, inl, refl, subst, sym}
+use Rattle.std.proofs.Common.{◌<◌, ◌∙◌, ◌≡◌, Bool, List, Some, arith, eqb-true, false, inl, inr, refl, subst, sym, true, ℕ}
 use Rattle.std.proofs.KnownBytes.{Keeps-refl}
+use Rattle.std.proofs.lemmas.Bool.{cases_Bool, true≢false}
+use Rattle.std.specs.Prelude.{nat_eq}
+use Rattle.aho_devices.specs.declared.device.Sink.{Ghosts as SinkGhosts}
 use Rattle.tool_parts.specs.Telling.{TellsBytes}
-use Rattle.acgrep.specs.Beside.{unfit_said}
-use Rattle.acgrep.proofs.Unfitting.{some_all, some_unfit, unfit_fits}
-use Rattle.std.proofs.lemmas.Bool.{true≢false}
+use Rattle.tool_parts.specs.declared.errors.Errors.{Errors}
 use Rattle.acgrep.specs.Arguments.{said, shown_by}
+use Rattle.acgrep.specs.Beside.{unfit_said}
 use Rattle.acgrep.specs.Folders.{known_by}
-use Rattle.acgrep.specs.Told.{MaySaid, MayTell, TellsOfCall, names_said, TellsStatus}
+use Rattle.acgrep.specs.Runs.{status_told}
+use Rattle.acgrep.specs.Told.{MaySaid, MayTell, TellsOfCall, TellsStatus, names_said}
 use Rattle.acgrep.specs.ToldByRules.{IsMarkTold}
+use Rattle.acgrep.specs.declared.options.Shown.{Shown}
 use Rattle.acgrep.specs.declared.options.Shown.TheVariants.{Nothing}
-use Rattle.acgrep.proofs.Statuses.{told-low, told-status}
 use Rattle.acgrep.proofs.Told.{status-weaker}
+use Rattle.acgrep.proofs.Unfitting.{some_all, some_unfit, unfit_fits}
 use Rattle.acgrep.proofs.run.answer.Goals as goal
+
+-- an error stays one
+told-low : (ok : Bool) (status : ℕ) → status_told ok status < 2 → status < 2
+told-low false status low = low
+told-low true status low = elim (cases_Bool (nat_eq status 1)) [
+  | inl one ↦ omega (arith, eqb-true status 1 one)
+  | inr not ↦ rw not at low
+]
+
+-- and none becomes one
+told-two : (ok : Bool) (status : ℕ) → status_told ok status ≡ 2 → status ≡ 2
+told-two false status two = two
+told-two true status two = elim (cases_Bool (nat_eq status 1)) [
+  | inl one ↦ let none = rw one at two in absurd (omega (arith, none))
+  | inr not ↦ rw not at two
+]
+
+-- so what is told is as it was
+told-status : {E : Type 0} (K : SinkGhosts E) (P : List ℕ → Type 0) (hushed : Bool) (shown : Shown) (ok : Bool) (status : ℕ) (old new : Errors E)
+    → TellsStatus K P hushed shown status old new → TellsStatus K P hushed shown (status_told ok status) old new
+told-status K P hushed shown ok status old new told = record {
+  tells = told.tells;
+  silent = λ low loud. told.silent (told-low ok status low) loud;
+  some = λ asked two. told.some asked (told-two ok status two);
+}
 
 pub returns-then-given-clause-told : goal.returns-then-given-clause-told
 returns-then-given-clause-told g c = λ by.

@@ -1,5 +1,5 @@
 -- Nothing was found.
-use Rattle.std.proofs.Common.{◌≡◌, ◌∙◌, true, false, sym}
+use Rattle.std.proofs.Common.{◌∙◌, ◌≡◌, false, sym, true}
 use Rattle.std.proofs.KnownBytes.{Keeps-refl}
 use Rattle.acgrep.specs.Arguments.{asks_counts}
 use Rattle.acgrep.proofs.run.end_unsearched.Goals as goal

@@ -1,37 +1,53 @@
 -- What was said was done, and a flush keeps what was written.
-use Rattle.std.proofs.Common.{[], false, ◌||◌, ◌≡◌, ◌<◌, ◌≤◌, ◌∙◌, List, Option, Some, ap, ℕ, inl, inr, arith, refl, subst, sym}
-use Rattle.std.specs.Prelude.{IfSome}
-use Rattle.tool_parts.specs.Telling.{Tells, TellsBytes, TellsSome}
+use Rattle.std.proofs.Common.{◌<◌, ◌∙◌, ◌≡◌, ◌≤◌, List, None, Option, Some, [], arith, false, inl, inr, refl, subst, sym, ℕ}
+use Rattle.std.specs.Prelude.{◌||◌}
+use Rattle.aho_devices.specs.declared.device.Sink.{Ghosts as SinkGhosts}
+use Rattle.tool_parts.proofs.Lines.{some-tells, some-weaker}
+use Rattle.tool_parts.specs.Messages.{reason_text}
+use Rattle.tool_parts.specs.Telling.{TellsBytes, TellsSome}
 use Rattle.tool_parts.specs.declared.errors.Errors.{Errors}
 use Rattle.tool_parts.specs.declared.reason.Reason.TheVariants.{OutOfMemory as NoMemory}
-use Rattle.tool_parts.proofs.Lines.{some-tells, some-weaker}
-use Rattle.acgrep.specs.Arguments.{Said, said, said_by, shown_by}
+use Rattle.acgrep.specs.Arguments.{AreRefused, Said, said, said_by, shown_by}
 use Rattle.acgrep.specs.Beside.{unfit_said}
 use Rattle.acgrep.specs.Folders.{known_by}
 use Rattle.acgrep.specs.Listed.{listed_bytes}
-use Rattle.acgrep.specs.Mistakes.{TellsLacking, TellsMistake, TellsNoPattern, TellsUnfit, memory_line}
-use Rattle.acgrep.specs.Runs.{AsksAny, AsksByRules, AsksToSearch, BeginsSearch, GivesNone, IsByPatterns, Searches}
-use Rattle.acgrep.specs.RunsByRules.{BeginsByRules, SearchesByRules}
-use Rattle.acgrep.specs.Told.{MaySaid, MayTell, TellsStatus, is_hushed, names_said}
+use Rattle.acgrep.specs.Mistakes.{IsFirstMistake, TellsLacking, TellsMistake, TellsNoPattern, TellsRefused, TellsUnfit, memory_line}
+use Rattle.acgrep.specs.Runs.{AsksByRules, IsByPatterns}
+use Rattle.acgrep.specs.Told.{MaySaid, MayTell, TellsStatus, is_hushed, names_said, wrong_parts}
 use Rattle.acgrep.specs.ToldByRules.{IsMarkTold}
+use Rattle.acgrep.specs.declared.wrong.Refusal.{Refusal}
+use Rattle.acgrep.specs.declared.wrong.Refusal.TheVariants.{OutOfMemory, Wrong}
 use Rattle.acgrep.specs.declared.options.Shown.TheVariants.{Nothing}
-use Rattle.acgrep.proofs.Kept.{ruled_kept, same_said, search_held}
-use Rattle.acgrep.proofs.MarksKept.{begun_by_rules, by_rules_kept}
+use Rattle.acgrep.proofs.Kept.{begun_by_rules, by_rules_kept, ruled_kept, said_alone, search_held}
 use Rattle.acgrep.proofs.MarksTold.{some-told}
-use Rattle.acgrep.proofs.Mistaken.{mistake-told, refused-lacking, refused-memory}
-use Rattle.acgrep.proofs.Told.{finished, not-quiet, tells-memory, told-said}
+use Rattle.acgrep.proofs.Told.{finished, not-quiet, tells-cause, told-said}
 use Rattle.acgrep.proofs.Unfitting.{each_all, some_all, some_both, some_more}
 use Rattle.acgrep.proofs.run.run.Goals as goal
+
+mistake-told : {E : Type 0} (K : SinkGhosts E) (arguments : List (List ℕ)) (refusal : Refusal) (old new : Errors E) → IsFirstMistake arguments refusal → TellsRefused K refusal old new
+    → TellsMistake K arguments old new
+mistake-told K arguments (Wrong wrong) old new is told = inr (wrong_parts wrong, is, told)
+mistake-told K arguments OutOfMemory old new is told = inl told
+
+-- right arguments are refused only where memory ran out
+refused-lacking : {E : Type 0} (K : SinkGhosts E) (told : Option Said) (given : Said) (refusal : Refusal) (old new : Errors E) → told ≡ Some given → AreRefused told refusal
+    → TellsRefused K refusal old new → TellsLacking K old new
+refused-lacking K told given (Wrong wrong) old new is refused exact = absurd (cc)
+refused-lacking K told given OutOfMemory old new is refused exact = inl exact
+
+-- so it is this that is told
+refused-memory : {E : Type 0} (K : SinkGhosts E) (told : Option Said) (given : Said) (refusal : Refusal) (old new : Errors E) → told ≡ Some given → AreRefused told refusal
+    → TellsRefused K refusal old new → TellsBytes K old new memory_line
+refused-memory K told given (Wrong wrong) old new is refused exact = absurd (cc)
+refused-memory K told given OutOfMemory old new is refused exact = exact
 
 pub returns-in-Ok : goal.returns-in-Ok
 returns-in-Ok g c =
     let known = known_by g.F.Open g.F.Folders c.args.files.now in
-    let screen = c.args.screen.now in
     let mine = said c.in-Ok.given in
+    let read = c.in-Ok.ensures.read in
     let flags = c.in-Ok.given.flags in
     let left = g.R.Read.remaining c.args.input.now in
-    let left' = g.R.Read.remaining c.answer-status.new.input in
-    let held = g.W.Sink.taken c.args.output.now in
     let held'' = g.W.Sink.taken c.finish.new.output in
     let old = c.args.errors.now in
     let mid = c.answer-status.new.errors in
@@ -39,7 +55,6 @@ returns-in-Ok g c =
     let found = c.answer-status.result in
     let names = names_said (Some mine) in
     let bound : c.finish.result ≤ 2 = elim c.finish.ensures.status [ inl kept ↦ omega (arith, kept, c.answer-status.ensures.bound) | inr two ↦ omega (arith, two) ] in
-    let same = λ (given : Said) (is : said_by _ ≡ Some given). same_said (said_by _) given mine is c.in-Ok.ensures.read in
     let status : c.finish.result < 2 → c.finish.result ≡ found = λ low. elim c.finish.ensures.status [ inl kept ↦ kept | inr two ↦ absurd (omega (arith, low, two)) ] in
     let two : found ≡ 2 → c.finish.result ≡ 2 = λ two. elim c.finish.ensures.status [ inl kept ↦ kept ∙ two | inr failed ↦ failed ] in
     let unsaid : found ≡ 2 → new ≡ mid = λ two. c.finish.ensures.told_before (omega (arith, two)) in
@@ -51,48 +66,28 @@ returns-in-Ok g c =
     c.answer-status.ensures.bound bound c.finish.ensures.status (c.answer-status.ensures.told_marks asks) c.finish.ensures.silent c.finish.ensures.told_before (λ low two. c.finish.ensures.told low two []) in
     record {
       bound = bound;
-      usage = λ none. absurd (cc c.in-Ok.ensures.read);
-      mistake = λ none. absurd (cc c.in-Ok.ensures.read);
-      unread = λ none. absurd (cc c.in-Ok.ensures.read);
-      unwritten = λ none. absurd (cc c.in-Ok.ensures.read);
-      unfit = λ given is asks.
-          subst (λ (s : Said). IfSome (unfit_said s) (λ (line : List ℕ). c.finish.result ≡ 2)) (same given is)
-          (some_more (unfit_said mine) (λ (line : List ℕ). found ≡ 2) (λ (line : List ℕ). c.finish.result ≡ 2) (λ line is. two is) (c.answer-status.ensures.unfit (subst AsksAny (sym (same given is)) asks)));
-      unfitting = λ given is asks.
-          let asks' = subst AsksAny (sym (same given is)) asks in
-          subst (λ (s : Said). IfSome (unfit_said s) (λ (line : List ℕ). TellsUnfit g.E.Sink line old new)) (same given is)
-          (some_both (unfit_said mine) (λ (line : List ℕ). found ≡ 2) (TellsBytes g.E.Sink old mid) (λ (line : List ℕ). TellsUnfit g.E.Sink line old new)
-          (λ line two told. inr (subst (λ (e : Errors g.row.E.Denot). TellsBytes g.E.Sink old e line) (sym (unsaid two)) told))
-          (c.answer-status.ensures.unfit asks') (c.answer-status.ensures.unfitting asks'));
-      patternless = λ given is asks none. two (c.answer-status.ensures.patternless (subst AsksToSearch (sym (same given is)) asks) (subst GivesNone (sym (same given is)) none));
-      lacking = λ given is asks none.
-          let asks' = subst AsksToSearch (sym (same given is)) asks in
-          let none' = subst GivesNone (sym (same given is)) none in
-          inr (subst (TellsNoPattern g.E.Sink old) (sym (unsaid (c.answer-status.ensures.patternless asks' none'))) (c.answer-status.ensures.lacking asks' none'));
-      searches = λ given is asks low.
-          let done = c.answer-status.ensures.searches (subst AsksToSearch (sym (same given is)) asks) (subst (λ (n : ℕ). n < 2) (status low) low) in
-          let kept : Searches known screen mine left left' held held'' found = (done.0, ruled_kept _ held'' c.finish.ensures.kept known screen mine left left' held done.0 done.1, done.2) in
-          subst (λ (n : ℕ). Searches known screen given left left' held held'' n) (sym (status low)) (subst (λ (s : Said). Searches known screen s left left' held held'' found) (same given is) kept);
-      begins = λ given is asks.
-          subst (λ (s : Said). BeginsSearch known screen s left held held'') (same given is)
-          (search_held _ held'' c.finish.ensures.kept known screen mine left held (c.answer-status.ensures.begins (subst AsksToSearch (sym (same given is)) asks)));
-      marks = λ given is asks low.
-          let done = c.answer-status.ensures.marks (subst AsksByRules (sym (same given is)) asks) (subst (λ (n : ℕ). n < 2) (status low) low) in
-          subst (λ (n : ℕ). SearchesByRules known screen given left held held'' n) (sym (status low))
-          (subst (λ (s : Said). SearchesByRules known screen s left held held'' found) (same given is) (by_rules_kept _ held'' c.finish.ensures.kept known screen mine left held found done));
-      begins_marks = λ given is asks.
-          subst (λ (s : Said). BeginsByRules known screen s left held held'') (same given is)
-          (begun_by_rules _ held'' c.finish.ensures.kept known screen mine left held (c.answer-status.ensures.begins_marks (subst AsksByRules (sym (same given is)) asks)));
-      tells = λ by.
-          subst (λ (given : Option Said). Tells g.E.Sink (MaySaid known left given) old new) (sym c.in-Ok.ensures.read) (told (subst IsByPatterns c.in-Ok.ensures.read by)).tells;
-      silent = λ given is by loud low.
-          (told (subst IsByPatterns (sym is ∙ c.in-Ok.ensures.read) by)).silent low
-          (λ quiet. not-quiet flags.quiet flags.names flags.lacking flags.count (flags.tallied || (flags.json || flags.formatted)) flags.only_matching quiet (ap (λ (s : Said). s.flags.quiet) (same given is) ∙ loud));
-      says_why = λ loud failed.
-          subst (λ (given : Option Said). TellsSome g.E.Sink (MaySaid known left given) old new) (sym c.in-Ok.ensures.read)
-          ((told (subst IsByPatterns c.in-Ok.ensures.read loud.0)).some (subst (λ (given : Option Said). is_hushed given ≡ false) c.in-Ok.ensures.read loud.1) failed);
-      tells_marks = λ given is asks. (marked (subst AsksByRules (sym (same given is)) asks)).tells;
-      says_why_marks = λ given is asks asked failed. (marked (subst AsksByRules (sym (same given is)) asks)).some (ap (λ (s : Said). s.flags.no_messages) (same given is) ∙ asked) failed;
+      usage = λ none. absurd (cc read);
+      mistake = λ none. absurd (cc read);
+      unread = λ none. absurd (cc read);
+      unwritten = λ none. absurd (cc read);
+      unfit = said_alone _ _ mine read (λ asks. some_more (unfit_said mine) _ _ (λ line is. two is) (c.answer-status.ensures.unfit asks));
+      unfitting = said_alone _ _ mine read (λ asks. some_both (unfit_said mine) (λ line. found ≡ 2) (TellsBytes g.E.Sink old mid) (λ line. TellsUnfit g.E.Sink line old new)
+          (λ line two told. inr (subst (λ (e : Errors g.row.E.Denot). TellsBytes g.E.Sink old e line) (sym (unsaid two)) told)) (c.answer-status.ensures.unfit asks) (c.answer-status.ensures.unfitting asks));
+      patternless = said_alone _ _ mine read (λ asks none. two (c.answer-status.ensures.patternless asks none));
+      lacking = said_alone _ _ mine read (λ asks none. inr (subst (TellsNoPattern g.E.Sink old) (sym (unsaid (c.answer-status.ensures.patternless asks none))) (c.answer-status.ensures.lacking asks none)));
+      searches = said_alone _ _ mine read (λ asks low.
+          let done = c.answer-status.ensures.searches asks (subst (λ (n : ℕ). n < 2) (status low) low) in
+          rw (status low) (done.0, ruled_kept _ held'' c.finish.ensures.kept known _ mine left _ _ done.0 done.1, done.2));
+      begins = said_alone _ _ mine read (λ asks. search_held _ held'' c.finish.ensures.kept known _ mine left _ (c.answer-status.ensures.begins asks));
+      marks = said_alone _ _ mine read (λ asks low.
+          rw (status low) (by_rules_kept _ held'' c.finish.ensures.kept known _ mine left _ found (c.answer-status.ensures.marks asks (subst (λ (n : ℕ). n < 2) (status low) low))));
+      begins_marks = said_alone _ _ mine read (λ asks. begun_by_rules _ held'' c.finish.ensures.kept known _ mine left _ (c.answer-status.ensures.begins_marks asks));
+      tells = λ by. rw read (told (subst IsByPatterns read by)).tells;
+      silent = said_alone _ _ mine read (λ by loud low. (told by).silent low
+          (λ quiet. not-quiet flags.quiet flags.names flags.lacking flags.count (flags.tallied || (flags.json || flags.formatted)) flags.only_matching quiet loud));
+      says_why = λ loud failed. rw read ((told (subst IsByPatterns read loud.0)).some (subst (λ (given : Option Said). is_hushed given ≡ false) read loud.1) failed);
+      tells_marks = said_alone _ _ mine read (λ asks. (marked asks).tells);
+      says_why_marks = said_alone _ _ mine read (λ asks asked failed. (marked asks).some asked failed);
       flushed = c.finish.ensures.flushed;
     }
 
@@ -112,7 +107,7 @@ returns-in-Err g c =
     (some-weaker g.E.Sink (MayTell (names_said given)) (MaySaid known left given) old mid (told-said known left given) (c.tell_refused.ensures.told (names_said given))) in
     let memory = λ (g' : Said) (is : given ≡ Some g'). refused-memory g.E.Sink given g' c.in-Err.refusal old mid is c.in-Err.ensures.refused c.tell_refused.ensures.exact in
     let marked = λ (g' : Said) (is : given ≡ Some g').
-    subst (TellsSome g.E.Sink IsMarkTold old) (sym same) (some-told g.E.Sink [] old mid (tells-memory g.E.Sink [] old mid NoMemory (memory g' is))) in
+    subst (TellsSome g.E.Sink IsMarkTold old) (sym same) (some-told g.E.Sink [] old mid (tells-cause g.E.Sink [] old mid None None (reason_text NoMemory) tt (inl (inl (NoMemory, refl))) (memory g' is))) in
     record {
       bound = omega (arith, two);
       usage = λ none. two;

@@ -1,23 +1,85 @@
 -- The searcher was built from the lines that were read.
-use Rattle.std.proofs.Common.{◌≡◌, ◌∙◌, arith, List, ℕ, false, true, ap, inl, inr, refl, subst, sym}
+use Rattle.std.proofs.Common.{◌+◌, ◌<◌, ◌∙◌, ◌∷◌, ◌≡◌, Bool, List, [], ap, arith, drop, false, inl, inr, length, refl, subst, sym, true, ℕ}
 use Rattle.std.proofs.KnownBytes.{Keeps-refl}
-use Rattle.std.proofs.lemmas.Bool.{and_parts}
+use Rattle.std.proofs.lemmas.Bool.{and_parts, eq-eqb, leb-true}
+use Rattle.std.specs.Prelude.{◌&&◌, if◌then◌else◌, nat_le, slice_index_or, slice_range}
+use Rattle.aho_core.specs.Bytes.{IsSameWord, folded_by}
+use Rattle.aho_core.specs.Patterns.{Patterns, pattern_at}
 use Rattle.aho_core.specs.Replacement.{pieces_of}
+use Rattle.aho_core.specs.declared.search.MatchKind.{MatchKind}
 use Rattle.chromesquid.specs.Searcher.{IsBuiltFrom}
 use Rattle.tool_parts.specs.Building.{patterns_by_kind}
 use Rattle.tool_parts.specs.Names.{name_bytes}
 use Rattle.tool_parts.specs.declared.errors.Errors.{Errors}
-use Rattle.acgrep.specs.Arguments.{fit_by, said, shown_by}
+use Rattle.acgrep.specs.Arguments.{ending_by, fit_by, said, shown_by}
 use Rattle.acgrep.specs.Folders.{known_by, tree_of}
-use Rattle.acgrep.specs.Lines.{lines}
-use Rattle.acgrep.specs.Runs.{AreSought, BeginsNoMatch, BeginsOrKeeps, SearchesReached, WritesNoMatch, inverts, kind_sought, knows_none, origins_of, words_sought}
+use Rattle.acgrep.specs.Lines.{AreFreeOf, lines}
+use Rattle.acgrep.specs.Runs.{AreSought, BeginsNoMatch, BeginsOrKeeps, SearchesReached, WritesNoMatch, inverts, kind_sought, knows_none, origins_of, selects_none, words_sought}
+use Rattle.acgrep.specs.Selected.{HoldNoEnding}
 use Rattle.acgrep.specs.Told.{MaySay, TellsStatus, source_names}
+use Rattle.acgrep.specs.Written.{HasMatch, IsPassedOver}
+use Rattle.acgrep.specs.declared.options.Fit.{Fit}
+use Rattle.acgrep.specs.declared.options.Fit.TheVariants.{AnyPart, WholeLine, WholeWord}
+use Rattle.acgrep.specs.declared.options.Flags.{Flags}
+use Rattle.acgrep.proofs.LineLists.{take_zero}
 use Rattle.acgrep.proofs.OrCounted.{counts-of, no-match, no-match-begins, none-told}
-use Rattle.acgrep.proofs.PlainWords.{free_plain}
 use Rattle.acgrep.proofs.Reaching.{may-behind, some-sources, sources-told}
+use Rattle.acgrep.proofs.Tellings.{none_matches}
 use Rattle.acgrep.proofs.Told.{status-weaker}
-use Rattle.acgrep.proofs.Unselected.{none_selected}
 use Rattle.acgrep.proofs.run.search.Goals as goal
+
+-- an empty pattern occurs in each line
+empty_matches : (p : Patterns) (words : List (List ℕ)) → p.words ≡ [] ∷ words → (line : List ℕ) → HasMatch p line
+empty_matches p words are line =
+    let empty : pattern_at p 0 ≡ [] = ap (λ (l : List (List ℕ)). slice_index_or l 0 []) are in
+    let none : slice_range line 0 0 ≡ [] = take_zero (drop 0 line) in
+    let same : IsSameWord p (pattern_at p 0) (slice_range line 0 0) =
+    subst (λ (word : List ℕ). IsSameWord p word (slice_range line 0 0)) (sym empty) (subst (IsSameWord p []) (sym none) refl) in (
+      record { pattern = 0; start = 0; end = 0 },
+      record {
+        numbered = omega (arith, ap length are);
+        after_start = omega arith;
+        before_end = omega arith;
+        sized = omega (arith, ap length empty);
+        same = same;
+        admitted = λ e. cc;
+      },
+    )
+
+-- where no line is selected each is passed over
+none_selected : (p : Patterns) (fit : Fit) (invert : Bool) (words : List (List ℕ)) → p.words ≡ words → selects_none fit invert words ≡ true → (line : List ℕ) → IsPassedOver p fit invert line
+none_selected p fit false [] are is line = none_matches p fit line (λ m occurs. absurd (omega (arith, occurs.numbered, ap length are)))
+none_selected p fit false (word ∷ words) are is line = absurd (cc)
+none_selected p fit true [] are is line = absurd (cc)
+none_selected p WholeWord true (word ∷ words) are is line = absurd (cc)
+none_selected p WholeLine true (word ∷ words) are is line = absurd (cc)
+none_selected p AnyPart true ([] ∷ words) are is line = empty_matches p words are line
+none_selected p AnyPart true ((byte ∷ bytes) ∷ words) are is line = absurd (cc)
+
+raised_low : (upper : Bool) (byte low : ℕ) → (nat_le 65 byte && nat_le byte 90) ≡ upper → low < 65 → (if upper then byte + 32 else byte) ≡ low → byte ≡ low
+raised_low true byte low upper less is = absurd (omega (arith, less, is, leb-true 65 byte (and_parts (nat_le 65 byte) (nat_le byte 90) upper).0))
+raised_low false byte low upper less is = is
+
+-- by the case rule a byte below the letters is the same as no other byte
+fold_low : (ignore_case : Bool) (byte low : ℕ) → low < 65 → folded_by ignore_case byte ≡ low → byte ≡ low
+fold_low false byte low less is = is
+fold_low true byte low less is = raised_low (nat_le 65 byte && nat_le byte 90) byte low refl less is
+
+fold_zero : (ignore_case : Bool) → folded_by ignore_case 0 ≡ 0
+fold_zero true = refl
+fold_zero false = refl
+
+fold_newline : (ignore_case : Bool) → folded_by ignore_case 10 ≡ 10
+fold_newline true = refl
+fold_newline false = refl
+
+fold_ending : (null_data ignore_case : Bool) (byte : ℕ) → folded_by ignore_case byte ≡ folded_by ignore_case (if null_data then 0 else 10) → byte ≡ (if null_data then 0 else 10)
+fold_ending true ignore_case byte same = fold_low ignore_case byte 0 (omega arith) (same ∙ fold_zero ignore_case)
+fold_ending false ignore_case byte same = fold_low ignore_case byte 10 (omega arith) (same ∙ fold_newline ignore_case)
+
+free_plain : (flags : Flags) (kind : MatchKind) (ignore_case : Bool) (words : List (List ℕ)) → AreFreeOf (ending_by flags) words → HoldNoEnding (ending_by flags) (patterns_by_kind kind ignore_case words)
+free_plain flags kind ignore_case words free number place low within = λ same.
+    free number low place (omega arith) within (eq-eqb _ _ (fold_ending flags.null_data ignore_case _ same))
 
 pub search_or_count-requires : goal.search_or_count-requires
 search_or_count-requires g c =
@@ -48,17 +110,17 @@ returns-in-Ok-searcher_of g c =
     record {
       bound = c.search_or_count.ensures.bound;
       searches = λ low. record {
-        words = text;
+        what = text;
         between = left;
         read = c.in-Some.ensures.words;
-        searched = counts-of flags text (λ old new. SearchesReached known screen given asked names left left' old new status)
+        does = counts-of flags text (λ old new. SearchesReached known screen given asked names left left' old new status)
             (λ old new. AreSought known screen given sought names left left' old new status) (λ old new found. rw some found) _ _ (rw all at c.search_or_count.ensures.searched _ built plain low);
       };
       begins = inr (record {
-        words = text;
+        what = text;
         between = left;
         read = c.in-Some.ensures.words;
-        begun = rw all at c.search_or_count.ensures.begun _ built plain;
+        does = rw all at c.search_or_count.ensures.begun _ built plain;
       });
       told = status-weaker g.E.Sink _ _ flags.no_messages (shown_by flags) _ _ _ (may-behind known.tree given (origins_of c.args.sources.now) names)
           (rw (c.in-Some.ensures.silent refl) at c.search_or_count.ensures.told);
@@ -91,18 +153,18 @@ returns-then-knows_none g c =
       searches = λ low.
           let one : status ≡ 1 = elim c.end_unsearched.ensures.status [ inl one ↦ one | inr two ↦ absurd (omega (arith, low, two)) ] in
           record {
-            words = text;
+            what = text;
             between = left;
             read = c.in-Some.ensures.words;
-            searched = no-match flags text (λ old new. AreSought known screen given sought names left left old new status) held held'
+            does = no-match flags text (λ old new. AreSought known screen given sought names left left old new status) held held'
                 (λ old new keeps. rw none (record { passed = none_selected asked (fit_by flags) (inverts flags) sought refl (and_parts _ _ none).1; unread = refl; unwritten = keeps; none = one }))
                 (subst (λ (l : List (List ℕ)). WritesNoMatch flags l held held') all (c.end_unsearched.ensures.written low));
           };
       begins = inr (record {
-        words = text;
+        what = text;
         between = left;
         read = c.in-Some.ensures.words;
-        begun = no-match-begins flags text (λ old new. BeginsOrKeeps known screen given asked names left old new) held held' (λ old new keeps. inl keeps)
+        does = no-match-begins flags text (λ old new. BeginsOrKeeps known screen given asked names left old new) held held' (λ old new keeps. inl keeps)
             (subst (λ (l : List (List ℕ)). BeginsNoMatch flags l held held') all c.end_unsearched.ensures.begun);
       });
       told = subst (λ (old : Errors g.row.E.Denot). TellsStatus g.E.Sink May flags.no_messages (shown_by flags) status old e') (c.in-Some.ensures.silent refl)

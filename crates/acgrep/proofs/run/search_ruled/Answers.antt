@@ -1,21 +1,35 @@
 -- The rules in files were read, and what was said was done by them.
-use Rattle.std.proofs.Common.{◌≡◌, List, Some, ap, inl, inr, refl, subst}
+use Rattle.std.proofs.Common.{◌≡◌, List, Option, Some, ap, inl, inr, refl, subst, ℕ}
 use Rattle.std.proofs.KnownBytes.{Keeps-refl}
 use Rattle.std.specs.List.{concat}
+use Rattle.tool_parts.proofs.Lines.{some-one, some-weaker}
 use Rattle.tool_parts.specs.Telling.{TellsSome}
 use Rattle.tool_parts.specs.declared.errors.Errors.{Errors}
-use Rattle.tool_parts.proofs.Lines.{some-one, some-weaker}
 use Rattle.acgrep.specs.Arguments.{Said, said, shown_by}
-use Rattle.acgrep.specs.Folders.{known_by}
+use Rattle.acgrep.specs.Folders.{Known, known_by}
 use Rattle.acgrep.specs.Listed.{listed_bytes}
 use Rattle.acgrep.specs.Rules.{RuleSaid, rules_said}
 use Rattle.acgrep.specs.Runs.{AreRules, BeginsSaid, SearchesSaid, names_by, ruled, sources_by}
-use Rattle.acgrep.specs.Told.{IsMessage, MaySaid, MaySay, TellsOfSaid, TellsStatus, names_said, rule_files, wrong_parts}
-use Rattle.acgrep.specs.declared.arguments.Wrong.TheVariants.{NoPattern}
-use Rattle.acgrep.proofs.RuledCalls.{may-ruled, may-rules}
+use Rattle.acgrep.specs.Told.{IsMessage, MaySaid, MaySay, TellsOfSaid, TellsStatus, names_said, names_told, rule_files, wrong_parts}
+use Rattle.acgrep.specs.declared.wrong.Wrong.TheVariants.{NoPattern}
 use Rattle.acgrep.proofs.RuleTexts.{rules_read}
-use Rattle.acgrep.proofs.Told.{status-some, status-weaker}
+use Rattle.acgrep.proofs.Told.{among-first, among-later, message-more, status-some, status-weaker}
 use Rattle.acgrep.proofs.run.search_ruled.Goals as goal
+
+-- that a file of rules cannot be read
+may-rules : (known : Known) (left : Option (List ℕ)) (given : Said) (line : List ℕ) → IsMessage (rule_files given.rules) line → MaySaid known left (Some given) line
+may-rules known left given line is =
+    let others = names_told given.flags.no_messages given.label (sources_by given.sources given.operands) (names_by given.sources given.operands) in
+    inl (inl (message-more (rule_files given.rules) (names_said (Some given)) (λ name among. among-first name (rule_files given.rules) others among) line is))
+
+-- what is told by rules that were read
+may-ruled : (known : Known) (left between : Option (List ℕ)) (given : Said) (rules : List RuleSaid) → AreRules known.holds given.rules left between rules → (line : List ℕ)
+    → MaySay known.tree (ruled given rules) (sources_by given.sources given.operands) (names_by given.sources given.operands) line → MaySaid known left (Some given) line
+may-ruled known left between given rules read line (inl (inl message)) =
+    let others = names_told given.flags.no_messages given.label (sources_by given.sources given.operands) (names_by given.sources given.operands) in
+    inl (inl (message-more others (names_said (Some given)) (λ name among. among-later name (rule_files given.rules) others among) line message))
+may-ruled known left between given rules read line (inl (inr usage)) = inl (inr usage)
+may-ruled known left between given rules read line (inr named) = inr (record { what = rules; between = between; read = read; does = named })
 
 pub returns-then-gives_none-clause-begins : goal.returns-then-gives_none-clause-begins
 returns-then-gives_none-clause-begins g c = inl (Keeps-refl (g.W.Sink.taken c.args.output.now))
@@ -75,12 +89,12 @@ returns g c =
       patternless = λ none. absurd (c.gives_none.ensures.some c.if-gives_none.false none);
       lacking = λ none. absurd (c.gives_none.ensures.some c.if-gives_none.false none);
       searches = λ low. record {
-        rules = rules;
+        what = rules;
         between = between;
         read = read;
-        searched = subst (λ (s : Said). SearchesSaid known screen s between left' held held' status) is (c.search_asked.ensures.searches low);
+        does = subst (λ (s : Said). SearchesSaid known screen s between left' held held' status) is (c.search_asked.ensures.searches low);
       };
-      begins = inr (record { rules = rules; between = between; read = read; begun = subst (λ (s : Said). BeginsSaid known screen s between held held') is c.search_asked.ensures.begins });
+      begins = inr (record { what = rules; between = between; read = read; does = subst (λ (s : Said). BeginsSaid known screen s between held held') is c.search_asked.ensures.begins });
       told = subst (λ (e : Errors g.row.E.Denot). TellsStatus g.E.Sink (MaySaid known left (Some given)) flags.no_messages (shown_by flags) status e new) (c.in-Some.ensures.silent refl)
           (status-weaker g.E.Sink (MaySay known.tree (ruled given rules) (sources_by given.sources given.operands) (names_by given.sources given.operands)) (MaySaid known left (Some given)) flags.no_messages (shown_by flags) status mid new
           (may-ruled known left between given rules read) (subst (λ (s : Said). TellsOfSaid g.E.Sink known.tree s status mid new) is c.search_asked.ensures.told));

@@ -1,4 +1,4 @@
-use Rattle.std.proofs.Common.{◌+◌, ◌%◌, ◌^◌, length, refl, arith}
+use Rattle.std.proofs.Common.{◌%◌, ◌+◌, ◌^◌, arith, length, refl}
 use Rattle.acgrep.proofs.PlacesBehind.{place_behind}
 use Rattle.acgrep.proofs.select.behind_text.Goals as goal
 

@@ -1,5 +1,5 @@
 -- The searcher's match kind is that of its patterns.
-use Rattle.std.proofs.Common.{sym, ◌∙◌}
+use Rattle.std.proofs.Common.{◌∙◌, sym}
 use Rattle.acgrep.proofs.select.is_whole.Goals as goal
 
 pub returns-in-LeftmostLongest : goal.returns-in-LeftmostLongest

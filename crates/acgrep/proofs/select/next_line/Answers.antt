@@ -1,5 +1,4 @@
-use Rattle.std.proofs.Common.{arith, subst}
-use Rattle.std.specs.Prelude.{Some}
+use Rattle.std.proofs.Common.{Some, arith, subst}
 use Rattle.aho_core.specs.Answer.{IsAnswer}
 use Rattle.aho_core.specs.Search.{plain_search}
 use Rattle.acgrep.proofs.Around.{first_around, starts_within}

@@ -1,5 +1,5 @@
 -- One line more was selected.
-use Rattle.std.proofs.Common.{◌≡◌, List, ℕ, suc, ◌<◌, ◌∷◌, length, take, drop, sym, ◌∙◌, ap, add-one, arith}
+use Rattle.std.proofs.Common.{◌<◌, ◌∙◌, ◌∷◌, ◌≡◌, List, add-one, ap, arith, drop, length, suc, sym, take, ℕ}
 use Rattle.std.proofs.lemmas.Grind.{common_steps}
 use Rattle.std.proofs.lemmas.List.{nil_from_length}
 use Rattle.acgrep.specs.Lines.{lines}
@@ -22,13 +22,13 @@ loop-rest-preserved g c =
     let done = c.in_ok-pass_selected.ensures in
     record {
       placed = ap (λ (place : Place). after_lines place (lines c.args.job.now.style.ending left)) done.placed ∙ ap (after_lines c.loop-rest.state.place) (sym more) ∙ c.loop-rest.invariant.placed;
-      passed = λ p is invert each. passing_step p c.args.job.now c.args.state.now c.loop-rest.state c.pass_selected.new.state
+      passed = λ p is each. passing_step p c.args.job.now c.args.state.now c.loop-rest.state c.pass_selected.new.state
           (g.W.Sink.taken c.args.output.now) (g.W.Sink.taken c.loop-rest.output) (g.W.Sink.taken c.pass_selected.new.output)
-          c.args.text.now rest (take end rest) left invert more done.placed done.counted (done.shown p is) (c.loop-rest.invariant.passed p is invert each);
+          c.args.text.now rest (take end rest) left c.requires.inverted more done.placed done.counted (done.shown p is) (c.loop-rest.invariant.passed p is each);
     }
 
 pub returns-in_err-pass_selected-clause-begun : goal.returns-in_err-pass_selected-clause-begun
-returns-in_err-pass_selected-clause-begun g c = λ p is invert each.
+returns-in_err-pass_selected-clause-begun g c = λ p is each.
     let rest = c.loop-rest.rest.now in
     let end = c.line_end-end.result in
     let left = drop (suc end) rest in
@@ -36,11 +36,11 @@ returns-in_err-pass_selected-clause-begun g c = λ p is invert each.
     let more : lines c.args.job.now.style.ending rest ≡ take end rest ∷ lines c.args.job.now.style.ending left = lines_first c.args.job.now.style.ending rest end full c.line_end-end.ensures.within c.line_end-end.ensures.none c.line_end-end.ensures.ends in
     on_err c.from_residual.result (begins_passing p c.args.job.now c.args.state.now c.loop-rest.state c.pass_selected.new.state.selected
     (g.W.Sink.taken c.args.output.now) (g.W.Sink.taken c.loop-rest.output) (g.W.Sink.taken c.pass_selected.new.output)
-    c.args.text.now rest (take end rest) left invert more (c.loop-rest.invariant.passed p is invert each) (c.in_err-pass_selected.ensures.begun p is))
+    c.args.text.now rest (take end rest) left c.requires.inverted more (c.loop-rest.invariant.passed p is each) (c.in_err-pass_selected.ensures.begun p is))
 
 pub returns-clause-written : goal.returns-clause-written
-returns-clause-written g c = λ p is invert each.
+returns-clause-written g c = λ p is each.
     let rest = c.loop-rest.rest.now in
     let empty : length rest ≡ 0 = grind (arith, common_steps, c.is_empty.ensures, c.loop-rest-test.false) in
     passing_end p c.args.job.now c.args.state.now c.loop-rest.state (g.W.Sink.taken c.args.output.now) (g.W.Sink.taken c.loop-rest.output)
-    c.args.text.now rest (nil_from_length rest empty) (c.loop-rest.invariant.passed p is invert each)
+    c.args.text.now rest (nil_from_length rest empty) (c.loop-rest.invariant.passed p is each)

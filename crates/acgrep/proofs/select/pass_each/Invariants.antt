@@ -1,5 +1,5 @@
 -- The lines so far were selected, and the place is behind them.
-use Rattle.std.proofs.Common.{◌≡◌, true, length}
+use Rattle.std.proofs.Common.{◌≡◌, length}
 use Rattle.aho_core.specs.Patterns.{Patterns}
 use Rattle.chromesquid.specs.Searcher.{IsBuiltFrom}
 use Rattle.acgrep.specs.Lines.{lines}
@@ -10,7 +10,7 @@ use Rattle.acgrep.proofs.select.pass_each.Given as goal
 abbrev pub invariant-loop-rest : goal.invariant-loop-rest
 invariant-loop-rest g l = record {
   placed : after_lines l.state.place (lines l.fn.job.style.ending l.rest) ≡ after_lines l.initial.state.place (lines l.fn.job.style.ending l.fn.text);
-  passed : (p : Patterns) → IsBuiltFrom l.fn.searcher p → l.fn.job.invert ≡ true → EachLine (HasNone p) (lines l.fn.job.style.ending l.fn.text)
+  passed : (p : Patterns) → IsBuiltFrom l.fn.searcher p → EachLine (HasNone p) (lines l.fn.job.style.ending l.fn.text)
       → Passing p l.fn.job l.initial.state l.state (g.W.Sink.taken l.initial.output) (g.W.Sink.taken l.output) l.fn.text l.rest;
 }
 

@@ -1,14 +1,9 @@
 -- A line is selected or not by whether it matches.
-use Rattle.std.proofs.Common.{refl, sym, ◌∙◌}
-use Rattle.std.specs.Prelude.{Result, Ok, Err, OnOk}
+use Rattle.std.proofs.Common.{◌∙◌, refl, sym}
+use Rattle.aho_cover.proofs.Written.{if_both}
 use Rattle.acgrep.specs.Written.{IsPassedOver, IsSelected}
 use Rattle.acgrep.proofs.Tellings.{one_passed, one_selected, passed_by, selected_by}
 use Rattle.acgrep.proofs.select.pass_line.Goals as goal
-
--- what follows of two facts where the call succeeds
-on_both : {T E : Type 0} (r : Result T E) (P Q R : Type 0) → (P → Q → R) → OnOk r P → OnOk r Q → OnOk r R
-on_both (Ok x) P Q R follows one other = follows one other
-on_both (Err e) P Q R follows one other = tt
 
 pub returns-then-selects-clause-written : goal.returns-then-selects-clause-written
 returns-then-selects-clause-written g c = λ p is matched.
@@ -16,7 +11,7 @@ returns-then-selects-clause-written g c = λ p is matched.
     let job = c.args.job.now in
     let line = c.args.line.now in
     let selected : IsSelected p job.fit job.invert line = selected_by p job.fit job.invert c.args.matched line matched (sym c.selects.ensures.selects ∙ c.if-selects.true) in
-    on_both c.pass_selected.result _ _ _
+    if_both c.pass_selected.result _ _ _
     (λ counted shown. one_selected p job c.args.state.now c.pass_selected.new.state (held c.args.output.now) (held c.pass_selected.new.output) line selected counted shown)
     c.pass_selected.ensures.counted (c.pass_selected.ensures.shown p is)
 

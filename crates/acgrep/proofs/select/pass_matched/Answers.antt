@@ -1,5 +1,5 @@
 -- A line in which a pattern occurs matches or not.
-use Rattle.std.proofs.Common.{[], ◌∷◌, None, refl}
+use Rattle.std.proofs.Common.{◌∷◌, None, [], refl}
 use Rattle.std.proofs.KnownBytes.{Appends-nil}
 use Rattle.acgrep.specs.Contexts.{TellsFrom}
 use Rattle.acgrep.proofs.Beginnings.{on_err}

@@ -1,7 +1,7 @@
 -- Of the line a beginning is written, or nothing.
-use Rattle.std.proofs.Common.{rules, ◌≡◌, ℕ, [], ◌∷◌, Bool, None, refl, subst, sym, ap, ◌∙◌}
-use Rattle.std.specs.Prelude.{MatchBool, if◌then◌else◌}
+use Rattle.std.proofs.Common.{◌∙◌, ◌∷◌, ◌≡◌, Bool, None, [], ap, refl, rules, subst, sym, ℕ}
 use Rattle.std.proofs.KnownBytes.{Appends-nil}
+use Rattle.std.specs.Prelude.{MatchBool, if◌then◌else◌}
 use Rattle.acgrep.specs.Contexts.{BeginsLines, TellsFrom}
 use Rattle.acgrep.specs.Written.{WritesLine, is_full, one_more}
 use Rattle.acgrep.proofs.Beginnings.{begins_one, on_err, page_writes}

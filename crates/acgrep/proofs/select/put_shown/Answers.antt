@@ -1,5 +1,5 @@
 -- What is asked for is written: a coloured line, the matches or objects, or nothing.
-use Rattle.std.proofs.Common.{[], sym, ◌∙◌}
+use Rattle.std.proofs.Common.{◌∙◌, [], sym}
 use Rattle.std.proofs.KnownBytes.{Appends-nil}
 use Rattle.std.proofs.lemmas.Result.{on_ok_weaker}
 use Rattle.acgrep.specs.Alone.{asks_alone}

@@ -1,5 +1,5 @@
 -- What is left of the text was not searched yet.
-use Rattle.std.proofs.Common.{inl, inr, length, refl, ap, subst, arith}
+use Rattle.std.proofs.Common.{ap, arith, inl, inr, length, refl, subst}
 use Rattle.acgrep.specs.Written.{HasNone}
 use Rattle.acgrep.proofs.Beginnings.{begins_rest, on_err}
 use Rattle.acgrep.proofs.Tellings.{searches_join, searches_start, settled_some}

@@ -1,5 +1,6 @@
 -- The lines before the one that was found have no match, and it has one.
-use Rattle.std.proofs.Common.{◌≡◌, ℕ, ◌+◌, ◌-◌, List, ◌∷◌, ◌++◌, None, [], length, take, drop, refl, sym, ◌∙◌, ap, arith}
+use Rattle.std.proofs.Common.{◌++◌, ◌+◌, ◌-◌, ◌∙◌, ◌∷◌, ◌≡◌, List, None, [], ap, arith, drop, length, refl, sym, take, ℕ}
+use Rattle.std.proofs.KnownBytes.{Appends-nil}
 use Rattle.std.specs.Prelude.{slice_range}
 use Rattle.aho_core.specs.Patterns.{Patterns}
 use Rattle.chromesquid.specs.Searcher.{IsBuiltFrom}
@@ -7,7 +8,6 @@ use Rattle.acgrep.specs.Contexts.{TellsFrom}
 use Rattle.acgrep.specs.Lines.{lines}
 use Rattle.acgrep.specs.Selected.{HoldNoEnding, IsFirstWith}
 use Rattle.acgrep.specs.Written.{HasNone}
-use Rattle.std.proofs.KnownBytes.{Appends-nil}
 use Rattle.acgrep.proofs.Beginnings.{begins_front, begins_line, on_err}
 use Rattle.acgrep.proofs.Begun.{begins_nothing}
 use Rattle.acgrep.proofs.LineLists.{cut_lines, first_has, front_ends, front_lines, none_in_lines, take_zero}

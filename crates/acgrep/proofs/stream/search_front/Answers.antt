@@ -1,5 +1,5 @@
 -- Nothing is there at first.
-use Rattle.std.proofs.Common.{◌≡◌, ℕ, List, [], take, subst, ◌∙◌, ap}
+use Rattle.std.proofs.Common.{◌∙◌, ◌≡◌, List, [], ap, subst, take, ℕ}
 use Rattle.std.specs.Prelude.{IfOk, OnErr}
 use Rattle.acgrep.specs.Binary.{is_text}
 use Rattle.acgrep.specs.Guarded.{EndsFront}

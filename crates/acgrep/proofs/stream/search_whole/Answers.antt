@@ -1,7 +1,7 @@
 -- The whole lines are searched, and dropped from the buffer.
-use Rattle.std.proofs.Common.{ℕ, ◌-◌, ◌≡◌, ◌≤◌, ◌<◌, List, length, subst, take}
-use Rattle.acgrep.specs.Lines.{IsEnding, lines}
+use Rattle.std.proofs.Common.{◌-◌, ◌<◌, ◌≡◌, ◌≤◌, List, length, subst, take, ℕ}
 use Rattle.acgrep.specs.Contexts.{BeginsSearched, SearchesText}
+use Rattle.acgrep.specs.Lines.{IsEnding, lines}
 use Rattle.acgrep.proofs.Beginnings.{on_err}
 use Rattle.acgrep.proofs.Streams.{whole_searched}
 use Rattle.acgrep.proofs.StreamsBegun.{whole_begins}

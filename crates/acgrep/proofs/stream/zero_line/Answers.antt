@@ -1,5 +1,5 @@
 -- The first zero byte stands in the line that begins behind the last end of a line before it.
-use Rattle.std.proofs.Common.{◌≡◌, ℕ, ◌+◌, ◌-◌, ◌≤◌, List, Some, arith, drop, length, length-drop, length-take-le, subst, take, take_all, true}
+use Rattle.std.proofs.Common.{◌+◌, ◌-◌, ◌≡◌, ◌≤◌, List, Some, arith, drop, length, length-drop, length-take-le, subst, take, take_all, true, ℕ}
 use Rattle.memchr.specs.Find.{IsFirst, Nowhere}
 use Rattle.acgrep.specs.Binary.{is_text}
 use Rattle.acgrep.specs.Lines.{IsEnding}

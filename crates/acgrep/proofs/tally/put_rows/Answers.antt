@@ -1,5 +1,5 @@
 -- Where no count is left no row is.
-use Rattle.std.proofs.Common.{rules, ◌≡◌, ◌-◌, ◌++◌, length, sym, ap, ◌∙◌, append-nil}
+use Rattle.std.proofs.Common.{◌++◌, ◌-◌, ◌∙◌, ◌≡◌, ap, append-nil, length, rules, sym}
 use Rattle.aho_core.specs.Replacement.{pieces_of}
 use Rattle.acgrep.proofs.Tallied.{rows-end}
 use Rattle.acgrep.proofs.tally.put_rows.Goals as goal

@@ -1,10 +1,10 @@
 -- A line more is counted.
-use Rattle.std.proofs.Common.{◌≡◌, suc, ◌<◌, ◌∷◌, length, take, drop, sym, ◌∙◌, ap, add-one, arith}
+use Rattle.std.proofs.Common.{◌<◌, ◌∙◌, ◌∷◌, ◌≡◌, add-one, ap, arith, drop, length, suc, sym, take}
 use Rattle.std.proofs.lemmas.Grind.{common_steps}
+use Rattle.std.proofs.lemmas.List.{nil_from_length}
 use Rattle.acgrep.specs.Lines.{lines}
 use Rattle.acgrep.proofs.FirstLines.{lines_first}
 use Rattle.acgrep.proofs.Tallied.{counted-end, counted-start, counted-step}
-use Rattle.acgrep.proofs.Walking.{all-gone}
 use Rattle.acgrep.proofs.tally.tally.Goals as goal
 
 pub loop-rest-init : goal.loop-rest-init
@@ -24,4 +24,4 @@ pub returns : goal.returns
 returns c =
     let rest = c.loop-rest.rest.now in
     let none : length rest ≡ 0 = grind (arith, common_steps, c.is_empty.ensures, c.loop-rest-test.false) in
-    record { counted = counted-end c.args.ending c.args.numbers.now rest c.args.counts.now c.loop-rest.counts (all-gone rest none) c.loop-rest.invariant }
+    record { counted = counted-end c.args.ending c.args.numbers.now rest c.args.counts.now c.loop-rest.counts (nil_from_length rest none) c.loop-rest.invariant }

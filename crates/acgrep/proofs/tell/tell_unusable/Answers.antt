@@ -1,7 +1,8 @@
 -- A message is told.
-use Rattle.std.proofs.Common.{inr}
-use Rattle.acgrep.proofs.Told.{tells-unusable}
+use Rattle.std.proofs.Common.{None, Some, inl, inr, refl}
+use Rattle.acgrep.specs.Told.{unusable_text}
+use Rattle.acgrep.proofs.Told.{tells-cause}
 use Rattle.acgrep.proofs.tell.tell_unusable.Goals as goal
 
 pub returns : goal.returns
-returns g c = record { told = λ names is. tells-unusable g.E.Sink names c.args.errors.now c.tell.new.self c.args.name.now (inr is) c.tell.ensures.told }
+returns g c = record { told = λ names is. tells-cause g.E.Sink names _ _ (Some c.args.name.now) None unusable_text (inr is) (inl (inr (inr (inr (inr (inr (inr refl))))))) c.tell.ensures.told }

@@ -1,12 +1,13 @@
 -- A walk begins at the operands, or in the working folder.
-use Rattle.std.proofs.Common.{◌≡◌, ◌∷◌, ◌<◌, [], ◌++◌, ◌∙◌, List, ℕ, length, map, ap, subst, sym, arith}
+use Rattle.std.proofs.Common.{◌++◌, ◌<◌, ◌∙◌, ◌∷◌, ◌≡◌, List, [], ap, arith, length, subst, sym, ℕ}
 use Rattle.std.proofs.lemmas.Grind.{common_steps}
-use Rattle.std.proofs.lemmas.List.{length-map}
+use Rattle.std.proofs.lemmas.List.{length-map, nil_from_length}
 use Rattle.std.proofs.lemmas.Result.{on_ok_weaker}
+use Rattle.std.specs.Prelude.{map}
 use Rattle.tool_parts.specs.Names.{name_bytes}
 use Rattle.acgrep.specs.Folders.{Begins, PutsInside, Spot, missed_of, operand, spots_of, tree_of}
 use Rattle.acgrep.specs.Listed.{listed_bytes}
-use Rattle.acgrep.proofs.Walking.{all-gone, begins-given, begins-here, begins-nowhere}
+use Rattle.acgrep.proofs.Walking.{begins-given, begins-here, begins-nowhere}
 use Rattle.acgrep.proofs.walk.begin.Goals as goal
 
 pub returns-then-not-is_empty : goal.returns-then-not-is_empty
@@ -28,7 +29,7 @@ returns-in_ok-above-in-Ok g c =
     let tree = tree_of g.F.Folders c.args.files.now in
     let found = c.args.found.now in
     let empty : length c.args.operands.now ≡ 0 = grind (arith, common_steps, c.is_empty.ensures, c.if-not-is_empty.false) in
-    let none : name_bytes c.args.operands.now ≡ [] = ap name_bytes (all-gone c.args.operands.now empty) in
+    let none : name_bytes c.args.operands.now ≡ [] = ap name_bytes (nil_from_length c.args.operands.now empty) in
     let names = listed_bytes c.in-Ok.names.items in
     let after = spots_of c.put_first.new.pending.items in
     record {
@@ -44,7 +45,7 @@ returns-in_ok-from_slice-in-Err g c =
     let tree = tree_of g.F.Folders c.args.files.now in
     let found = c.miss.new.self in
     let empty : length c.args.operands.now ≡ 0 = grind (arith, common_steps, c.is_empty.ensures, c.if-not-is_empty.false) in
-    let none : name_bytes c.args.operands.now ≡ [] = ap name_bytes (all-gone c.args.operands.now empty) in
+    let none : name_bytes c.args.operands.now ≡ [] = ap name_bytes (nil_from_length c.args.operands.now empty) in
     record {
       begun = on_ok_weaker c.miss.result
           (λ grown rules. subst (λ (operands : List (List ℕ)). Begins tree rules c.args.ways operands (spots_of c.args.pending.now.items) found) (sym none)

@@ -1,5 +1,5 @@
 -- The names of a folder were put down in order.
-use Rattle.std.proofs.Common.{List, ℕ, subst}
+use Rattle.std.proofs.Common.{List, subst, ℕ}
 use Rattle.std.proofs.lemmas.Result.{on_ok_weaker}
 use Rattle.acgrep.specs.Folders.{PutsInside, spots_of, tree_of}
 use Rattle.acgrep.specs.Listed.{listed_bytes}

@@ -1,5 +1,5 @@
 -- A name was looked at.
-use Rattle.std.proofs.Common.{◌≡◌, ◌∙◌, Bool, List, ℕ, subst, sym}
+use Rattle.std.proofs.Common.{◌∙◌, ◌≡◌, Bool, List, subst, sym, ℕ}
 use Rattle.std.proofs.lemmas.Result.{on_ok_weaker}
 use Rattle.acgrep.specs.Folders.{IsUnknown, is_followed, spot_of, spots_of, tree_of}
 use Rattle.acgrep.specs.Rules.{rules_said}

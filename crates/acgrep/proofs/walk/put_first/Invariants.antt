@@ -1,5 +1,5 @@
 -- The names behind those that are left were put down.
-use Rattle.std.proofs.Common.{◌≡◌, ◌++◌, length}
+use Rattle.std.proofs.Common.{◌++◌, ◌≡◌, length}
 use Rattle.std.specs.Prelude.{map}
 use Rattle.acgrep.specs.Folders.{inside, spots_of}
 use Rattle.acgrep.specs.Listed.{listed_bytes}

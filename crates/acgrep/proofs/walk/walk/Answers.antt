@@ -1,9 +1,10 @@
 -- A name more was looked at; where none is left the walk is done.
-use Rattle.std.proofs.Common.{rules, length, ◌≡◌, [], ◌∷◌, List, ap, subst}
+use Rattle.std.proofs.Common.{◌∷◌, ◌≡◌, List, [], ap, length, rules, subst}
+use Rattle.std.proofs.lemmas.List.{nil_from_length}
 use Rattle.tool_parts.specs.Names.{name_bytes}
 use Rattle.acgrep.specs.Folders.{Begins, Spot, spot_of, spots_of, tree_of}
 use Rattle.acgrep.specs.Rules.{rules_said}
-use Rattle.acgrep.proofs.Walking.{all-gone, begins-end, begins-then}
+use Rattle.acgrep.proofs.Walking.{begins-end, begins-then}
 use Rattle.acgrep.proofs.walk.walk.Goals as goal
 
 pub loop-preserved : goal.loop-preserved
@@ -22,5 +23,5 @@ returns-in_default g c =
     let ruled = rules_said c.args.rules.now in
     let operands = name_bytes c.args.operands.now in
     let gone : length c.loop.pending.items ≡ 0 = search rules in
-    let none : c.loop.pending.items ≡ [] = all-gone c.loop.pending.items gone in
+    let none : c.loop.pending.items ≡ [] = nil_from_length c.loop.pending.items gone in
     record { found = begins-end tree ruled c.args.ways operands c.loop.found (subst (λ (l : List Spot). Begins tree ruled c.args.ways operands l c.loop.found) (ap spots_of none) c.loop.invariant) }

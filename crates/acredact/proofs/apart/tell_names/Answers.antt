@@ -2,14 +2,13 @@
 use Rattle.std.proofs.Common.{rules, ◌≡◌, [], ◌++◌, length, refl, sym, ap, subst, ◌∙◌, append-nil, append_assoc}
 use Rattle.std.proofs.lemmas.List.{nil_from_length}
 use Rattle.tool_parts.specs.Telling.{TellsBytes}
-use Rattle.tool_parts.proofs.Tellings.{tells-later}
+use Rattle.tool_parts.proofs.Tellings.{tells-later, tells-nothing}
 use Rattle.acredact.specs.Apart.{unnamed_line, unnamed_lines}
 use Rattle.acredact.specs.Reads.{bytes_of_names}
-use Rattle.acredact.proofs.Done.{tells_none}
 use Rattle.acredact.proofs.apart.tell_names.Goals as goal
 
 pub loop-name-init : goal.loop-name-init
-loop-name-init g c = ([], refl, tells_none g.E.Sink _)
+loop-name-init g c = ([], refl, tells-nothing g.E.Sink _)
 
 pub loop-name-preserved : goal.loop-name-preserved
 loop-name-preserved g c =

@@ -1,9 +1,7 @@
 -- The status of a check.
-use Rattle.std.proofs.Common.{ℕ, sym, subst}
 use Rattle.tool_parts.specs.Streams.{bytes_left}
 use Rattle.acredact.specs.Arguments.{all_given}
 use Rattle.acredact.specs.Calls.{call_of}
-use Rattle.acredact.specs.Checks.{CheckStatus}
 use Rattle.acredact.proofs.Checks.{status_ended, status_seen}
 use Rattle.acredact.proofs.check.check.Goals as goal
 
@@ -11,7 +9,7 @@ pub returns-in-Ok : goal.returns-in-Ok
 returns-in-Ok g c = record {
   patternless = λ none. absurd (c.in-Ok.ensures.patternless none);
   unread = c.in-Ok.ensures.unread;
-  says = subst (λ (status : ℕ). CheckStatus g.E.Sink (call_of g.F.Folder c.args.folder.now (all_given c.args.given.now)) status (bytes_left c.args.input.now) (bytes_left c.check_given.new.input) c.args.errors.now c.check_given.new.errors) (sym c.status_of.ensures.status)
+  says = rw c.status_of.ensures.status
       (status_seen g.E.Sink (call_of g.F.Folder c.args.folder.now (all_given c.args.given.now)) (bytes_left c.args.input.now) (bytes_left c.check_given.new.input) c.args.errors.now c.in-Ok.verdict c.check_given.new.errors c.in-Ok.ensures.outcome);
 }
 
@@ -21,6 +19,6 @@ returns-in-Err g c = record {
   unread = c.in-Err.ensures.unread;
   says =
       (let told = c.report.ensures.told in
-      subst (λ (status : ℕ). CheckStatus g.E.Sink (call_of g.F.Folder c.args.folder.now (all_given c.args.given.now)) status (bytes_left c.args.input.now) (bytes_left c.check_given.new.input) c.args.errors.now c.report.new.errors) (sym c.report.ensures.failed)
+      rw c.report.ensures.failed
       (status_ended g.E.Sink (call_of g.F.Folder c.args.folder.now (all_given c.args.given.now)) (bytes_left c.args.input.now) (bytes_left c.check_given.new.input) c.args.errors.now c.in-Err.failure c.check_given.new.errors c.report.new.errors told.0 c.in-Err.ensures.outcome told.1 told.2));
 }

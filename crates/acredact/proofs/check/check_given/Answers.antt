@@ -4,7 +4,7 @@ use Rattle.tool_parts.specs.Streams.{bytes_left}
 use Rattle.acredact.specs.Arguments.{all_given}
 use Rattle.acredact.specs.Calls.{call_of, gives_pattern, reading_by, rules_asked}
 use Rattle.acredact.specs.Loading.{AreGiven, CannotLoadAll}
-use Rattle.acredact.specs.Tables.{HaveNoEmpty, Secret, secrets_of}
+use Rattle.acredact.specs.Tables.{Secret, secrets_of}
 use Rattle.acredact.proofs.Checks.{check_load_fails, check_refused}
 use Rattle.acredact.proofs.Ready.{given_some, gives_none, reading_from}
 use Rattle.acredact.proofs.check.check_given.Goals as goal
@@ -16,7 +16,7 @@ returns-then-not-gives_pattern-clause-outcome g c =
 
 pub check_loaded-requires : goal.check_loaded-requires
 check_loaded-requires g c = record {
-  some = subst (λ (l : List _). HaveNoEmpty (secrets_of l)) (sym c.as_slice.ensures.value) (given_some _ _ _ _ _ c.in-Ok.ensures.given);
+  some = rw c.as_slice.ensures.value (given_some _ _ _ _ _ c.in-Ok.ensures.given);
 }
 
 pub returns-in-Ok-clause-outcome : goal.returns-in-Ok-clause-outcome

@@ -1,18 +1,13 @@
 -- What is ready is looked for in the files that are asked for.
-use Rattle.std.proofs.Common.{rules, ◌≡◌, ◌∙◌, ap, subst, sym}
-use Rattle.std.specs.Prelude.{Bool, Err, Result}
-use Rattle.tool_parts.specs.Names.{name_bytes}
-use Rattle.tool_parts.specs.Streams.{bytes_left}
+use Rattle.std.proofs.Common.{rules, ◌≡◌, refl}
+use Rattle.std.specs.Prelude.{Err}
 use Rattle.tool_parts.specs.declared.failure.Failure.TheVariants.{OutOfMemory}
 use Rattle.acredact.specs.Arguments.{all_given}
 use Rattle.acredact.specs.Builds.{patterns_by_given}
-use Rattle.acredact.specs.Calls.{call_of, names_asked}
-use Rattle.acredact.specs.Checks.{SeesFiles, quest_by, quest_of}
+use Rattle.acredact.specs.Calls.{IsUnreadLine, names_asked}
 use Rattle.acredact.specs.Tables.{patterns_in, secrets_of}
-use Rattle.acredact.specs.declared.failure.Failure.{Failure}
 use Rattle.acredact.specs.declared.failure.Failure.TheVariants.{Other}
-use Rattle.acredact.specs.declared.look.Verdict.{Verdict}
-use Rattle.acredact.proofs.Checks.{seen_fails, seen_refused, seen_whole}
+use Rattle.acredact.proofs.Calls.{tells_same}
 use Rattle.acredact.proofs.Ready.{ready_looks}
 use Rattle.acredact.proofs.check.check_rules.Goals as goal
 
@@ -22,14 +17,14 @@ look_by-requires g c = record { ready = ready_looks (all_given c.args.given.now)
 pub returns-in_err-look_by-in-Ok-clause-sees : goal.returns-in_err-look_by-in-Ok-clause-sees
 returns-in_err-look_by-in-Ok-clause-sees g c =
     let is : c.from_residual.result ≡ Err (Other OutOfMemory) = search rules in
-    subst (λ (r : Result Verdict Failure). SeesFiles g.E.Sink (quest_by (call_of g.F.Folder c.args.folder.now (all_given c.args.given.now)) (secrets_of c.args.rules.now)) (names_asked (all_given c.args.given.now)) r (bytes_left c.args.input.now) (bytes_left c.look_by.new.input) c.args.errors.now c.look_by.new.errors) (sym is)
-    (seen_fails g.E.Sink _ _ _ _ c.in_err-look_by-in-Ok.field-0.0 _ _ _ _ _ (ap name_bytes c.as_slice.ensures.value ∙ c.in-Ok.ensures.ready.names) (c.in_err-look_by-in-Ok.ensures.sees _ c.in-Ok.ensures.ready.of))
+    rw is
+    (record { seen = tt; quiet = tt; told = rw (c.as_slice.ensures.value, c.in-Ok.ensures.ready.names) at (c.in_err-look_by-in-Ok.ensures.sees _ c.in-Ok.ensures.ready.of).told })
 
 pub returns-in_ok-look_by-in-Ok-clause-sees : goal.returns-in_ok-look_by-in-Ok-clause-sees
 returns-in_ok-look_by-in-Ok-clause-sees g c =
     let p = patterns_by_given (all_given c.args.given.now) (patterns_in (secrets_of c.args.rules.now)) in
-    seen_whole g.E.Sink _ _ _ _ _ _ _ _ _ (ap (λ (b : Bool). quest_of g.F.Folder c.args.folder.now b p) c.words.ensures.words) (ap name_bytes c.as_slice.ensures.value ∙ c.in-Ok.ensures.ready.names)
-    (c.in_ok-look_by-in-Ok.ensures.sees p c.in-Ok.ensures.ready.of)
+    let sees = rw (c.words.ensures.words, c.as_slice.ensures.value, c.in-Ok.ensures.ready.names) at (c.in_ok-look_by-in-Ok.ensures.sees p c.in-Ok.ensures.ready.of) in
+    record { seen = sees.seen; quiet = sees.quiet; told = tt }
 
 pub returns-in-Err-clause-sees : goal.returns-in-Err-clause-sees
-returns-in-Err-clause-sees g c = seen_refused g.E.Sink _ _ _ _ _ _
+returns-in-Err-clause-sees g c = record { seen = tt; quiet = tt; told = tells_same g.E.Sink (IsUnreadLine (names_asked (all_given c.args.given.now))) _ _ refl }

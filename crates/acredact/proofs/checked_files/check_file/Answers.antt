@@ -1,22 +1,19 @@
 -- The file is that of the input, or of the folder.
-use Rattle.std.proofs.Common.{List, ℕ, ◌∙◌, sym, refl, subst}
-use Rattle.tool_parts.specs.Streams.{bytes_left}
-use Rattle.acredact.specs.RuledChecks.{LookedText, labels_of, quest_in}
-use Rattle.acredact.proofs.LookedFiles.{looked_input, looked_opened, looked_refused}
+use Rattle.std.proofs.Common.{◌≡◌, ◌∙◌, false, refl, sym, true}
+use Rattle.acredact.specs.RuledChecks.{quest_in}
+use Rattle.acredact.proofs.LookedFiles.{looked_input, looked_opened, named_none}
 use Rattle.acredact.proofs.checked_files.check_file.Goals as goal
 
 pub returns-then-is_input-clause-looked : goal.returns-then-is_input-clause-looked
 returns-then-is_input-clause-looked g c = λ covering covered.
     looked_input (quest_in g.F.Folder c.args.checked.now covering) c.args.name.now _ _ _ _ c.check_input.result (sym c.is_input.ensures.is ∙ c.if-is_input.true)
-    (subst (λ (n : List ℕ). LookedText covering (labels_of c.args.checked.now.legend) n c.check_input.result (bytes_left c.args.input.now) (bytes_left c.check_input.new.input) (g.W.Sink.taken c.args.output.now) (g.W.Sink.taken c.check_input.new.output))
-    c.as_bytes.ensures.value (c.check_input.ensures.looked covering covered))
+    (rw c.as_bytes.ensures.value at (c.check_input.ensures.looked covering covered))
 
 pub returns-in-Ok-clause-looked : goal.returns-in-Ok-clause-looked
 returns-in-Ok-clause-looked g c = λ covering covered.
     looked_opened (quest_in g.F.Folder c.args.checked.now covering) c.args.name.now _ _ _ _ c.check_input-in-Ok.result (sym c.is_input.ensures.is ∙ c.if-is_input.false) refl _ _ c.in-Ok.ensures.told
-    (subst (λ (n : List ℕ). LookedText covering (labels_of c.args.checked.now.legend) n c.check_input-in-Ok.result (bytes_left c.in-Ok.source) (bytes_left c.check_input-in-Ok.new.input) (g.W.Sink.taken c.args.output.now) (g.W.Sink.taken c.check_input-in-Ok.new.output))
-    c.as_bytes.ensures.value (c.check_input-in-Ok.ensures.looked covering covered))
+    (rw c.as_bytes.ensures.value at (c.check_input-in-Ok.ensures.looked covering covered))
 
 pub returns-in-Err-clause-looked : goal.returns-in-Err-clause-looked
 returns-in-Err-clause-looked g c = λ covering covered.
-    looked_refused (quest_in g.F.Folder c.args.checked.now covering) c.args.name.now _ _ _
+    record { whole = λ (is : false ≡ true). absurd (cc); begun = named_none (quest_in g.F.Folder c.args.checked.now covering) c.args.name.now _ _ }

@@ -3,16 +3,15 @@ use Rattle.std.proofs.Common.{rules, ◌≡◌, ◌≤◌, [], ◌++◌, length,
 use Rattle.std.specs.List.{concat}
 use Rattle.std.proofs.lemmas.List.{nil_from_length}
 use Rattle.tool_parts.specs.Telling.{TellsBytes}
-use Rattle.tool_parts.proofs.Tellings.{tells-later}
+use Rattle.tool_parts.proofs.Tellings.{tells-later, tells-nothing}
 use Rattle.acredact.specs.Arguments.{all_given}
 use Rattle.acredact.specs.Doubts.{doubt_lines, list_doubt_lines}
 use Rattle.acredact.specs.Tables.{secrets_of}
-use Rattle.acredact.proofs.Done.{tells_none}
 use Rattle.acredact.proofs.Doubting.{told_next}
 use Rattle.acredact.proofs.doubts.tell_doubtful.Goals as goal
 
 pub loop-rest-init : goal.loop-rest-init
-loop-rest-init g c = ([], refl, tells_none g.E.Sink _)
+loop-rest-init g c = ([], refl, tells-nothing g.E.Sink _)
 
 pub loop-rest-preserved : goal.loop-rest-preserved
 loop-rest-preserved g c =

@@ -1,26 +1,37 @@
 -- The file is that of the input, or of the folder.
-use Rattle.std.proofs.Common.{◌∙◌, sym, refl}
+use Rattle.std.proofs.Common.{◌∙◌, inr, sym, refl}
+use Rattle.std.proofs.KnownBytes.{Keeps-refl}
+use Rattle.tool_parts.specs.Streams.{output_bytes}
+use Rattle.acredact.specs.Bounds.{NumbersRead}
 use Rattle.acredact.specs.Files.{work_of}
-use Rattle.acredact.proofs.Bounded.{input_numbers, no_numbers, opened_numbers}
-use Rattle.acredact.proofs.OneFile.{file_input, file_opened, file_refused}
+use Rattle.acredact.specs.Totals.{HasRanges}
+use Rattle.acredact.proofs.Bounded.{no_numbers, opened_numbers}
+use Rattle.acredact.proofs.OneFile.{comes_input, comes_opened, of_input}
 use Rattle.acredact.proofs.Metering.{input_bytes, opened_bytes}
-use Rattle.acredact.proofs.Totals.{input_counts, opened_counts}
+use Rattle.acredact.proofs.Totals.{opened_counts}
 use Rattle.acredact.proofs.files.redact_file.Goals as goal
 
 pub returns-then-is_input-clause-outcome : goal.returns-then-is_input-clause-outcome
-returns-then-is_input-clause-outcome g c = λ red by. file_input g.W.Write (work_of g.F.Folder c.args.job.now red) _ _ _ _ _ _ (sym c.is_input.ensures.is ∙ c.if-is_input.true) (c.redact_input.ensures.outcome red by)
+returns-then-is_input-clause-outcome g c = λ red by.
+    let text = c.redact_input.ensures.outcome red by in
+    record { comes = comes_input (work_of g.F.Folder c.args.job.now red) c.args.name.now _ _ _ _ c.redact_input.result (sym c.is_input.ensures.is ∙ c.if-is_input.true) text.comes; fails = text.fails }
 
 pub returns-in-Ok-clause-outcome : goal.returns-in-Ok-clause-outcome
 returns-in-Ok-clause-outcome g c = λ red by.
-    file_opened g.W.Write (work_of g.F.Folder c.args.job.now red) _ _ _ _ _ _ (sym c.is_input.ensures.is ∙ c.if-is_input.false) refl _ _ c.in-Ok.ensures.told (c.redact_input-in-Ok.ensures.outcome red by)
+    let text = c.redact_input-in-Ok.ensures.outcome red by in
+    record {
+      comes = comes_opened (work_of g.F.Folder c.args.job.now red) c.args.name.now _ _ _ _ c.redact_input-in-Ok.result (sym c.is_input.ensures.is ∙ c.if-is_input.false) refl _ _ c.in-Ok.ensures.told text.comes;
+      fails = text.fails;
+    }
 
 pub returns-in-Err-clause-outcome : goal.returns-in-Err-clause-outcome
 returns-in-Err-clause-outcome g c = λ red by.
-    file_refused g.W.Write (work_of g.F.Folder c.args.job.now red) by.some _ _ _ _ (sym c.is_input.ensures.is ∙ c.if-is_input.false) c.in-Err.ensures.refused
+    record { comes = inr (c.in-Err.ensures.refused, refl, Keeps-refl (output_bytes g.W.Write c.args.output.now)); fails = record { write_failed = refl; took_nothing = refl; only = tt } }
 
 pub returns-then-is_input-clause-counted : goal.returns-then-is_input-clause-counted
 returns-then-is_input-clause-counted g c = λ red by whole.
-    input_counts (work_of g.F.Folder c.args.job.now red) c.args.name.now _ _ _ _ (sym c.is_input.ensures.is ∙ c.if-is_input.true) (c.redact_input.ensures.counted whole red by)
+    let (ranges, has, counted) = c.redact_input.ensures.counted whole red by in
+    (ranges, of_input (g.F.Folder.holds c.args.job.now.folder.now) c.args.name.now (HasRanges red ranges) _ _ (sym c.is_input.ensures.is ∙ c.if-is_input.true) has, counted)
 
 pub returns-in-Ok-clause-counted : goal.returns-in-Ok-clause-counted
 returns-in-Ok-clause-counted g c = λ red by whole.
@@ -36,7 +47,7 @@ returns-in-Ok-clause-read g c = λ whole.
 
 pub returns-then-is_input-clause-most : goal.returns-then-is_input-clause-most
 returns-then-is_input-clause-most g c =
-    input_numbers (g.F.Folder.holds c.args.job.now.folder.now) c.args.name.now _ _ _ _ _ _ (sym c.is_input.ensures.is ∙ c.if-is_input.true) c.redact_input.ensures.most
+    of_input (g.F.Folder.holds c.args.job.now.folder.now) c.args.name.now (NumbersRead c.args.counts.now c.redact_input.new.counts c.args.volume.now.bytes c.redact_input.new.volume.bytes) _ _ (sym c.is_input.ensures.is ∙ c.if-is_input.true) c.redact_input.ensures.most
 
 pub returns-in-Ok-clause-most : goal.returns-in-Ok-clause-most
 returns-in-Ok-clause-most g c =

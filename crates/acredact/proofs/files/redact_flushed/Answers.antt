@@ -1,14 +1,14 @@
 -- A file more is done.
-use Rattle.std.proofs.Common.{rules, arith, ◌≡◌, ◌∙◌, ◌≤◌, ℕ, List, ap, length, subst, sym, true}
-use Rattle.std.specs.Prelude.{Bool, Result, Ok, Err}
-use Rattle.aho_core.specs.declared.error.stream.StreamError.{StreamError}
+use Rattle.std.proofs.Common.{rules, arith, ◌≡◌, ◌∙◌, ◌≤◌, ℕ, List, ap, length, subst, true}
+use Rattle.std.specs.Prelude.{Bool, Ok, Err}
 use Rattle.tool_parts.specs.Names.{name_bytes}
 use Rattle.tool_parts.specs.Streams.{bytes_left}
-use Rattle.acredact.specs.Files.{FilesOutcome, work_of}
+use Rattle.acredact.specs.Files.{work_of}
 use Rattle.acredact.proofs.Bounded.{NumbersSoFar, all_numbered, more_numbered, none_numbered, one_file}
 use Rattle.acredact.proofs.Done.{both_so, far_all, far_fails, far_next, far_none, flush_done, flush_fails, names_cut, names_end}
 use Rattle.acredact.specs.Volumes.{files_with}
 use Rattle.acredact.proofs.Metering.{VolumeSoFar, all_read, far_read, far_unread}
+use Rattle.acredact.proofs.Suited.{job_cut}
 use Rattle.acredact.proofs.Totals.{CountedSoFar, all_counted, far_counted, far_uncounted}
 use Rattle.acredact.proofs.files.redact_flushed.Goals as goal
 
@@ -49,47 +49,41 @@ loop-rest-preserved g c = (
       (omega (arith, c.add_file.ensures.files, c.in_ok-whole.ensures.files, one_file c.in_ok-whole.whole c.redact_told.new.volume.files))),
 )
 
-pub returns-in_err-whole-clause-outcome : goal.returns-in_err-whole-clause-outcome
-returns-in_err-whole-clause-outcome g c =
+pub returns-in_err-whole : goal.returns-in_err-whole
+returns-in_err-whole g c =
     let is : c.from_residual.result ≡ Err c.in_err-whole.field-0.0 = search rules in
-    let some : 1 ≤ length c.loop-rest.rest.now = search rules in λ red by.
-    subst (λ (r : Result Bool StreamError). FilesOutcome g.W.Write g.E.Sink (work_of g.F.Folder c.args.job.now red) r c.args.streams.now c.redact_told.new.streams) (sym is)
-    (far_fails g.W.Write g.E.Sink (work_of g.F.Folder c.args.job.now red) _ _ _ c.loop-rest.all _ c.args.streams.now c.loop-rest.streams _ (c.loop-rest.invariant.1 red by).1 (names_cut c.loop-rest.rest.now _ some)
-    (c.in_err-whole.ensures.outcome red (c.loop-rest.invariant.1 red by).0))
+    let some : 1 ≤ length c.loop-rest.rest.now = search rules in
+    record {
+      done = λ red by. rw is (job_cut g.W.Write g.E.Sink g.F.Folder c.args.job.now _ _ _ _ _ _ red _
+          (far_fails g.W.Write g.E.Sink (work_of g.F.Folder c.args.job.now red) _ _ _ c.loop-rest.all _ c.args.streams.now c.loop-rest.streams _ (c.loop-rest.invariant.1 red by).1 (names_cut c.loop-rest.rest.now _ some)
+          (c.in_err-whole.ensures.outcome red (c.loop-rest.invariant.1 red by).0)));
+    }
 
-pub returns-in_err-flush-clause-outcome : goal.returns-in_err-flush-clause-outcome
-returns-in_err-flush-clause-outcome g c =
+pub returns-in_err-flush : goal.returns-in_err-flush
+returns-in_err-flush g c =
     let is : c.from_residual-in_err-flush.result ≡ Err c.in_err-flush.field-0.0 = search rules in
-    let none : length c.loop-rest.rest.now ≡ 0 = search rules in λ red by.
-    subst (λ (r : Result Bool StreamError). FilesOutcome g.W.Write g.E.Sink (work_of g.F.Folder c.args.job.now red) r c.args.streams.now (record c.loop-rest.streams { output = c.flush.new.self })) (sym is)
-    (flush_fails g.W.Write g.E.Sink (work_of g.F.Folder c.args.job.now red) c.loop-rest.all _ _ _ _
-    (far_all g.W.Write g.E.Sink (work_of g.F.Folder c.args.job.now red) _ c.loop-rest.all c.args.streams.now c.loop-rest.streams (c.loop-rest.invariant.1 red by).1 (names_end c.loop-rest.rest.now none))
-    c.in_err-flush.ensures.kept c.in_err-flush.ensures.failures c.in_err-flush.ensures.empty_writes c.in_err-flush.ensures.only)
-
-pub returns-clause-outcome : goal.returns-clause-outcome
-returns-clause-outcome g c =
-    let none : length c.loop-rest.rest.now ≡ 0 = search rules in λ red by.
-    flush_done g.W.Write g.E.Sink (work_of g.F.Folder c.args.job.now red) c.loop-rest.all _ _ _
-    (far_all g.W.Write g.E.Sink (work_of g.F.Folder c.args.job.now red) _ c.loop-rest.all c.args.streams.now c.loop-rest.streams (c.loop-rest.invariant.1 red by).1 (names_end c.loop-rest.rest.now none))
-    c.in_ok-flush.ensures.kept c.in_ok-flush.ensures.failures c.in_ok-flush.ensures.empty_writes
-
-pub returns-clause-counted : goal.returns-clause-counted
-returns-clause-counted g c =
-    let none : length c.loop-rest.rest.now ≡ 0 = search rules in λ red by whole.
-    all_counted (work_of g.F.Folder c.args.job.now red) _ _ _ _ _
-    (subst (λ (l : List (List ℕ)). CountedSoFar (work_of g.F.Folder c.args.job.now red) (name_bytes c.args.job.now.names.now) l (bytes_left c.args.streams.now.input) (bytes_left c.loop-rest.streams.input) c.args.counts.now c.loop-rest.counts)
-    (names_end c.loop-rest.rest.now none) ((c.loop-rest.invariant.1 red by).2 (let is = whole in cc)))
-
-pub returns-clause-read : goal.returns-clause-read
-returns-clause-read g c =
-    let none : length c.loop-rest.rest.now ≡ 0 = search rules in λ whole.
-    all_read (g.F.Folder.holds c.args.job.now.folder.now) _ _ _ _ _
-    (subst (λ (l : List (List ℕ)). VolumeSoFar (g.F.Folder.holds c.args.job.now.folder.now) (name_bytes c.args.job.now.names.now) l c.args.volume.now c.loop-rest.volume (bytes_left c.args.streams.now.input) (bytes_left c.loop-rest.streams.input))
-    (names_end c.loop-rest.rest.now none) (c.loop-rest.invariant.0 (let is = whole in cc)))
-
-pub returns-clause-most : goal.returns-clause-most
-returns-clause-most g c =
     let none : length c.loop-rest.rest.now ≡ 0 = search rules in
-    all_numbered (g.F.Folder.holds c.args.job.now.folder.now) _ _ _ _ _ _ _
-    (subst (λ (l : List (List ℕ)). NumbersSoFar (g.F.Folder.holds c.args.job.now.folder.now) (name_bytes c.args.job.now.names.now) l c.args.counts.now c.loop-rest.counts c.args.volume.now c.loop-rest.volume (bytes_left c.args.streams.now.input) (bytes_left c.loop-rest.streams.input))
-    (names_end c.loop-rest.rest.now none) c.loop-rest.invariant.2)
+    record {
+      done = λ red by. rw is (job_cut g.W.Write g.E.Sink g.F.Folder c.args.job.now _ _ _ _ _ _ red _
+          (flush_fails g.W.Write g.E.Sink (work_of g.F.Folder c.args.job.now red) c.loop-rest.all _ c.args.streams.now c.loop-rest.streams _
+          (far_all g.W.Write g.E.Sink (work_of g.F.Folder c.args.job.now red) _ c.loop-rest.all c.args.streams.now c.loop-rest.streams (c.loop-rest.invariant.1 red by).1 (names_end c.loop-rest.rest.now none))
+          c.in_err-flush.ensures.kept c.in_err-flush.ensures.failures c.in_err-flush.ensures.empty_writes c.in_err-flush.ensures.only));
+    }
+
+pub returns : goal.returns
+returns g c =
+    let none : length c.loop-rest.rest.now ≡ 0 = search rules in
+    let ends = names_end c.loop-rest.rest.now none in
+    record {
+      done = λ red by.
+          let (still, far, counted) = c.loop-rest.invariant.1 red by in
+          record {
+            outcome = flush_done g.W.Write g.E.Sink (work_of g.F.Folder c.args.job.now red) c.loop-rest.all _ _ _
+                (far_all g.W.Write g.E.Sink (work_of g.F.Folder c.args.job.now red) _ c.loop-rest.all c.args.streams.now c.loop-rest.streams far ends)
+                c.in_ok-flush.ensures.kept c.in_ok-flush.ensures.failures c.in_ok-flush.ensures.empty_writes;
+            counted = λ whole. all_counted (work_of g.F.Folder c.args.job.now red) _ _ _ _ _ (rw ends at (counted (let is = whole in cc)));
+            read = λ whole. all_read (g.F.Folder.holds c.args.job.now.folder.now) _ _ _ _ _ (rw ends at (c.loop-rest.invariant.0 (let is = whole in cc)));
+            most = all_numbered (g.F.Folder.holds c.args.job.now.folder.now) _ _ _ _ _ _ _ (rw ends at c.loop-rest.invariant.2);
+            flushed = search rules;
+          };
+    }

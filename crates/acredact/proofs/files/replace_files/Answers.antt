@@ -1,33 +1,12 @@
 -- The automaton replaces by its patterns.
 use Rattle.acredact.specs.Files.{redactor_of}
-use Rattle.acredact.proofs.Redactions.{some_of}
-use Rattle.acredact.proofs.Suited.{key_of_plain, redactor_is, words_of_plain}
+use Rattle.acredact.proofs.Suited.{redactor_is}
 use Rattle.acredact.proofs.files.replace_files.Goals as goal
 
 pub redact_flushed-requires : goal.redact_flushed-requires
 redact_flushed-requires g c =
-    let p = c.requires.ready.patterns in
-    let of = c.requires.ready.of in
-    record {
-      ready = (
-        redactor_of c.args.job.now p,
-        record {
-          by = redactor_is g.A.Automaton _ p _ _ _ _ _ _ of c.requires.plain (words_of_plain _ c.args.job.now.words c.requires.plain) (key_of_plain _ c.args.job.now.key c.requires.plain) c.requires.ready;
-          some = some_of g.A.Automaton _ p (g.met.A.Automaton.laws _ _ of).lengths_are c.requires.ready.begins;
-        },
-      );
-    }
+    let ready = c.requires.ready in
+    record { ready = (redactor_of c.args.job.now ready.patterns, redactor_is g.A.Automaton _ c.args.job.now ready.patterns ready.of ready c.requires.plain) }
 
-pub returns-clause-outcome : goal.returns-clause-outcome
-returns-clause-outcome g c = λ p of.
-    c.redact_flushed.ensures.outcome (redactor_of c.args.job.now p) (record {
-      by = redactor_is g.A.Automaton _ p _ _ _ _ _ _ of c.requires.plain (words_of_plain _ c.args.job.now.words c.requires.plain) (key_of_plain _ c.args.job.now.key c.requires.plain) c.requires.ready;
-      some = some_of g.A.Automaton _ p (g.met.A.Automaton.laws _ _ of).lengths_are c.requires.ready.begins;
-    })
-
-pub returns-clause-counted : goal.returns-clause-counted
-returns-clause-counted g c = λ p of.
-    c.redact_flushed.ensures.counted (redactor_of c.args.job.now p) (record {
-      by = redactor_is g.A.Automaton _ p _ _ _ _ _ _ of c.requires.plain (words_of_plain _ c.args.job.now.words c.requires.plain) (key_of_plain _ c.args.job.now.key c.requires.plain) c.requires.ready;
-      some = some_of g.A.Automaton _ p (g.met.A.Automaton.laws _ _ of).lengths_are c.requires.ready.begins;
-    })
+pub returns : goal.returns
+returns g c = record { done = λ p of. c.redact_flushed.ensures.done (redactor_of c.args.job.now p) (redactor_is g.A.Automaton _ c.args.job.now p of c.requires.ready c.requires.plain) }

@@ -1,69 +1,52 @@
 -- A new file is made, filled, and takes the place; or the file stays as it was.
-use Rattle.std.proofs.Common.{rules, ◌≡◌, ◌∙◌, [], ◌∷◌, inl, inr, refl, sym, subst, true, false}
-use Rattle.std.specs.Prelude.{Ok}
+use Rattle.std.proofs.Common.{rules, ◌≡◌, inl, inr, refl, true, false}
 use Rattle.tool_parts.specs.Names.{is_input}
-use Rattle.tool_parts.specs.Streams.{bytes_left}
 use Rattle.acredact.specs.Files.{redactor_of, work_of}
-use Rattle.acredact.specs.Totals.{CountsOfName}
-use Rattle.acredact.specs.Volumes.{ReadsVolume}
-use Rattle.acredact.proofs.PlacedCalls.{all_redacted, partly_settled, place_told, told_of_one, told_settled}
+use Rattle.acredact.specs.InPlace.{IsSparedLine}
+use Rattle.acredact.proofs.PlacedCalls.{all_redacted, place_settled, told_of_one}
+use Rattle.acredact.proofs.Statuses.{tells_one}
 use Rattle.acredact.proofs.Totals.{one_counts}
 use Rattle.acredact.proofs.in_place.place_one.Goals as goal
 
 pub returns-then-is_input : goal.returns-then-is_input
 returns-then-is_input g c =
     let named : is_input c.args.name.now ≡ true = search rules in
-    record {
-      outcome = λ p of.
-          place_told g.O.File.Write g.E.Sink g.O.Outputs (work_of g.F.Folder c.args.job.now (redactor_of c.args.job.now p)) _ _ _ _ _ _ (inr (inr (named, refl))) (inl (named, refl)) c.tell_no_file.ensures.told;
-      counted = λ (is : Ok false ≡ Ok true). absurd (cc);
-      read = λ (is : Ok false ≡ Ok true). absurd (cc);
-    }
+    record { outcome = λ p of. (inl (named, refl), tells_one g.E.Sink (IsSparedLine c.args.name.now) _ _ _ (inr (inr (named, refl))) c.tell_no_file.ensures.told) }
 
 pub returns-in-Err : goal.returns-in-Err
 returns-in-Err g c = record {
-  outcome = λ p of.
-      place_told g.O.File.Write g.E.Sink g.O.Outputs (work_of g.F.Folder c.args.job.now (redactor_of c.args.job.now p)) _ _ _ _ _ _ (inl (c.in-Err.reason, refl)) (inr (inl (c.in-Err.reason, c.in-Err.ensures.made)))
-      c.tell_unread.ensures.told;
-  counted = λ (is : Ok false ≡ Ok true). absurd (cc);
-  read = λ (is : Ok false ≡ Ok true). absurd (cc);
+  outcome = λ p of. (
+    inr (inl (c.in-Err.reason, c.in-Err.ensures.made)),
+    tells_one g.E.Sink (IsSparedLine c.args.name.now) _ _ _ (inl (c.in-Err.reason, refl)) c.tell_unread.ensures.told,
+  );
 }
 
 pub returns-in-Ok : goal.returns-in-Ok
 returns-in-Ok g c =
     let named : is_input c.args.name.now ≡ false = search rules in
-    let settled = c.settle.ensures in
+    let run = c.redact_by-done in
     record {
       outcome = λ p of.
-          let files = c.redact_by-done.ensures.outcome p of in
-          let of_one = told_of_one g.O.File.Write g.E.Sink _ c.args.name.now refl c.redact_by-done.result _ _ files in
-          record {
-            replaced = λ is. (
-              record {
-                named = named;
-                file = c.new.result;
-                file' = c.redact_by-done.new.streams.output;
-                left = _;
-                left' = _;
-                meanwhile = c.make.new.self;
-                made = rw c.new.ensures.writer c.in-Ok.ensures.made;
-                empty = rw c.new.ensures.writer c.in-Ok.ensures.empty;
-                redacted = all_redacted g.O.File.Write g.E.Sink _ c.redact_by-done.result _ _ files (settled.done is);
-                flushed = rw (settled.done is) at c.redact_by-done.ensures.flushed;
-                puts = settled.puts is;
-              },
-              settled.quiet is ∙ files.quiet (settled.done is),
-            );
-            spared = λ not. inr (inr (record { held = _; meanwhile = c.make.new.self; made = c.in-Ok.ensures.made; kept = settled.kept not }));
-            partly = λ is. partly_settled g.E.Sink c.args.name.now c.redact_by-done.result _ _ _ of_one (settled.told is);
-            told = told_settled g.E.Sink c.args.name.now c.redact_by-done.result _ _ _ of_one c.settle.result settled.quiet settled.told settled.cut;
-            memory = settled.memory;
-          };
-      counted = λ is p of.
-          let work = work_of g.F.Folder c.args.job.now (redactor_of c.args.job.now p) in
-          subst (λ input. CountsOfName (bytes_left c.args.streams.now.input) (bytes_left input) c.args.counts.now c.redact_by-done.new.counts work c.args.name.now) (sym settled.input)
-          (one_counts work c.args.name.now _ _ _ _ (c.redact_by-done.ensures.counted p of (settled.done is)));
-      read = λ is.
-          subst (λ input. ReadsVolume (g.F.Folder.holds c.args.job.now.folder.now) (c.args.name.now ∷ []) c.args.volume.now c.redact_by-done.new.volume (bytes_left c.args.streams.now.input) (bytes_left input)) (sym settled.input)
-          (c.redact_by-done.ensures.read (settled.done is));
+          let files = run.ensures.outcome p of in
+          place_settled g.O.File.Write g.E.Sink g.O.Outputs _ c.args.name.now run.result c.settle.result c.args.outputs.now c.make.new.self c.settle.new.outputs c.args.streams.now run.new.streams c.settle.new.streams
+          c.args.counts.now run.new.counts c.args.volume.now run.new.volume _ (told_of_one g.O.File.Write g.E.Sink _ c.args.name.now refl run.result _ _ files)
+          (λ all puts. (
+            record {
+              named = named;
+              file = c.new.result;
+              file' = run.new.streams.output;
+              left = _;
+              left' = _;
+              meanwhile = c.make.new.self;
+              made = rw c.new.ensures.writer c.in-Ok.ensures.made;
+              empty = rw c.new.ensures.writer c.in-Ok.ensures.empty;
+              redacted = all_redacted g.O.File.Write g.E.Sink _ run.result _ _ files all;
+              flushed = rw all at run.ensures.flushed;
+              puts = puts;
+            },
+            files.quiet all,
+            one_counts (work_of g.F.Folder c.args.job.now (redactor_of c.args.job.now p)) c.args.name.now _ _ _ _ (run.ensures.counted p of all),
+            run.ensures.read all,
+          ))
+          c.in-Ok.ensures.made c.settle.ensures.input c.settle.ensures.settled;
     }

@@ -13,8 +13,6 @@ use Rattle.acredact.specs.InPlace.{PlacesOutcome}
 use Rattle.acredact.specs.Loading.{AreLoaded, key_in, loaded_as, loaded_in}
 use Rattle.acredact.specs.Summaries.{no_volume}
 use Rattle.acredact.specs.Tables.{secrets_of}
-use Rattle.acredact.specs.Totals.{CountsOfNames}
-use Rattle.acredact.specs.Volumes.{ReadsVolume}
 use Rattle.acredact.specs.declared.arguments.Word.TheVariants.{Strict}
 use Rattle.acredact.specs.declared.failure.Failure.TheVariants.{Other}
 use Rattle.acredact.specs.declared.patterns.Rule.{Rule}
@@ -40,9 +38,9 @@ returns-in_err-all g c = record {
       let load = loaded_in c.args.secrets.now in
       let is : c.from_residual-in_err-all.result ≡ Err (Other (failure_of_stream c.in_err-all.field-0.0)) = search rules in
       rw is
-      (places_cut g.O.File.Write g.E.Sink g.O.Outputs call left load (bytes_left c.args.streams.now.input) loaded _ _ first _ _ warnings c.in_err-all.field-0.0
+      (places_cut g.O.File.Write g.E.Sink g.O.Outputs call left load (bytes_left c.args.streams.now.input) loaded _ _ first _ _ _ _ _ _ warnings c.in_err-all.field-0.0
       (job_does g.F.Folder c.args.folder.now call.given load c.job_of-job.result (c.job_of-job.ensures.job c.requires.ready)
-      (λ (w : Work). PlacesOutcome g.O.File.Write g.O.Outputs w g.E.Sink (Err c.in_err-all.field-0.0) c.args.outputs.now c.place_each.new.outputs c.args.streams.now.errors c.place_each.new.streams.errors) (c.in_err-all.ensures.outcome _ c.requires.ready.of)));
+      (λ (w : Work). PlacesOutcome g.O.File.Write g.O.Outputs w g.E.Sink (Err c.in_err-all.field-0.0) c.args.outputs.now c.place_each.new.outputs c.args.streams.now c.place_each.new.streams c.as_mut_slice-tally.result.now c.place_each.new.counts no_volume c.place_each.new.volume) (c.in_err-all.ensures.outcome _ c.requires.ready.of)));
 }
 
 pub returns : goal.returns
@@ -54,22 +52,15 @@ returns g c = record {
       let work = work_by call (loaded_as c.as_slice-rules.result.now key) in
       let as_asked = λ (P : Work → Type 0) (done : P _). subst (λ (l : List Rule). P (work_by call (loaded_as l key))) (sym value)
       (job_does g.F.Folder c.args.folder.now call.given (loaded_in c.args.secrets.now) c.job_of-job.result (c.job_of-job.ensures.job c.requires.ready) P done) in
-      let old = bytes_left c.args.streams.now.input in
-      let new = bytes_left c.place_each.new.streams.input in
-      let counts = c.place_each.new.counts in
-      let volume = c.place_each.new.volume in
       let none : c.as_mut_slice-tally.result.now ≡ zeros (counts_asked call.given) c.as_slice-rules.result.now =
       c.as_mut_slice-tally.ensures.value ∙ c.in_ok-counted.ensures.counts ∙ ap (λ (b : Bool). zeros b c.as_slice-rules.result.now) c.counts.ensures.counts in
-      places_told g.O.File.Write g.E.Sink g.O.Outputs call left c.as_slice-rules.result.now key counts volume old new (subst (λ (l : List Rule). AreLoaded (reading_by call) call.given (loaded_as l key) left old) (sym value) loaded)
-      c.args.outputs.now c.place_each.new.outputs first c.args.streams.now.errors c.place_each.new.streams.errors c.tell_counted.new.errors
+      let run = as_asked (λ w. PlacesOutcome g.O.File.Write g.O.Outputs w g.E.Sink (Ok c.in_ok-all.all) c.args.outputs.now c.place_each.new.outputs c.args.streams.now c.place_each.new.streams c.as_mut_slice-tally.result.now c.place_each.new.counts no_volume c.place_each.new.volume)
+      (c.in_ok-all.ensures.outcome _ c.requires.ready.of) in
+      places_told g.O.File.Write g.E.Sink g.O.Outputs call left c.as_slice-rules.result.now key c.place_each.new.counts c.place_each.new.volume
+      c.args.outputs.now c.place_each.new.outputs first c.tell_counted.new.errors c.args.streams.now c.place_each.new.streams
+      (subst (λ (l : List Rule). AreLoaded (reading_by call) call.given (loaded_as l key) left (bytes_left c.args.streams.now.input)) (sym value) loaded)
       (subst (λ (l : List Rule). TellsWarnings g.E.Sink (has Strict call.given) call.given (secrets_of l) (redactor_by_given call.given (loaded_as l key)) first c.args.streams.now.errors) (sym value) warnings)
-      c.in_ok-all.all c.tell_counted.result
-      (as_asked (λ w. PlacesOutcome g.O.File.Write g.O.Outputs w g.E.Sink (Ok c.in_ok-all.all) c.args.outputs.now c.place_each.new.outputs c.args.streams.now.errors c.place_each.new.streams.errors)
-      (c.in_ok-all.ensures.outcome _ c.requires.ready.of))
-      (λ whole. (
-        subst (λ (l : List ℕ). CountsOfNames old new l counts work work.names) none
-            (as_asked (λ w. CountsOfNames old new c.as_mut_slice-tally.result.now counts w w.names) (c.in_ok-all.ensures.counted _ c.requires.ready.of (ap Ok whole))),
-        as_asked (λ w. ReadsVolume w.holds w.names no_volume volume old new) (c.in_ok-all.ensures.read (ap Ok whole)),
-      ))
-      c.tell_counted.ensures.all c.tell_counted.ensures.told c.tell_counted.ensures.fails c.tell_counted.ensures.lines;
+      c.tell_counted.ensures.lines c.in_ok-all.all c.tell_counted.result
+      (subst (λ (l : List ℕ). PlacesOutcome g.O.File.Write g.O.Outputs work g.E.Sink (Ok c.in_ok-all.all) c.args.outputs.now c.place_each.new.outputs c.args.streams.now c.place_each.new.streams l c.place_each.new.counts no_volume c.place_each.new.volume) none run)
+      c.tell_counted.ensures.all c.tell_counted.ensures.told c.tell_counted.ensures.fails;
 }

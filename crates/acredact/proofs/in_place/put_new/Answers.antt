@@ -1,21 +1,15 @@
--- The new file takes the place, or is removed.
-use Rattle.std.proofs.Common.{◌≡◌, inr, refl, true, false}
+-- The new file takes the place, or is removed and that is told.
+use Rattle.std.proofs.Common.{inr, refl}
 use Rattle.acredact.proofs.in_place.put_new.Goals as goal
 
 pub returns-in-Ok : goal.returns-in-Ok
-returns-in-Ok g c = record {
-  input = refl;
-  quiet = λ _. refl;
-  told = λ (is : true ≡ false). absurd (cc);
-  puts = λ _. c.in-Ok.ensures.put;
-  kept = λ (is : true ≡ false). absurd (cc);
-}
+returns-in-Ok g c = record { settled = (refl, refl, c.in-Ok.ensures.put); input = refl }
 
 pub returns-in-Err : goal.returns-in-Err
 returns-in-Err g c = record {
+  settled = (
+    inr (record { reason = c.in-Err.reason; meanwhile = c.put.new.self; refused = c.in-Err.ensures.put; removed = c.remove.ensures.removed }),
+    inr (c.in-Err.reason, c.tell_unread.ensures.told),
+  );
   input = refl;
-  quiet = λ (is : false ≡ true). absurd (cc);
-  told = λ _. (c.in-Err.reason, c.tell_unread.ensures.told);
-  puts = λ (is : false ≡ true). absurd (cc);
-  kept = λ _. inr (record { reason = c.in-Err.reason; meanwhile = c.put.new.self; refused = c.in-Err.ensures.put; removed = c.remove.ensures.removed });
 }

@@ -2,12 +2,14 @@
 use Rattle.std.proofs.Common.{◌∙◌, sym, inl}
 use Rattle.std.proofs.lemmas.Result.{IfErr-weaker, IfOk-weaker}
 use Rattle.tool_parts.specs.Streams.{bytes_left}
-use Rattle.acredact.proofs.Loaded.{text_input, text_opened}
+use Rattle.acredact.specs.Reads.{ReadsText}
+use Rattle.acredact.proofs.Loaded.{text_opened}
+use Rattle.acredact.proofs.OneFile.{of_input}
 use Rattle.acredact.proofs.load.read_list.Goals as goal
 
 pub returns-then-is_input : goal.returns-then-is_input
 returns-then-is_input g c = record {
-  text = IfOk-weaker c.read_whole.result _ _ (λ text reads. text_input (g.F.Folder.holds c.args.lists.now.folder.now) c.args.name.now text.items _ _ (sym c.is_input.ensures.is ∙ c.if-is_input.true) reads) c.read_whole.ensures.text;
+  text = IfOk-weaker c.read_whole.result _ _ (λ text reads. of_input (g.F.Folder.holds c.args.lists.now.folder.now) c.args.name.now (ReadsText text.items) _ _ (sym c.is_input.ensures.is ∙ c.if-is_input.true) reads) c.read_whole.ensures.text;
   fails = IfErr-weaker c.read_whole.result _ _ (λ reason is. inl is) c.read_whole.ensures.fails;
 }
 

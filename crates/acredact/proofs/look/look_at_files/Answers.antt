@@ -1,10 +1,11 @@
 -- A file more is looked at.
-use Rattle.std.proofs.Common.{rules, ◌≡◌, ◌≤◌, ◌-◌, length, List, ℕ, subst}
+use Rattle.std.proofs.Common.{rules, ◌≡◌, ◌∙◌, ◌≤◌, List, ap, length, subst, ℕ}
 use Rattle.std.specs.Prelude.{Err}
 use Rattle.tool_parts.specs.Names.{name_bytes}
 use Rattle.tool_parts.specs.Streams.{bytes_left}
 use Rattle.acredact.specs.Checks.{quest_of}
-use Rattle.acredact.proofs.Checks.{SeenSoFar, seen_all, seen_cut, seen_more, seen_none}
+use Rattle.acredact.specs.Looks.{both_seen}
+use Rattle.acredact.proofs.Checks.{SeenSoFar, seen_all, seen_more, seen_none}
 use Rattle.acredact.proofs.Done.{names_cut, names_end}
 use Rattle.acredact.proofs.look.look_at_files.Goals as goal
 
@@ -17,13 +18,13 @@ loop-rest-preserved g c = λ p of.
     let some : 1 ≤ length c.loop-rest.rest.now = search rules in
     let so = subst (λ (l : List (List ℕ)). SeenSoFar g.E.Sink quest (name_bytes c.args.files.now.names.now) c.args.errors.now (bytes_left c.args.input.now) l c.loop-rest.verdict (bytes_left c.loop-rest.input) c.loop-rest.errors)
     (names_cut c.loop-rest.rest.now _ some) (c.loop-rest.invariant p of) in
-    rw c.verdict_with-verdict.ensures.with
+    rw (c.both_seen-verdict.ensures.both ∙ ap (both_seen c.loop-rest.verdict) c.verdict_of.ensures.seen)
     (seen_more g.E.Sink quest _ _ _ _ _ c.loop-rest.verdict c.in_ok-look.look _ _ _ _ so (c.in_ok-look.ensures.looks p of) c.tell_look.ensures.told c.tell_look.ensures.quiet)
 
 pub returns-in_err-look : goal.returns-in_err-look
 returns-in_err-look g c =
     let is : c.from_residual.result ≡ Err c.in_err-look.field-0.0 = search rules in
-    record { sees = λ p of. rw is (seen_cut g.E.Sink _ _ _ _ _ _ c.loop-rest.verdict _ _ _ (c.loop-rest.invariant p of)) }
+    record { sees = λ p of. let so = c.loop-rest.invariant p of in rw is (record { seen = tt; quiet = tt; told = record { told = so.lines; are_lines = so.are; written = so.told } }) }
 
 pub returns : goal.returns
 returns g c =

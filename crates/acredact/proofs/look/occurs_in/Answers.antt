@@ -3,13 +3,14 @@ use Rattle.std.proofs.Common.{rules, ◌≡◌, ◌∙◌, false, ap}
 use Rattle.std.specs.Prelude.{Err}
 use Rattle.aho_core.specs.declared.error.stream.StreamError.TheVariants.{Memory}
 use Rattle.acredact.specs.Looks.{sought}
-use Rattle.acredact.proofs.Looks.{looks_memory, memory_of}
+use Rattle.acredact.proofs.Looks.{looks_memory}
 use Rattle.acredact.proofs.look.occurs_in.Goals as goal
 
 pub returns-in_err-start : goal.returns-in_err-start
 returns-in_err-start g c =
     let is : c.from_residual.result ≡ Err c.in_err-start.field-0.0 = search rules in
-    let memory : c.in_err-start.field-0.0 ≡ Memory = memory_of g.A.Automaton c.args.automaton.now _ c.requires.ready.begins c.in_err-start.ensures.refuses in
+    let can = c.requires.ready.begins in
+    let memory : c.in_err-start.field-0.0 ≡ Memory = c.in_err-start.ensures.refuses.memory can.0 can.1 can.2 in
     record { looks = λ p of. rw (is ∙ ap Err memory) (looks_memory g.R.Source (sought p false) c.args.source.now) }
 
 pub finds-finds-requires : goal.finds-finds-requires

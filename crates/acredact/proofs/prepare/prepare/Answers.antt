@@ -1,5 +1,5 @@
 -- Of patterns of lists it is told first, or one is refused; and then of a piece.
-use Rattle.std.proofs.Common.{◌∙◌, inl, inr, refl, sym}
+use Rattle.std.proofs.Common.{◌∙◌, inl, inr, sym}
 use Rattle.acredact.proofs.prepare.prepare.Goals as goal
 
 pub unclean_in-unclean-requires : goal.unclean_in-unclean-requires

@@ -1,29 +1,16 @@
--- What is written is the redaction, and why it ends early is told.
-use Rattle.std.proofs.Common.{true, refl, ap, subst}
-use Rattle.std.proofs.lemmas.Result.{on_ok_weaker}
-use Rattle.aho_core.specs.Replacement.{pieces_of}
-use Rattle.aho_cover.specs.Covers.{LeavesCoveredWith}
-use Rattle.aho_cover.specs.Pieces.{PieceRule, fixed_rule}
-use Rattle.acredact.specs.Secrets.{redactor_by}
+-- What is written is the redaction by these pieces, and why it ends early is told.
 use Rattle.acredact.proofs.Bounded.{cover_given}
-use Rattle.acredact.proofs.Redactions.{counts_of_cover, outcome_of_cover, some_of}
+use Rattle.acredact.proofs.Redactions.{does_cover, some_cover}
 use Rattle.acredact.proofs.redact.cover.Goals as goal
 
-pub returns-clause-outcome : goal.returns-clause-outcome
-returns-clause-outcome g c = λ p of.
+pub returns-clause-done : goal.returns-clause-done
+returns-clause-done g c = λ r is.
     let call = c.cover_with in
-    let words = c.args.start.now.progress.words in
-    outcome_of_cover g.R.Source g.W.Sink (redactor_by p true words c.args.replacements.now) refl (g.A.Automaton.is_of c.args.start.now.automaton.now) of
-    (some_of g.A.Automaton _ p (g.met.A.Automaton.laws _ _ of).lengths_are c.requires.ready.begins) _ _ _ _ call.result
-    (subst (λ (rule : PieceRule). LeavesCoveredWith g.R.Source g.W.Sink (g.A.Automaton.is_of c.args.start.now.automaton.now) words rule c.args.source.now call.new.source c.args.sink.now call.new.sink call.result)
-    (ap (λ l. fixed_rule (pieces_of l)) c.new-pieces.ensures.pieces) call.ensures.leaves) call.ensures.errors call.ensures.only
-
-pub returns-clause-counted : goal.returns-clause-counted
-returns-clause-counted g c = λ p of.
-    let words = c.args.start.now.progress.words in
-    on_ok_weaker c.cover_with.result (λ whole. counts_of_cover g.R.Source (redactor_by p true words c.args.replacements.now) refl (g.A.Automaton.is_of c.args.start.now.automaton.now) of _ _ _ _ whole) c.cover_with.ensures.counted.counted
+    does_cover g.R.Source g.W.Sink r is.covers (g.A.Automaton.is_of c.args.start.now.automaton.now) is.of
+    (some_cover g.A.Automaton _ r.patterns (g.met.A.Automaton.laws _ _ is.of).lengths_are c.requires.unbegun) _ _ _ _ call.result _ _
+    (rw (is.chosen, is.is) call.ensures.leaves) (rw is.chosen call.ensures.counted.counted) call.ensures.errors call.ensures.only
 
 pub returns-clause-most : goal.returns-clause-most
 returns-clause-most g c =
     let call = c.cover_with in
-    cover_given g.R.Source g.W.Sink (g.A.Automaton.is_of c.args.start.now.automaton.now) c.requires.ready.patterns c.requires.ready.of _ _ _ _ _ _ _ _ call.result call.ensures.counted
+    cover_given g.R.Source g.W.Sink (g.A.Automaton.is_of c.args.start.now.automaton.now) c.requires.of.0 c.requires.of.1 _ _ _ _ _ _ _ _ call.result call.ensures.counted

@@ -4,24 +4,17 @@ use Rattle.std.proofs.lemmas.Result.{on_ok_weaker}
 use Rattle.aho_core.specs.Replacement.{pieces_of}
 use Rattle.acredact.specs.Secrets.{redactor_by}
 use Rattle.acredact.proofs.Bounded.{lent_most}
-use Rattle.acredact.proofs.Counted.{lent_counts, lent_of}
+use Rattle.acredact.proofs.Counted.{lent_does}
 use Rattle.acredact.proofs.redact.redact_counting.Goals as goal
 
-pub returns-clause-outcome : goal.returns-clause-outcome
-returns-clause-outcome g c = λ p of.
-    lent_of g.A.Automaton g.R.Source g.W.Sink c.args.automaton.now (redactor_by p false false c.args.replacements.now) refl refl of (g.met.A.Automaton.laws _ _ of).lengths_are c.requires.ready.begins
-    _ _ _ _ _ _ (λ f. pieces_of f.1.now ≡ pieces_of c.args.replacements.now) refl
-    (λ f m matched old next new fits called. search rules) (λ f m matched old reason next new fits called. search rules)
-    c.try_stream_replace_all_with_mut.result _ c.try_stream_replace_all_with_mut.ensures.runs
-
-pub returns-clause-counted : goal.returns-clause-counted
-returns-clause-counted g c = λ p of.
+pub returns-clause-done : goal.returns-clause-done
+returns-clause-done g c = λ p of.
     let call = c.try_stream_replace_all_with_mut in
-    on_ok_weaker call.result (λ counted. let same = sym counted.0 in let whole = counted.1 in search rules)
-    (lent_counts g.A.Automaton g.R.Source g.W.Sink c.args.automaton.now (redactor_by p false false c.args.replacements.now) refl refl of (g.met.A.Automaton.laws _ _ of).lengths_are c.requires.ready.begins
+    let (outcome, counts) = lent_does g.A.Automaton g.R.Source g.W.Sink c.args.automaton.now (redactor_by p false false c.args.replacements.now) refl refl of (g.met.A.Automaton.laws _ _ of).lengths_are c.requires.ready.begins
     _ _ _ _ _ _ (λ f. pieces_of f.1.now ≡ pieces_of c.args.replacements.now) refl
     (λ f m matched old next new fits called. search rules) (λ f m matched old reason next new fits called. search rules)
-    call.new.replace_with (λ f. f.0.ghost_name) (λ f. f.0.now) (λ f m matched old next new fits called. search rules) call.result call.ensures.runs)
+    call.new.replace_with (λ f. f.0.ghost_name) (λ f. f.0.now) (λ f m matched old answer next new called. search rules) call.result call.ensures.runs in
+    record { outcome = outcome; counted = on_ok_weaker call.result (λ counted. let same = sym counted.0 in let whole = counted.1 in search rules) counts }
 
 pub returns-clause-most : goal.returns-clause-most
 returns-clause-most g c =

@@ -1,10 +1,8 @@
 -- What the status says, by what is answered.
-use Rattle.std.proofs.Common.{rules, ◌≡◌, true, false, subst}
-use Rattle.std.specs.Prelude.{Bool, Ok, Result}
+use Rattle.std.proofs.Common.{rules, ◌≡◌, true, false}
+use Rattle.std.specs.Prelude.{Ok}
 use Rattle.acredact.specs.Arguments.{all_given}
 use Rattle.acredact.specs.Calls.{call_of}
-use Rattle.acredact.specs.Ruled.{AskedRuled}
-use Rattle.acredact.specs.declared.ruled_failure.RuledFailure.{RuledFailure}
 use Rattle.acredact.proofs.RuledCalls.{ruled_done, ruled_failed, ruled_partly}
 use Rattle.acredact.proofs.ruled.redact_by_rules.Goals as goal
 
@@ -12,13 +10,13 @@ pub returns-in-Ok-true-clause-says : goal.returns-in-Ok-true-clause-says
 returns-in-Ok-true-clause-says g c = λ asks.
     let whole : c.redact_given.result ≡ Ok true = search rules in
     ruled_done g.E.Sink (call_of g.F.Folder c.args.folder.now (all_given c.args.given.now)) _ _ _ _ _ _
-    (subst (λ (r : Result Bool RuledFailure). AskedRuled g.W.Write g.E.Sink g.F.Folder c.args.folder.now (all_given c.args.given.now) r c.args.streams.now c.redact_given.new.streams) whole c.redact_given.ensures.outcome)
+    (rw whole at c.redact_given.ensures.outcome)
 
 pub returns-in-Ok-false-clause-says : goal.returns-in-Ok-false-clause-says
 returns-in-Ok-false-clause-says g c = λ asks.
     let partly : c.redact_given.result ≡ Ok false = search rules in
     ruled_partly g.E.Sink (call_of g.F.Folder c.args.folder.now (all_given c.args.given.now)) _ _ _ _ _ _
-    (subst (λ (r : Result Bool RuledFailure). AskedRuled g.W.Write g.E.Sink g.F.Folder c.args.folder.now (all_given c.args.given.now) r c.args.streams.now c.redact_given.new.streams) partly c.redact_given.ensures.outcome)
+    (rw partly at c.redact_given.ensures.outcome)
 
 pub returns-in-Err-clause-says : goal.returns-in-Err-clause-says
 returns-in-Err-clause-says g c = λ asks.

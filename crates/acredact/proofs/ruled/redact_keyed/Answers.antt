@@ -1,18 +1,16 @@
 -- What is told of doubtful patterns comes first.
-use Rattle.std.proofs.Common.{◌≡◌, ◌∙◌, List, ap, false, sym, subst}
+use Rattle.std.proofs.Common.{◌≡◌, ◌∙◌, List, ap}
 use Rattle.tool_parts.specs.Names.{name_bytes}
-use Rattle.tool_parts.specs.Streams.{bytes_left, output_bytes}
 use Rattle.acredact.specs.Arguments.{all_given}
 use Rattle.acredact.specs.Calls.{call_of}
-use Rattle.acredact.specs.Doubts.{TellsDoubts}
-use Rattle.acredact.specs.Ruled.{RuledLoad, RuledOutcome, load_as, load_in, ruled_load}
-use Rattle.acredact.specs.Tables.{HaveNoEmpty, secrets_of}
+use Rattle.acredact.specs.Ruled.{load_as, load_in, ruled_load}
+use Rattle.acredact.specs.Tables.{secrets_of}
 use Rattle.acredact.specs.declared.patterns.Rule.{Rule}
 use Rattle.acredact.proofs.RuledCalls.{all_doubts_told, ruled_behind, ruled_early}
 use Rattle.acredact.proofs.ruled.redact_keyed.Goals as goal
 
 pub ready_for_lines-requires : goal.ready_for_lines-requires
-ready_for_lines-requires g c = record { some = subst (λ (l : List Rule). HaveNoEmpty (secrets_of l)) (sym c.as_slice-secrets.ensures.value) c.requires.some }
+ready_for_lines-requires g c = record { some = rw c.as_slice-secrets.ensures.value c.requires.some }
 
 pub returns-in-Ok-clause-outcome : goal.returns-in-Ok-clause-outcome
 returns-in-Ok-clause-outcome g c = λ left loaded.
@@ -21,9 +19,8 @@ returns-in-Ok-clause-outcome g c = λ left loaded.
     ap (λ (l : List Rule). ruled_load l c.args.rules.now.given.rules c.lent_key-key.result) c.as_slice-secrets.ensures.value
     ∙ ap (load_as (secrets_of c.args.rules.now.given.secrets.items) c.args.rules.now.given.rules) c.lent_key-key.ensures.key in
     ruled_behind g.E.Sink call (load_in c.args.rules.now) c.redact_by.result left _ _ _ _ _ _ _ loaded
-    (subst (λ (l : RuledLoad). TellsDoubts g.E.Sink false call.given l.secrets c.args.streams.now.errors c.ready_for_lines.new.errors) load c.ready_for_lines.ensures.told)
-    (subst (λ (l : RuledLoad). RuledOutcome g.E.Sink call l c.redact_by.result (bytes_left c.args.streams.now.input) (bytes_left c.redact_by.new.streams.input)
-    (output_bytes g.W.Write c.args.streams.now.output) (output_bytes g.W.Write c.redact_by.new.streams.output) c.ready_for_lines.new.errors c.redact_by.new.streams.errors) load c.redact_by.ensures.outcome)
+    (rw c.as_slice-secrets.ensures.value at c.ready_for_lines.ensures.told)
+    (rw load at c.redact_by.ensures.outcome)
 
 pub returns-in-Err-clause-outcome : goal.returns-in-Err-clause-outcome
 returns-in-Err-clause-outcome g c = λ left loaded.

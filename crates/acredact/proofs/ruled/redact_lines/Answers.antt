@@ -6,15 +6,15 @@ use Rattle.aho_core.specs.Replacement.{pieces_of}
 use Rattle.tool_parts.specs.Streams.{bytes_left}
 use Rattle.tool_parts.specs.Telling.{TellsBytes}
 use Rattle.secret_rules.specs.declared.rule.Rule.{Rule as LineRule}
-use Rattle.acredact.specs.Arguments.{all_given, has}
+use Rattle.acredact.specs.Arguments.{all_given}
 use Rattle.acredact.specs.Calls.{call_of}
 use Rattle.acredact.specs.LineRules.{most_asked}
 use Rattle.acredact.specs.LongLines.{long_told}
-use Rattle.acredact.specs.Ruled.{patterns_by_case, ruled_by, ruled_in, ruled_load, texts_asked}
+use Rattle.acredact.specs.Ruled.{patterns_by_case, ruled_load, texts_asked}
 use Rattle.acredact.specs.Summaries.{no_volume}
 use Rattle.acredact.specs.Volumes.{ReadsVolume}
 use Rattle.acredact.specs.Tables.{patterns_in}
-use Rattle.acredact.proofs.RuledCalls.{files_done, files_failed, files_same, ruled_none, ruling_same, texts_many}
+use Rattle.acredact.proofs.RuledCalls.{files_done, files_failed, ruled_none, ruling_same, texts_many}
 use Rattle.acredact.proofs.ruled.redact_lines.Goals as goal
 
 pub returns-in_err-texts-clause-outcome : goal.returns-in_err-texts-clause-outcome
@@ -41,7 +41,7 @@ returns-in-Ok-clause-outcome g c =
     ∙ c.in_ok-texts.ensures.texts ∙ ap (λ (l : List LineRule). texts_asked given (ruled_load c.args.secrets.now l c.args.key)) c.as_slice.ensures.same in
     let ruling = ruling_same given c.args.secrets.now c.args.rules.now c.args.key _ _ _ _ c.has-words.ensures.has c.most_of-most.ensures.most written c.pieces_by-pieces.ensures.rule in
     let lined = c.in_ok-lined.ensures.lined (patterns_by_case given (patterns_in load.secrets)) c.requires.of in
-    let files = files_same g.E.Sink _ _ _ _ _ _ _ _ _ _ (ruled_by call load) _ _ (ap (ruled_in g.F.Folder c.args.folder.now) ruling) c.requires.names (c.in-Ok.ensures.outcome _ lined) in
+    let files = rw (ruling, c.requires.names) at (c.in-Ok.ensures.outcome _ lined) in
     let zeros : c.as_mut_slice-tally.result.now ≡ replicate (length c.as_slice-texts.result.now) 0 = c.as_mut_slice-tally.ensures.value ∙ c.in_ok-counts.ensures.zeros in
     let sized = sym (length-map c.as_slice-texts.result.now (λ piece. piece.now)) ∙ ap length written ∙ texts_many given load in
     let long = subst (λ (m : ℕ). TellsBytes g.E.Sink c.cover_files-done.new.streams.errors c.tell_count.new.errors (long_told m c.last_of-count.result)) c.most_of-most.ensures.most c.tell_count.ensures.told in
@@ -61,5 +61,4 @@ returns-clause-outcome g c =
     ∙ c.in_ok-texts.ensures.texts ∙ ap (λ (l : List LineRule). texts_asked given (ruled_load c.args.secrets.now l c.args.key)) c.as_slice.ensures.same in
     let ruling = ruling_same given c.args.secrets.now c.args.rules.now c.args.key _ _ _ _ c.has-words.ensures.has c.most_of-most.ensures.most written c.pieces_by-pieces.ensures.rule in
     let lined = c.in_ok-lined.ensures.lined (patterns_by_case given (patterns_in load.secrets)) c.requires.of in
-    files_failed g.E.Sink call load c.in-Err.error c.failure_in.result _ _ _ _ _ _ _ _
-    (files_same g.E.Sink _ _ _ _ _ _ _ _ _ _ (ruled_by call load) _ _ (ap (ruled_in g.F.Folder c.args.folder.now) ruling) c.requires.names (c.in-Err.ensures.outcome _ lined))
+    files_failed g.E.Sink call load c.in-Err.error c.failure_in.result _ _ _ _ _ _ _ _ (rw (ruling, c.requires.names) at (c.in-Err.ensures.outcome _ lined))

@@ -1,19 +1,21 @@
 -- What the status says, by what is answered.
-use Rattle.std.proofs.Common.{ℕ, arith, sym, subst}
+use Rattle.std.proofs.Common.{arith, inl, inr}
 use Rattle.std.specs.Prelude.{◌<◌}
 use Rattle.acredact.specs.Arguments.{all_given}
 use Rattle.acredact.specs.Calls.{call_of}
-use Rattle.acredact.specs.Ruled.{Between}
-use Rattle.acredact.specs.RuledChecks.{RuledCheckStatus}
-use Rattle.acredact.proofs.RuledCheckCalls.{check_done, check_failed, check_within}
+use Rattle.acredact.specs.Ruled.{IsRuledTold}
+use Rattle.acredact.proofs.Calls.{tells_last}
+use Rattle.acredact.proofs.Checks.{says_failed}
+use Rattle.acredact.proofs.RuledCheckCalls.{check_done, check_within}
 use Rattle.acredact.proofs.ruled_check.check_by_rules.Goals as goal
 
 pub returns-in-Ok-clause-says : goal.returns-in-Ok-clause-says
 returns-in-Ok-clause-says g c = λ asks.
     let call = call_of g.F.Folder c.args.folder.now (all_given c.args.given.now) in
     record {
-      says = subst (λ (status : ℕ). Between g.W.Write (RuledCheckStatus g.E.Sink call status) c.args.streams.now c.check_given.new.streams) (sym c.status_of.ensures.status)
-          (check_done g.E.Sink call c.in-Ok.verdict.found c.in-Ok.verdict.all _ _ _ _ _ _ c.in-Ok.ensures.outcome);
+      says = rw c.status_of.ensures.status
+          (check_done g.E.Sink call c.in-Ok.verdict _ _ _ _ _ _ c.in-Ok.ensures.outcome);
+      begins = c.in-Ok.ensures.outcome.begun;
       unwritten = c.check_given.ensures.unwritten;
       flushed = λ summary less. c.in-Ok.ensures.flushed summary;
     }
@@ -25,7 +27,8 @@ pub returns-in-Err-clause-says : goal.returns-in-Err-clause-says
 returns-in-Err-clause-says g c = λ asks.
     let told = c.tell_ruled.ensures.told in
     record {
-      says = check_failed g.E.Sink (call_of g.F.Folder c.args.folder.now (all_given c.args.given.now)) c.in-Err.failure told.0 _ _ _ _ _ _ _ c.in-Err.ensures.outcome told.1 told.2;
+      says = says_failed _ _ _ _ (tells_last g.E.Sink (IsRuledTold (call_of g.F.Folder c.args.folder.now (all_given c.args.given.now))) _ _ _ told.0 c.in-Err.ensures.outcome.tells.told (inr (inl (c.in-Err.failure, told.1))) told.2);
+      begins = c.in-Err.ensures.outcome.begun;
       unwritten = c.check_given.ensures.unwritten;
       flushed = λ summary (less : 2 < 2). absurd (omega (arith, less));
     }

@@ -6,7 +6,7 @@ use Rattle.acredact.specs.Ruled.{patterns_by_case}
 use Rattle.acredact.specs.RuledChecks.{check_load}
 use Rattle.acredact.specs.Tables.{patterns_in}
 use Rattle.acredact.proofs.LookedFiles.{covered_by}
-use Rattle.acredact.proofs.RuledCheckCalls.{check_none, files_looked, files_unlooked, quest_same, same_kept, seen_same}
+use Rattle.acredact.proofs.RuledCheckCalls.{check_none, files_looked, files_unlooked, quest_same, same_kept}
 use Rattle.acredact.proofs.ruled_check.check_cover.Goals as goal
 
 pub returns-in_err-cover-clause-outcome : goal.returns-in_err-cover-clause-outcome
@@ -22,9 +22,9 @@ returns-in-Ok-clause-outcome g c =
     let sees = c.in-Ok.ensures.sees _
     (covered_by g.A.Automaton c.in_ok-cover.cover c.has-words.result c.args.rules.now c.most_of-most.result (patterns_by_case given (patterns_in load.secrets)) cover.ready (cover.searched _ c.requires.of) cover.words cover.rules cover.most) in
     let quest = quest_same call load c.has-words.result c.as_slice-rules.result.now c.most_of-most.result (patterns_in load.secrets) c.has-words.ensures.has c.as_slice-rules.ensures.same c.most_of-most.ensures.most refl in
-    files_looked g.E.Sink call load c.in-Ok.verdict _ _ _ _ sees.0 sees.1 _ _ (seen_same g.E.Sink _ _ _ _ _ _ _ _ _ _ _ quest c.requires.names sees.3)
-    (λ summary. sees.2 (c.has-tells.ensures.has ∙ summary))
+    files_looked g.E.Sink call load _ _ _ _ sees.0 sees.1 _ _ (λ summary. sees.2 (c.has-tells.ensures.has ∙ summary))
     (λ silent. same_kept g.W.Write _ _ (c.check_to.ensures.unwritten (c.has-tells.ensures.has ∙ silent)))
+    c.in-Ok.verdict (rw (quest, c.requires.names) at sees.3)
 
 pub returns-clause-outcome : goal.returns-clause-outcome
 returns-clause-outcome g c =
@@ -35,6 +35,6 @@ returns-clause-outcome g c =
     let sees = c.in-Err.ensures.sees _
     (covered_by g.A.Automaton c.in_ok-cover.cover c.has-words.result c.args.rules.now c.most_of-most.result (patterns_by_case given (patterns_in load.secrets)) cover.ready (cover.searched _ c.requires.of) cover.words cover.rules cover.most) in
     let quest = quest_same call load c.has-words.result c.as_slice-rules.result.now c.most_of-most.result (patterns_in load.secrets) c.has-words.ensures.has c.as_slice-rules.ensures.same c.most_of-most.ensures.most refl in
-    files_unlooked g.E.Sink call load c.in-Err.error c.failure_in.result _ _ _ _ sees.0 sees.1 _ _ (seen_same g.E.Sink _ _ _ _ _ _ _ _ _ _ _ quest c.requires.names sees.3)
-    (λ summary. sees.2 (c.has-tells.ensures.has ∙ summary))
+    files_unlooked g.E.Sink call load _ _ _ _ sees.0 sees.1 _ _ (λ summary. sees.2 (c.has-tells.ensures.has ∙ summary))
     (λ silent. same_kept g.W.Write _ _ (c.check_to.ensures.unwritten (c.has-tells.ensures.has ∙ silent)))
+    c.in-Err.error c.failure_in.result (rw (quest, c.requires.names) at sees.3)

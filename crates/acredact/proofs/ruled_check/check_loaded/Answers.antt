@@ -1,27 +1,23 @@
 -- What is told of doubtful patterns comes first.
-use Rattle.std.proofs.Common.{◌∙◌, List, ap, false, sym, subst}
+use Rattle.std.proofs.Common.{◌∙◌, ap}
 use Rattle.tool_parts.specs.Names.{name_bytes}
-use Rattle.tool_parts.specs.Streams.{bytes_left, output_bytes}
 use Rattle.acredact.specs.Arguments.{all_given}
 use Rattle.acredact.specs.Calls.{call_of}
-use Rattle.acredact.specs.Doubts.{TellsDoubts}
-use Rattle.acredact.specs.RuledChecks.{CheckedLines, check_load}
-use Rattle.acredact.specs.Tables.{HaveNoEmpty, secrets_of}
-use Rattle.acredact.specs.declared.patterns.Rule.{Rule}
+use Rattle.acredact.specs.RuledChecks.{check_load}
+use Rattle.acredact.specs.Tables.{secrets_of}
 use Rattle.acredact.proofs.RuledCalls.{all_doubts_told}
 use Rattle.acredact.proofs.RuledCheckCalls.{check_behind, check_early}
 use Rattle.acredact.proofs.ruled_check.check_loaded.Goals as goal
 
 pub ready_for_lines-requires : goal.ready_for_lines-requires
-ready_for_lines-requires g c = record { some = subst (λ (l : List Rule). HaveNoEmpty (secrets_of l)) (sym c.as_slice-secrets.ensures.value) c.requires.some }
+ready_for_lines-requires g c = record { some = rw c.as_slice-secrets.ensures.value c.requires.some }
 
 pub returns-in-Ok-clause-outcome : goal.returns-in-Ok-clause-outcome
 returns-in-Ok-clause-outcome g c = λ left loaded.
     let call = call_of g.F.Folder c.args.folder.now (all_given c.args.given.now) in
     check_behind g.E.Sink call (check_load c.args.rules.now.secrets.items c.args.rules.now.rules) c.check_by.result left _ _ _ _ _ _ _ loaded
-    (subst (λ (l : List Rule). TellsDoubts g.E.Sink false call.given (secrets_of l) c.args.streams.now.errors c.ready_for_lines.new.errors) c.as_slice-secrets.ensures.value c.ready_for_lines.ensures.told)
-    (subst (λ (l : List Rule). CheckedLines g.E.Sink call (check_load l c.args.rules.now.rules) c.check_by.result (bytes_left c.args.streams.now.input) (bytes_left c.check_by.new.streams.input)
-    (output_bytes g.W.Write c.args.streams.now.output) (output_bytes g.W.Write c.check_by.new.streams.output) c.ready_for_lines.new.errors c.check_by.new.streams.errors) c.as_slice-secrets.ensures.value c.check_by.ensures.outcome)
+    (rw c.as_slice-secrets.ensures.value at c.ready_for_lines.ensures.told)
+    (rw c.as_slice-secrets.ensures.value at c.check_by.ensures.outcome)
 
 pub returns-in-Err-clause-outcome : goal.returns-in-Err-clause-outcome
 returns-in-Err-clause-outcome g c = λ left loaded.

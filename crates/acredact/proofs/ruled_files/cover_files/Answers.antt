@@ -1,15 +1,14 @@
 -- A file more is done.
-use Rattle.std.proofs.Common.{rules, ◌≡◌, ◌∙◌, ◌≤◌, ℕ, List, ap, length, subst, sym, true}
-use Rattle.std.specs.Prelude.{Bool, Result, Err, Ok}
+use Rattle.std.proofs.Common.{rules, ◌≡◌, ◌∙◌, ◌≤◌, ℕ, List, ap, length, subst, true}
+use Rattle.std.specs.Prelude.{Bool, Err, Ok}
 use Rattle.tool_parts.specs.Names.{name_bytes}
 use Rattle.tool_parts.specs.Streams.{bytes_left}
-use Rattle.secret_rules.specs.declared.error.LineError.{LineError}
 use Rattle.secret_rules.specs.declared.error.LineError.TheVariants.{Stream}
-use Rattle.acredact.specs.Ruled.{DoesFiles, ruled_in}
+use Rattle.acredact.specs.Ruled.{ruled_in}
 use Rattle.acredact.specs.Volumes.{files_with}
 use Rattle.acredact.proofs.Done.{both_so, names_cut, names_end}
 use Rattle.acredact.proofs.Metering.{VolumeSoFar, all_read, far_read, far_unread}
-use Rattle.acredact.proofs.RuledFiles.{flush_failed, flush_kept, lined_all, lined_fails, lined_next, lined_none}
+use Rattle.acredact.proofs.RuledFiles.{lined_all, lined_fails, lined_next, lined_none, lined_unflushed}
 use Rattle.acredact.proofs.ruled_files.cover_files.Goals as goal
 
 pub loop-rest-init : goal.loop-rest-init
@@ -32,7 +31,7 @@ loop-rest-preserved g c = (
       let some : 1 ≤ length c.loop-rest.rest.now = search rules in
       let so = c.loop-rest.invariant.1 ruling lined in (
         c.in_ok-whole.ensures.still ruling so.0,
-        lined_next g.E.Sink (ruled_in g.F.Folder c.args.folder.now ruling) (name_bytes c.args.names.now) _ _ _ c.loop-rest.all c.in_ok-whole.whole _ _ _ _ _ _ _ _ _ _ _ _ _ so.1 (names_cut c.loop-rest.rest.now _ some)
+        lined_next g.E.Sink (ruled_in g.F.Folder c.args.folder.now ruling) (name_bytes c.args.names.now) _ _ _ _ _ c.loop-rest.all _ _ _ _ so.1 _ _ c.in_ok-whole.whole _ _ _ _ _ (names_cut c.loop-rest.rest.now _ some)
             (c.in_ok-whole.ensures.outcome ruling so.0) c.both-all.ensures.both,
       ),
 )
@@ -42,23 +41,23 @@ returns-in_err-whole-clause-outcome g c =
     let is : c.from_residual.result ≡ Err c.in_err-whole.field-0.0 = search rules in
     let some : 1 ≤ length c.loop-rest.rest.now = search rules in λ ruling lined.
     let so = c.loop-rest.invariant.1 ruling lined in
-    subst (λ (r : Result Bool LineError). DoesFiles g.W.Write g.E.Sink g.F.Folder c.args.folder.now c.args.names.now r c.args.counts.now c.cover_told.new.counts c.args.streams.now c.cover_told.new.streams ruling) (sym is)
-    (lined_fails g.E.Sink (ruled_in g.F.Folder c.args.folder.now ruling) (name_bytes c.args.names.now) _ _ _ c.loop-rest.all _ _ _ _ _ _ _ _ _ _ _ _ _ so.1 (names_cut c.loop-rest.rest.now _ some)
+    rw is
+    (lined_fails g.E.Sink (ruled_in g.F.Folder c.args.folder.now ruling) (name_bytes c.args.names.now) _ _ _ _ _ c.loop-rest.all _ _ _ _ so.1 _ _ _ _ _ _ _ (names_cut c.loop-rest.rest.now _ some)
     (c.in_err-whole.ensures.outcome ruling so.0))
 
 pub returns-in_err-flush-clause-outcome : goal.returns-in_err-flush-clause-outcome
 returns-in_err-flush-clause-outcome g c =
     let is : c.from_residual-in_err-flush.result ≡ Err (Stream c.in_err-flush.field-0.0) = search rules in
     let none : length c.loop-rest.rest.now ≡ 0 = search rules in λ ruling lined.
-    subst (λ (r : Result Bool LineError). DoesFiles g.W.Write g.E.Sink g.F.Folder c.args.folder.now c.args.names.now r c.args.counts.now c.loop-rest.counts c.args.streams.now (record c.loop-rest.streams { output = c.flush.new.self }) ruling) (sym is)
-    (flush_failed g.E.Sink (ruled_in g.F.Folder c.args.folder.now ruling) (name_bytes c.args.names.now) c.loop-rest.all _ _ _ _ _ _ _ _ _ _ c.in_err-flush.ensures.kept
-    (lined_all g.E.Sink (ruled_in g.F.Folder c.args.folder.now ruling) (name_bytes c.args.names.now) _ c.loop-rest.all _ _ _ _ _ _ _ _ (c.loop-rest.invariant.1 ruling lined).1 (names_end c.loop-rest.rest.now none)))
+    rw is
+    (lined_unflushed g.E.Sink (ruled_in g.F.Folder c.args.folder.now ruling) (name_bytes c.args.names.now) _ _ _ _ _ c.loop-rest.all _ _ _ _ (c.loop-rest.invariant.1 ruling lined).1 _ _ (names_end c.loop-rest.rest.now none)
+    c.in_err-flush.ensures.kept)
 
 pub returns-clause-outcome : goal.returns-clause-outcome
 returns-clause-outcome g c =
     let none : length c.loop-rest.rest.now ≡ 0 = search rules in λ ruling lined.
-    flush_kept g.E.Sink (ruled_in g.F.Folder c.args.folder.now ruling) (name_bytes c.args.names.now) c.loop-rest.all _ _ _ _ _ _ _ _ _ c.in_ok-flush.ensures.kept
-    (lined_all g.E.Sink (ruled_in g.F.Folder c.args.folder.now ruling) (name_bytes c.args.names.now) _ c.loop-rest.all _ _ _ _ _ _ _ _ (c.loop-rest.invariant.1 ruling lined).1 (names_end c.loop-rest.rest.now none))
+    lined_all g.E.Sink (ruled_in g.F.Folder c.args.folder.now ruling) (name_bytes c.args.names.now) _ _ _ _ _ c.loop-rest.all _ _ _ _ (c.loop-rest.invariant.1 ruling lined).1 _ (names_end c.loop-rest.rest.now none)
+    c.in_ok-flush.ensures.kept
 
 pub returns-clause-read : goal.returns-clause-read
 returns-clause-read g c =

@@ -1,11 +1,6 @@
 -- The input is read to its end.
-use Rattle.std.proofs.Common.{◌≢◌, ◌∙◌, ap, sym, subst, Option}
-use Rattle.std.specs.Prelude.{Result}
-use Rattle.tool_parts.specs.Streams.{bytes_left, output_bytes}
-use Rattle.tool_parts.specs.declared.reason.Reason.{Reason}
+use Rattle.std.proofs.Common.{◌≢◌, ◌∙◌, ap, sym}
 use Rattle.tool_parts.proofs.Ends.{at_end}
-use Rattle.secret_rules.specs.declared.error.LineError.{LineError}
-use Rattle.acredact.specs.Ruled.{LinesOutcome, Ruling, unread_of}
 use Rattle.acredact.proofs.Metering.{text_bytes}
 use Rattle.acredact.proofs.RuledText.{lines_outcome, read_whole}
 use Rattle.acredact.proofs.ruled_files.cover_input.Goals as goal
@@ -15,9 +10,8 @@ returns-clause-outcome g c = λ ruling lined.
     let left = ap (λ device. g.I.Read.remaining device.reader) c.restart.ensures.device in
     let none = c.restart.ensures.empty_reads in
     let ends = λ (some : c.cover_metered.new.input.empty_reads ≢ 0). at_end _ (λ bytes known. c.cover_metered.new.input.ended bytes some known) in
-    subst (λ (r : Result (Option Reason) LineError). LinesOutcome ruling r c.args.counts.now c.cover_metered.new.counts (bytes_left c.args.input.now) (bytes_left c.cover_metered.new.input) (output_bytes g.W.Write c.args.output.now) (output_bytes g.W.Write c.cover_metered.new.output)) (sym c.unread_of.ensures.unread)
-    (subst (λ (r : Ruling). LinesOutcome r (unread_of c.cover_metered.result) c.args.counts.now c.cover_metered.new.counts (bytes_left c.args.input.now) (bytes_left c.cover_metered.new.input) (output_bytes g.W.Write c.args.output.now) (output_bytes g.W.Write c.cover_metered.new.output)) (sym lined.is)
-    (lines_outcome _ _ _ _ _ _ _ _ lined.searched _ _ _ _ _ _ _ left none ends c.cover_metered.result c.cover_metered.ensures.leaves))
+    rw (c.unread_of.ensures.unread, lined.is)
+    (lines_outcome _ _ _ _ _ _ _ _ lined.searched _ _ _ _ _ _ _ left none ends c.cover_metered.result c.cover_metered.ensures.leaves)
 
 pub returns-clause-read : goal.returns-clause-read
 returns-clause-read g c = λ whole.

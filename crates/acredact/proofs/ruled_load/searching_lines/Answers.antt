@@ -1,7 +1,6 @@
 -- What searches for these patterns is asked for.
-use Rattle.std.proofs.Common.{◌≡◌, ◌∙◌, List, ℕ, ap, refl, subst}
+use Rattle.std.proofs.Common.{◌≡◌, ◌∙◌, ap, refl}
 use Rattle.aho_core.specs.Replacement.{pieces_of}
-use Rattle.chromesquid.specs.Searcher.{IsBuiltFrom}
 use Rattle.acredact.specs.Arguments.{all_given}
 use Rattle.acredact.specs.Ruled.{patterns_by_case}
 use Rattle.acredact.specs.Tables.{patterns_in, secrets_of}
@@ -14,7 +13,7 @@ returns c =
     let secrets = secrets_of c.args.secrets.now in
     let p = patterns_by_case given (patterns_in secrets) in
     let words : pieces_of c.as_slice.result.now ≡ patterns_in secrets = ap pieces_of c.as_slice.ensures.value ∙ c.in_ok-patterns.ensures.patterns in
-    let of = subst (λ (l : List (List ℕ)). IsBuiltFrom c.in_ok-searcher.searcher (patterns_by_case given l)) words c.in_ok-searcher.ensures.of in
+    let of = rw words at c.in_ok-searcher.ensures.of in
     record {
       ready = record { of = of; names = c.in_ok-names.ensures.names };
       can = searcher_searches c.in_ok-searcher.searcher p of c.in_ok-searcher.ensures.answers refl (some_shortest secrets c.requires.some);

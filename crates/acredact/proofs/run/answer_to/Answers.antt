@@ -1,21 +1,22 @@
 -- The arguments are right or wrong.
 use Rattle.std.proofs.Common.{◌≡◌, inl, inr, ℕ, List, ap, refl, sym, subst, ◌∙◌, arith, ◌<◌}
 use Rattle.std.specs.Prelude.{None, Some}
+use Rattle.std.proofs.KnownBytes.{Keeps-refl}
 use Rattle.tool_parts.specs.Arguments.{texts}
 use Rattle.tool_parts.specs.Streams.{bytes_left}
 use Rattle.acredact.specs.Arguments.{Given, all_asked, all_given}
 use Rattle.acredact.specs.Calls.{IsWrongLine, call_of}
 use Rattle.acredact.specs.Checks.{CheckStatus}
 use Rattle.acredact.specs.RuledChecks.{RuledCheckStatus}
-use Rattle.acredact.specs.Ruled.{Between, RuledStatus}
+use Rattle.acredact.specs.Ruled.{Between, IsRuledTold, RuledStatus}
 use Rattle.acredact.specs.Statuses.{CallStatus, SaysOfCall}
 use Rattle.acredact.specs.declared.failure.Failure.TheVariants.{Arguments}
-use Rattle.acredact.proofs.Calls.{call_refused}
-use Rattle.acredact.proofs.Checks.{check_refused, status_ended}
+use Rattle.acredact.specs.declared.ruled_failure.RuledFailure.TheVariants.{Plain}
+use Rattle.acredact.proofs.Calls.{call_refused, tells_same}
+use Rattle.acredact.proofs.Checks.{check_refused, says_failed, status_ended}
 use Rattle.acredact.proofs.Given.{memory_alone, same_given}
 use Rattle.acredact.proofs.Statuses.{bound_by, flushed_by, one_by, status_failed, tells_one}
-use Rattle.acredact.proofs.RuledCalls.{ruled_refused}
-use Rattle.acredact.proofs.RuledCheckCalls.{check_by_rules_refused}
+use Rattle.acredact.proofs.RuledCalls.{ruled_early, ruled_failed}
 use Rattle.acredact.proofs.run.answer_to.Goals as goal
 
 pub returns-in-Ok : goal.returns-in-Ok
@@ -44,7 +45,7 @@ returns-in-Err g c =
     let redacted = λ (given : List Given) (right : all_asked (texts c.args.arguments.now) ≡ Some given).
     subst (λ (status : ℕ). CallStatus g.W.Write g.E.Sink (call_of g.F.Folder c.args.folder.now given) status c.args.streams.now (record c.args.streams.now { errors = c.report.new.errors })) (sym c.report.ensures.failed)
     (status_failed g.W.Write g.E.Sink (call_of g.F.Folder c.args.folder.now given) c.args.streams.now c.args.streams.now (λ none. record { unread = refl; unwritten = refl }) (Arguments c.in-Err.mistake) c.report.new.errors told.0
-    (call_refused g.W.Write g.E.Sink (call_of g.F.Folder c.args.folder.now given) (bytes_left c.args.streams.now.input) c.args.streams.now.input c.args.streams.now (Arguments c.in-Err.mistake) (inl (inl (memory given right))))
+    (call_refused g.W.Write g.E.Sink (call_of g.F.Folder c.args.folder.now given) _ _ (Arguments c.in-Err.mistake) _ _ (inl (inl (memory given right))))
     told.1 told.2) in
     let checked = λ (given : List Given) (right : all_asked (texts c.args.arguments.now) ≡ Some given).
     subst (λ (status : ℕ). CheckStatus g.E.Sink (call_of g.F.Folder c.args.folder.now given) status (bytes_left c.args.streams.now.input) (bytes_left c.args.streams.now.input) c.args.streams.now.errors c.report.new.errors) (sym c.report.ensures.failed)
@@ -52,9 +53,10 @@ returns-in-Err g c =
     (check_refused g.E.Sink (call_of g.F.Folder c.args.folder.now given) (bytes_left c.args.streams.now.input) (bytes_left c.args.streams.now.input) c.args.streams.now.errors (Arguments c.in-Err.mistake) (inl (inl (memory given right))))
     told.1 told.2) in
     let ruled = λ (given : List Given). subst (λ (status : ℕ). Between g.W.Write (RuledStatus g.E.Sink (call_of g.F.Folder c.args.folder.now given) status) c.args.streams.now (record c.args.streams.now { errors = c.report.new.errors })) (sym c.report.ensures.failed)
-    (ruled_refused g.E.Sink (call_of g.F.Folder c.args.folder.now given) _ _ (Arguments c.in-Err.mistake) c.args.streams.now.errors c.report.new.errors told.0 told.1 told.2) in
+    (ruled_failed g.E.Sink (call_of g.F.Folder c.args.folder.now given) (Plain (Arguments c.in-Err.mistake)) told.0 _ _ _ _ _ _ _
+    (ruled_early g.E.Sink (call_of g.F.Folder c.args.folder.now given) (Plain (Arguments c.in-Err.mistake)) _ _ _ _ _ (tells_same g.E.Sink (IsRuledTold (call_of g.F.Folder c.args.folder.now given)) _ _ refl)) told.1 told.2) in
     let ruled_check = λ (given : List Given). subst (λ (status : ℕ). Between g.W.Write (RuledCheckStatus g.E.Sink (call_of g.F.Folder c.args.folder.now given) status) c.args.streams.now (record c.args.streams.now { errors = c.report.new.errors })) (sym c.report.ensures.failed)
-    (check_by_rules_refused g.E.Sink (call_of g.F.Folder c.args.folder.now given) _ _ (Arguments c.in-Err.mistake) c.args.streams.now.errors c.report.new.errors told.0 told.1 told.2) in
+    (says_failed _ _ _ _ (tells_one g.E.Sink (IsRuledTold (call_of g.F.Folder c.args.folder.now given)) _ _ told.0 (inr (inl (Plain (Arguments c.in-Err.mistake), told.1))) told.2)) in
     record {
       wrong = λ wrong. c.report.ensures.failed;
       idle = λ wrong. record { unread = refl; unwritten = refl };
@@ -65,6 +67,7 @@ returns-in-Err g c =
         ruled = λ asks. ruled given;
         ruled_check = λ asks. record {
           says = ruled_check given;
+          begins = inl (Keeps-refl _);
           unwritten = λ summary. refl;
           flushed = λ summary (less : c.report.result < 2). absurd (omega (arith, c.report.ensures.failed, less));
         };

@@ -8,8 +8,14 @@ back_files-requires g c =
     let stands = c.itself.ensures.stands in
     record { ready = redact_as _ _ _ stands _ _ ready; both = (ready.patterns, stands.of ready.patterns ready.of, c.in-Some.ensures.of ready.patterns ready.of) }
 
-pub returns-in-Some-clause-outcome : goal.returns-in-Some-clause-outcome
-returns-in-Some-clause-outcome g c = λ p of. c.back_files.ensures.outcome p (c.itself.ensures.stands.of p of) (c.in-Some.ensures.of p of)
-
-pub returns-in-Some-clause-counted : goal.returns-in-Some-clause-counted
-returns-in-Some-clause-counted g c = λ p of. c.back_files.ensures.counted p (c.itself.ensures.stands.of p of) (c.in-Some.ensures.of p of)
+pub returns-in-Some : goal.returns-in-Some
+returns-in-Some g c =
+    let ready = c.requires.ready in
+    let own = c.back_files.ensures.done _ (c.itself.ensures.stands.of ready.patterns ready.of) (c.in-Some.ensures.of ready.patterns ready.of) in
+    record {
+      outcome = λ p of. (c.back_files.ensures.done p (c.itself.ensures.stands.of p of) (c.in-Some.ensures.of p of)).outcome;
+      counted = λ p of. (c.back_files.ensures.done p (c.itself.ensures.stands.of p of) (c.in-Some.ensures.of p of)).counted;
+      read = own.read;
+      most = own.most;
+      flushed = own.flushed;
+    }

@@ -8,9 +8,10 @@ use Rattle.acredact.proofs.run.redact_loaded.Goals as goal
 pub returns-in-Ok-clause-outcome : goal.returns-in-Ok-clause-outcome
 returns-in-Ok-clause-outcome g c = λ left loaded.
     let (mid, doubts, pieces) = c.in-Ok.ensures.told in
-    call_warned g.W.Write g.E.Sink (call_of g.F.Folder c.args.folder.now (all_given c.args.given.now)) left (loaded_in c.args.secrets.now) (record c.args.streams.now { errors = mid }) loaded c.args.streams.now.errors doubts
-    c.redact_ready.new.streams c.prepare.new.errors c.redact_ready.result pieces (c.redact_ready.ensures.outcome left loaded)
+    call_warned g.W.Write g.E.Sink (call_of g.F.Folder c.args.folder.now (all_given c.args.given.now)) left (loaded_in c.args.secrets.now) (record c.args.streams.now { errors = c.prepare.new.errors }) c.redact_ready.new.streams
+    c.args.streams.now.errors mid c.redact_ready.result loaded doubts pieces (c.redact_ready.ensures.outcome left loaded)
 
 pub returns-in-Err-clause-outcome : goal.returns-in-Err-clause-outcome
 returns-in-Err-clause-outcome g c = λ left loaded.
-    call_unready g.W.Write g.E.Sink (call_of g.F.Folder c.args.folder.now (all_given c.args.given.now)) left (loaded_in c.args.secrets.now) c.args.streams.now loaded c.prepare.new.errors c.in-Err.failure c.in-Err.ensures.fails c.in-Err.ensures.untold
+    call_unready g.W.Write g.E.Sink (call_of g.F.Folder c.args.folder.now (all_given c.args.given.now)) left (loaded_in c.args.secrets.now) _ c.in-Err.failure _ _ _ loaded
+    c.in-Err.ensures.fails c.in-Err.ensures.untold

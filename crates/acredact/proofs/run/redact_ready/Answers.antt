@@ -1,5 +1,5 @@
 -- The files' outcome, and then the counts.
-use Rattle.std.proofs.Common.{rules, ◌≡◌, ◌∙◌, List, ℕ, ap, refl, subst, sym}
+use Rattle.std.proofs.Common.{rules, ◌≡◌, ◌∙◌, List, ℕ, ap, subst, sym}
 use Rattle.std.specs.Prelude.{Bool, Err, Ok, Result}
 use Rattle.tool_parts.specs.Failures.{failure_of_stream}
 use Rattle.tool_parts.specs.Streams.{bytes_left}
@@ -16,7 +16,7 @@ use Rattle.acredact.specs.Volumes.{ReadsVolume}
 use Rattle.acredact.specs.declared.failure.Failure.{Failure}
 use Rattle.acredact.specs.declared.failure.Failure.TheVariants.{Other}
 use Rattle.acredact.specs.declared.patterns.Rule.{Rule}
-use Rattle.acredact.proofs.Calls.{job_does, rest_cut, rest_told, run_done, run_fails, run_memory}
+use Rattle.acredact.proofs.Calls.{job_does, rest_cut, rest_memory, rest_told}
 use Rattle.acredact.proofs.Limits.{bounded_from}
 use Rattle.acredact.proofs.run.redact_ready.Goals as goal
 
@@ -29,7 +29,7 @@ returns-in_err-counted-clause-outcome g c = λ left loaded.
     let load = loaded_in c.args.secrets.now in
     let is : c.from_residual.result ≡ Err (Other OutOfMemory) = search rules in
     subst (λ (r : Result Bool Failure). RestOutcome g.W.Write g.E.Sink call load r c.args.streams.now c.args.streams.now) (sym is)
-    (rest_cut g.W.Write g.E.Sink call load c.args.streams.now c.args.streams.now (Other OutOfMemory) (run_memory g.W.Write g.E.Sink (work_by call load) c.args.streams.now))
+    (rest_memory g.W.Write g.E.Sink call load c.args.streams.now)
 
 pub returns-in_err-all-clause-outcome : goal.returns-in_err-all-clause-outcome
 returns-in_err-all-clause-outcome g c = λ left loaded.
@@ -39,7 +39,7 @@ returns-in_err-all-clause-outcome g c = λ left loaded.
     let files = job_does g.F.Folder c.args.folder.now call.given load c.job_of-job.result (c.job_of-job.ensures.job c.requires.ready)
     (λ (w : Work). FilesOutcome g.W.Write g.E.Sink w (Err c.in_err-all.field-0.0) c.args.streams.now c.redact_by.new.streams) (c.in_err-all.ensures.outcome _ c.requires.ready.of) in
     subst (λ (r : Result Bool Failure). RestOutcome g.W.Write g.E.Sink call load r c.args.streams.now c.redact_by.new.streams) (sym is)
-    (rest_cut g.W.Write g.E.Sink call load c.args.streams.now c.redact_by.new.streams _ (run_fails g.W.Write g.E.Sink (work_by call load) _ _ _ files))
+    (rest_cut g.W.Write g.E.Sink call load c.args.streams.now c.redact_by.new.streams _ files)
 
 pub returns-clause-outcome : goal.returns-clause-outcome
 returns-clause-outcome g c = λ left loaded.
@@ -59,7 +59,7 @@ returns-clause-outcome g c = λ left loaded.
     let numbers = as_asked (λ w. NumbersOfAll w.holds w.names c.as_mut_slice-tally.result.now counts no_volume volume old new) c.in_ok-all.ensures.most in
     subst (λ (l : List Rule). RestOutcome g.W.Write g.E.Sink call (loaded_as l key) c.tell_counted.result c.args.streams.now (record c.redact_by.new.streams { errors = c.tell_counted.new.errors })) value
     (rest_told g.W.Write g.E.Sink call c.as_slice-rules.result.now key left old (subst (λ (l : List Rule). AreLoaded (reading_by call) call.given (loaded_as l key) left old) (sym value) loaded) counts volume
-    c.args.streams.now c.redact_by.new.streams c.in_ok-all.all (counts_asked call.given) c.tell_counted.result c.tell_counted.new.errors refl (run_done g.W.Write g.E.Sink work _ _ _ files)
+    c.args.streams.now c.redact_by.new.streams c.in_ok-all.all c.tell_counted.result c.tell_counted.new.errors files
     (λ whole. (
       subst (λ (l : List ℕ). CountsOfNames old new l counts work work.names) none
           (as_asked (λ w. CountsOfNames old new c.as_mut_slice-tally.result.now counts w w.names) (c.in_ok-all.ensures.counted _ c.requires.ready.of (ap Ok whole))),

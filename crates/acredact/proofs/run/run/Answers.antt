@@ -26,7 +26,7 @@ returns g c =
       check_patternless = λ given right asks. (checked given right asks).patternless;
       check_idle = λ given right asks none. record { unread = (checked given right asks).unread none; unwritten = (checked given right asks).unwritten };
       redacts = λ given right asks. (redacted given right asks).redacts;
-      hides = λ given right asks forms zero. call_hides g.W.Write (call_of g.F.Folder c.args.folder.now given) _ _ _ (forms_cover (texts c.args.arguments.now) given right forms) (forms_unworded (texts c.args.arguments.now) given right forms) ((redacted given right asks).redacts zero);
+      hides = λ given right asks forms zero. call_hides g.W.Write (call_of g.F.Folder c.args.folder.now given) _ _ _ _ (forms_cover (texts c.args.arguments.now) given right forms) (forms_unworded (texts c.args.arguments.now) given right forms) ((redacted given right asks).redacts zero);
       begins = λ given right asks. (redacted given right asks).begins;
       strict = λ given right asks. (redacted given right asks).strict;
       quiet = λ given right asks. (redacted given right asks).quiet;
@@ -45,7 +45,7 @@ returns g c =
       ruled_counts = λ given right asks zero counted. counts_by_rules g.E.Sink (call_of g.F.Folder c.args.folder.now given) _ _ _ _ counted ((ruled given right asks).notes zero);
       rules_unmatched = λ given right asks. (ruled_check given right asks).says.unmatched;
       rules_matched = λ given right asks. (ruled_check given right asks).says.matched;
-      rules_findings = λ given right asks. (ruled_check given right asks).says.begins;
+      rules_findings = λ given right asks. (ruled_check given right asks).begins;
       rules_unwritten = λ given right asks. (ruled_check given right asks).unwritten;
       rules_unchecked = λ given right asks. (ruled_check given right asks).says.tells;
       rules_check_quiet = λ given right asks. (ruled_check given right asks).says.quiet;

@@ -23,7 +23,7 @@ pub returns-in_err-tell_totals-clause-these : goal.returns-in_err-tell_totals-cl
 returns-in_err-tell_totals-clause-these g c = tells_same g.E.Sink _ _ _ c.in_err-tell_totals.ensures.untold
 
 pub returns-then-has_failed-clause-these : goal.returns-then-has_failed-clause-these
-returns-then-has_failed-clause-these g c = tells_line g.E.Sink _ _ _ c.in_ok-tell_totals.ensures.told
+returns-then-has_failed-clause-these g c = tells_line g.E.Sink _ _ _ _ refl c.in_ok-tell_totals.ensures.told
 
 pub returns-clause-these : goal.returns-clause-these
-returns-clause-these g c = tells_line g.E.Sink _ _ _ c.in_ok-tell_totals.ensures.told
+returns-clause-these g c = tells_line g.E.Sink _ _ _ _ refl c.in_ok-tell_totals.ensures.told

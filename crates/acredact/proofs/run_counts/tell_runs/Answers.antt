@@ -1,9 +1,6 @@
 -- The counts are one text.
-use Rattle.std.proofs.Common.{rules, ◌≡◌, List, subst, true}
-use Rattle.tool_parts.specs.Telling.{TellsBytes}
-use Rattle.secret_rules.specs.declared.rule.Rule.{Rule as LineRule}
+use Rattle.std.proofs.Common.{rules, ◌≡◌, true}
 use Rattle.acredact.specs.Arguments.{all_given, counts_asked}
-use Rattle.acredact.specs.RunCounts.{runs_text}
 use Rattle.acredact.specs.Tables.{secrets_of}
 use Rattle.acredact.proofs.Calls.{tells_same}
 use Rattle.acredact.proofs.RuledCalls.{runs_told}
@@ -16,10 +13,10 @@ pub returns-then-has_failed-clause-lines : goal.returns-then-has_failed-clause-l
 returns-then-has_failed-clause-lines g c =
     let is : counts_asked (all_given c.args.given.now) ≡ true = search rules in
     runs_told g.E.Sink (all_given c.args.given.now) (secrets_of c.args.secrets.now) c.args.line_rules.now c.args.tally.now c.args.volume _ _ is
-    (subst (λ (l : List LineRule). TellsBytes g.E.Sink c.args.errors.now c.write_runs.new.errors (runs_text (all_given c.args.given.now) c.args.secrets.now l c.args.tally.now c.args.volume)) c.as_slice-rules.ensures.same c.in_ok-write_runs.ensures.told)
+    (rw c.as_slice-rules.ensures.same at c.in_ok-write_runs.ensures.told)
 
 pub returns-clause-lines : goal.returns-clause-lines
 returns-clause-lines g c =
     let is : counts_asked (all_given c.args.given.now) ≡ true = search rules in
     runs_told g.E.Sink (all_given c.args.given.now) (secrets_of c.args.secrets.now) c.args.line_rules.now c.args.tally.now c.args.volume _ _ is
-    (subst (λ (l : List LineRule). TellsBytes g.E.Sink c.args.errors.now c.write_runs.new.errors (runs_text (all_given c.args.given.now) c.args.secrets.now l c.args.tally.now c.args.volume)) c.as_slice-rules.ensures.same c.in_ok-write_runs.ensures.told)
+    (rw c.as_slice-rules.ensures.same at c.in_ok-write_runs.ensures.told)

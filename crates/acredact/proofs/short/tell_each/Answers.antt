@@ -3,15 +3,14 @@ use Rattle.std.proofs.Common.{rules, ◌≡◌, ◌≤◌, [], ◌++◌, length,
 use Rattle.std.specs.List.{concat}
 use Rattle.std.proofs.lemmas.List.{nil_from_length}
 use Rattle.tool_parts.specs.Telling.{TellsBytes}
-use Rattle.tool_parts.proofs.Tellings.{tells-later}
+use Rattle.tool_parts.proofs.Tellings.{tells-later, tells-nothing}
 use Rattle.acredact.specs.Short.{lines_of_short, short_lines}
 use Rattle.acredact.specs.Tables.{secrets_of}
-use Rattle.acredact.proofs.Done.{tells_none}
 use Rattle.acredact.proofs.Doubting.{told_next}
 use Rattle.acredact.proofs.short.tell_each.Goals as goal
 
 pub loop-rest-init : goal.loop-rest-init
-loop-rest-init g c = record { count = omega arith; done = []; are = refl; told = tells_none g.E.Sink _ }
+loop-rest-init g c = record { count = omega arith; done = []; are = refl; told = tells-nothing g.E.Sink _ }
 
 pub loop-rest-preserved : goal.loop-rest-preserved
 loop-rest-preserved g c =

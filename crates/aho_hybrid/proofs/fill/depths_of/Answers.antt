@@ -1,4 +1,4 @@
-use Rattle.std.proofs.Common.{◌≡◌, ℕ, List, length, sym, subst, arith}
+use Rattle.std.proofs.Common.{◌≡◌, ℕ, length, sym, subst, arith}
 use Rattle.aho_corasick.specs.ReadOut.{states_of}
 use Rattle.aho_hybrid.specs.Filled.{AreDepths}
 use Rattle.aho_hybrid.proofs.Depths.{depths-none}

@@ -1,5 +1,6 @@
 -- No option, no pattern, no operand and no rule is there.
-use Rattle.std.proofs.Common.{◌≡◌, ℕ, Bor, List, [], ◌∙◌, ap, codes, map}
+use Rattle.std.proofs.Common.{◌∙◌, ◌≡◌, Bor, List, [], ap, codes, ℕ}
+use Rattle.std.specs.Prelude.{map}
 use Rattle.acgrep.specs.Arguments.{Said, no_flags, nothing_said, origin_of}
 use Rattle.acgrep.specs.Rules.{rules_said}
 use Rattle.acgrep.specs.declared.arguments.Source.{Source}

@@ -1,5 +1,5 @@
 -- A newline ends what follows the last one.
-use Rattle.std.proofs.Common.{◌≡◌, ◌<◌, ℕ, List, ◌∙◌, ap, arith, subst, length}
+use Rattle.std.proofs.Common.{◌<◌, ◌∙◌, ◌≡◌, List, ap, arith, length, subst, ℕ}
 use Rattle.memchr.specs.Find.{Nowhere}
 use Rattle.acgrep.specs.Lines.{IsEnding, lines}
 use Rattle.acgrep.proofs.WordLists.{lines_ended}

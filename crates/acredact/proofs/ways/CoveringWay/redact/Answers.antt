@@ -3,13 +3,10 @@ use Rattle.acredact.proofs.Suited.{covering_still}
 use Rattle.acredact.proofs.ways.CoveringWay.redact.Goals as goal
 
 pub cover-requires : goal.cover-requires
-cover-requires g c = record { ready = c.requires.ready.1.redactor.ready; unbegun = c.requires.ready.1.unbegun }
+cover-requires g c = let r = c.requires.ready in record { of = (r.0.patterns, r.1.coverer.of); unbegun = r.1.unbegun }
 
-pub returns-clause-outcome : goal.returns-clause-outcome
-returns-clause-outcome g c = λ red by. rw by.redactor.is (c.cover.ensures.outcome red.patterns by.redactor.of)
+pub returns-clause-done : goal.returns-clause-done
+returns-clause-done g c = λ red by. c.cover.ensures.done red by.coverer
 
 pub returns-clause-still : goal.returns-clause-still
-returns-clause-still g c = λ red by. covering_still g.A.Automaton _ _ _ _ _ red c.cover.ensures.same c.cover.ensures.unbegun by
-
-pub returns-clause-counted : goal.returns-clause-counted
-returns-clause-counted g c = λ red by. rw by.redactor.is (c.cover.ensures.counted red.patterns by.redactor.of)
+returns-clause-still g c = λ red by. covering_still g.A.Automaton _ _ _ _ _ _ red c.cover.ensures.same c.cover.ensures.rule c.cover.ensures.unbegun by

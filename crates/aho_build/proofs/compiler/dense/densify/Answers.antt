@@ -4,7 +4,7 @@ use Rattle.std.proofs.lemmas.Bool.{cases_eq}
 use Rattle.aho_table.specs.Alphabet.{class_count}
 use Rattle.aho_table.specs.Table.{State, Tables, state_at, with_row}
 use Rattle.aho_build.specs.Dense.{is_dense, row_start}
-use Rattle.aho_build.proofs.RowCounts.{rows_before, rows_before-first, rows_before-dense, rows_before-other, HaveRowsBelow, HaveRowsBelow-first, HaveRowsBelow-added, HaveRowsBelow-past, AreDense-all, is_dense_at-named}
+use Rattle.aho_build.proofs.RowCounts.{rows_before, rows_before-first, rows_before-dense, rows_before-other, HaveRowsBelow, HaveRowsBelow-first, HaveRowsBelow-added, HaveRowsBelow-past, is_dense_at-named}
 use Rattle.aho_build.proofs.compiler.dense.densify.Goals as goal
 use Rattle.aho_build.proofs.compiler.dense.densify.Goals.{then-has_row+in_ok-add_row, else-has_row}
 

@@ -11,7 +11,7 @@ use Rattle.aho_cover.proofs.Covered.{has-joined, has-open}
 use Rattle.aho_cover.proofs.Sound.{order-joined, room-joined, sound-joined}
 use Rattle.aho_cover.proofs.Written.{on_err, writes_still, writes_with}
 use Rattle.aho_cover.proofs.progress.CoverProgress.join.Given.{Over}
-use Rattle.aho_cover.proofs.progress.CoverProgress.join.Goals.{After-open_place-open, After-branch-settle}
+use Rattle.aho_cover.proofs.progress.CoverProgress.join.Goals.{After-open_place-open}
 use Rattle.aho_cover.proofs.progress.CoverProgress.join.Goals as goal
 
 -- what ends later begins behind the open place

@@ -1,5 +1,5 @@
 -- The clone has equal states, equal lengths and an equal prefilter.
-use Rattle.std.proofs.Common.{◌≡◌, ℕ, List, Option, Bool, rules, refl, sym, ap, subst, ◌∙◌}
+use Rattle.std.proofs.Common.{◌≡◌, ℕ, List, Option, rules, refl, sym, ap, subst, ◌∙◌}
 use Rattle.std.specs.List.{each_same}
 use Rattle.std.specs.Prelude.{IfSome, is_some}
 use Rattle.aho_core.specs.Patterns.{Patterns}

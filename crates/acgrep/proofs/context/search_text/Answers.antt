@@ -1,13 +1,34 @@
 -- Lines around selected ones are written where they are asked for.
-use Rattle.std.proofs.Common.{◌≡◌, ◌∙◌, Option, None, Some, sym, subst}
-use Rattle.std.specs.Prelude.{OnErr, OnOk}
+use Rattle.std.proofs.Common.{◌++◌, ◌∙◌, ◌≡◌, Bool, List, None, Option, Some, [], ap, append-nil, arith, false, inl, inr, subst, sym, ℕ}
 use Rattle.std.proofs.lemmas.Result.{on_ok_weaker}
+use Rattle.std.specs.Prelude.{OnErr, OnOk}
+use Rattle.aho_core.specs.Patterns.{Patterns}
 use Rattle.acgrep.specs.Begun.{BeginsOf}
-use Rattle.acgrep.specs.Contexts.{SearchesIn, TellsFrom, around_of}
+use Rattle.acgrep.specs.Contexts.{SearchesIn, TellsFrom, WalksText, around_of, walk_of}
 use Rattle.acgrep.specs.Lines.{lines}
+use Rattle.acgrep.specs.Selected.{HoldNoEnding, IsNoneSelected}
+use Rattle.acgrep.specs.Written.{EachLine, HasNone, IsPassedOver}
 use Rattle.acgrep.specs.declared.options.Context.{Context}
-use Rattle.acgrep.proofs.NoneAround.{walks_nothing}
-use Rattle.acgrep.proofs.select.search_text.Goals as goal
+use Rattle.acgrep.specs.declared.options.Fit.{Fit}
+use Rattle.acgrep.specs.declared.options.Fit.TheVariants.{AnyPart}
+use Rattle.acgrep.specs.declared.job.Job.{Job}
+use Rattle.acgrep.specs.declared.job.State.{State}
+use Rattle.acgrep.proofs.FileTellings.{tells_each}
+use Rattle.acgrep.proofs.NoneInLines.{none_by_lines}
+use Rattle.acgrep.proofs.Tellings.{settled_some}
+use Rattle.acgrep.proofs.Walked.{walks_tells}
+use Rattle.acgrep.proofs.context.search_text.Goals as goal
+
+walks_nothing : (p : Patterns) (job : Job) (context : Context) (a b : State) (x y : Option (List ℕ)) (text : List ℕ) → HoldNoEnding job.style.ending p → WalksText p job context a b x y text
+    → IsNoneSelected p job text b
+walks_nothing p job context a b x y text plain walks invert part some zero =
+    let none : walks.left ≡ [] = elim walks.ends [ inl none ↦ none | inr settled ↦ absurd (omega (arith, zero, settled_some job b settled)) ] in
+    let all : lines job.style.ending text ≡ walks.searched = walks.cut ∙ ap (λ (l : List ℕ). walks.searched ++ lines job.style.ending l) none ∙ append-nil walks.searched in
+    let (told, tells) = walks_tells p job context walks.searched (walk_of a) (walk_of b) walks.tells.bytes walks.tells.walks in
+    let each : EachLine (IsPassedOver p job.fit job.invert) walks.searched = tells_each p job walks.searched a.place a.selected told b.selected tells zero in
+    let plainly : EachLine (IsPassedOver p AnyPart false) walks.searched =
+    subst (λ (b : Bool). EachLine (IsPassedOver p AnyPart b) walks.searched) invert (subst (λ (fit : Fit). EachLine (IsPassedOver p fit job.invert) walks.searched) part each) in
+    none_by_lines job.style.ending p plain text some (subst (EachLine (HasNone p)) (sym all) plainly)
 
 pub returns-in-Some-clause-none : goal.returns-in-Some-clause-none
 returns-in-Some-clause-none g c = λ p is plain.

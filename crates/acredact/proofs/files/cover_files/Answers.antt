@@ -1,0 +1,16 @@
+-- The pieces are those of the key, or one for each pattern.
+use Rattle.std.proofs.Common.{rules, ◌≡◌, ap}
+use Rattle.std.specs.Prelude.{None, Some}
+use Rattle.aho_core.specs.Replacement.{pieces_of}
+use Rattle.aho_cover.specs.Pieces.{fixed_rule}
+use Rattle.acredact.proofs.files.cover_files.Goals as goal
+
+pub cover_by-requires : goal.cover_by-requires
+cover_by-requires g c =
+    let named : c.args.job.now.key ≡ Some c.in-Some.key = search rules in
+    record { ready = c.requires.ready; covers = c.requires.covers; made = rw (c.requires.covers, named) c.new-names.ensures.rule }
+
+pub cover_by-in-None-requires : goal.cover_by-in-None-requires
+cover_by-in-None-requires g c =
+    let none : c.args.job.now.key ≡ None = search rules in
+    record { ready = c.requires.ready; covers = c.requires.covers; made = rw (c.requires.covers, none) (ap (λ l. fixed_rule (pieces_of l)) c.new-texts.ensures.pieces) }
