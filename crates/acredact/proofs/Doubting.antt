@@ -8,7 +8,7 @@ use Rattle.std.proofs.lemmas.List.{get_or-map, length-map, take_rest}
 use Rattle.acredact.specs.Arguments.{Given, all_given, given_of}
 use Rattle.acredact.specs.Doubts.{list_name}
 use Rattle.acredact.specs.Tables.{Secret, secret_of, secrets_of}
-use Rattle.acredact.specs.declared.arguments.Item.{Item}
+use Rattle.acredact.specs.declared.options.Item.{Item}
 use Rattle.acredact.specs.declared.patterns.Rule.{Rule}
 use Rattle.acredact.proofs.Done.{concat_both}
 

@@ -6,11 +6,11 @@ use Rattle.acredact.specs.Arguments.{Given, ItemsSoFar, all_asked, by_argument, 
 use Rattle.acredact.specs.Mistakes.{IsMistakeOfCall, first_mistake_line, line_from, line_of_argument, line_or}
 use Rattle.acredact.specs.declared.arguments.Expects.{Expects}
 use Rattle.acredact.specs.declared.arguments.Expects.TheVariants.{Any, Name, Value}
-use Rattle.acredact.specs.declared.arguments.Mistake.{Mistake}
-use Rattle.acredact.specs.declared.arguments.Mistake.TheVariants.{OutOfMemory}
-use Rattle.acredact.specs.declared.arguments.Mixture.{Mixture}
-use Rattle.acredact.specs.declared.arguments.Mixture.TheVariants.{CountCheck, FormsKind, OutputCheck, PseudonymKind, PseudonymTable, PseudonymWith, StrictKind, SummaryCheck, WordsForms, WordsKind}
-use Rattle.acredact.specs.declared.arguments.Word.TheVariants.{AsWord, Check, Count, Forms, Output, Pseudonym, Strict, Summary, Table, With}
+use Rattle.acredact.specs.declared.mistakes.Mistake.{Mistake}
+use Rattle.acredact.specs.declared.mistakes.Mistake.TheVariants.{OutOfMemory}
+use Rattle.acredact.specs.declared.mistakes.Mixture.{Mixture}
+use Rattle.acredact.specs.declared.mistakes.Mixture.TheVariants.{CountCheck, FormsKind, OutputCheck, PseudonymKind, PseudonymTable, PseudonymWith, StrictKind, SummaryCheck, WordsForms, WordsKind}
+use Rattle.acredact.specs.declared.options.Word.TheVariants.{AsWord, Check, Count, Forms, Output, Pseudonym, Strict, Summary, Table, With}
 
 -- what was given is one list alone
 pub same_given : (asked : Option (List Given)) (given items : List Given) → asked ≡ Some given → asked ≡ Some items → items ≡ given

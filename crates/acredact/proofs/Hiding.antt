@@ -38,7 +38,7 @@ use Rattle.acredact.specs.Arguments.{Given, covers_asked, has, words_asked}
 use Rattle.acredact.specs.Calls.{Call, HidesCall, RedactsCall, names_asked, work_by}
 use Rattle.acredact.specs.Loading.{Loaded, loaded_by}
 use Rattle.acredact.specs.Named.{all_named, named_secret}
-use Rattle.acredact.specs.declared.arguments.Word.TheVariants.{Forms as FormsOption, IgnoreCase}
+use Rattle.acredact.specs.declared.options.Word.TheVariants.{Forms as FormsOption, IgnoreCase}
 use Rattle.acredact.proofs.Free.{named_as}
 
 -- what a form hides is hidden where it shows

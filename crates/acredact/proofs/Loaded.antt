@@ -5,7 +5,7 @@ use Rattle.std.specs.Io.KnownBytes.{Keeps}
 use Rattle.std.proofs.KnownBytes.{Consumes-all}
 use Rattle.std.proofs.lemmas.List.{take_rest}
 use Rattle.tool_parts.specs.Names.{is_input}
-use Rattle.acredact.specs.declared.arguments.Item.{Item}
+use Rattle.acredact.specs.declared.options.Item.{Item}
 use Rattle.acredact.specs.declared.failure.Failure.{Failure}
 use Rattle.acredact.specs.Arguments.{Given, all_given, given_of}
 use Rattle.acredact.specs.Loading.{CannotLoad, CannotLoadOne, EachGives, IsFileFailure, IsListedFailure, Reading}

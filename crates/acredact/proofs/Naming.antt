@@ -9,7 +9,7 @@ use Rattle.acredact.specs.Loading.{AreLoaded, Loaded, Reading, loaded_by}
 use Rattle.acredact.specs.Named.{all_named, named_secret}
 use Rattle.acredact.specs.Ruled.{AreRuledLoaded, RuledLoad, secrets_by}
 use Rattle.acredact.specs.Tables.{HaveNoEmpty, Secret}
-use Rattle.acredact.specs.declared.arguments.Word.TheVariants.{Forms, IgnoreCase}
+use Rattle.acredact.specs.declared.options.Word.TheVariants.{Forms, IgnoreCase}
 use Rattle.acredact.proofs.Ready.{IsSomeSecret, given_some}
 
 -- no pattern that is named is empty

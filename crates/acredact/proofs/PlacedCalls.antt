@@ -29,7 +29,7 @@ use Rattle.acredact.specs.Ready.{CannotPrepare}
 use Rattle.acredact.specs.Secrets.{AreCleanBy}
 use Rattle.acredact.specs.Summaries.{no_volume}
 use Rattle.acredact.specs.Tables.{secrets_of}
-use Rattle.acredact.specs.declared.arguments.Word.TheVariants.{Strict}
+use Rattle.acredact.specs.declared.options.Word.TheVariants.{Strict}
 use Rattle.acredact.specs.declared.failure.Failure.{Failure}
 use Rattle.acredact.specs.declared.failure.Failure.TheVariants.{Other}
 use Rattle.acredact.specs.declared.outputs.Outputs.{Ghosts as Places}

@@ -31,8 +31,8 @@ use Rattle.acredact.specs.Ready.{IsReadyFor}
 use Rattle.acredact.specs.Secrets.{CanRedact}
 use Rattle.acredact.specs.Tables.{HaveNoEmpty, HoldsBy, Secret, patterns_in}
 use Rattle.acredact.specs.Values.{GiveEach, no_bytes, value_of_entry, whole_in}
-use Rattle.acredact.specs.declared.arguments.Word.{Word}
-use Rattle.acredact.specs.declared.arguments.Word.TheVariants.{AsWord, Env, EnvFile, Kind, Pattern, Patterns as PatternFile, Table, Whole}
+use Rattle.acredact.specs.declared.options.Word.{Word}
+use Rattle.acredact.specs.declared.options.Word.TheVariants.{AsWord, Env, EnvFile, Kind, Pattern, Patterns as PatternFile, Table, Whole}
 use Rattle.acredact.specs.declared.folder.Folder.{Ghosts as Folders}
 use Rattle.acredact.specs.declared.load.Lists.{Lists}
 use Rattle.acredact.specs.declared.patterns.Form.{Form}

@@ -27,7 +27,7 @@ use Rattle.acredact.specs.Summaries.{no_volume}
 use Rattle.acredact.specs.Tables.{Secret, patterns_in, piece_by, secret_of, secrets_of}
 use Rattle.acredact.specs.Totals.{AreTotals}
 use Rattle.acredact.specs.Volumes.{ReadsVolume}
-use Rattle.acredact.specs.declared.arguments.Word.TheVariants.{AsWord}
+use Rattle.acredact.specs.declared.options.Word.TheVariants.{AsWord}
 use Rattle.acredact.specs.declared.patterns.Rule.{Rule as PatternRule}
 use Rattle.acredact.specs.declared.ruled_failure.RuledFailure.{RuledFailure}
 use Rattle.acredact.specs.declared.summary.Volume.{Volume}

@@ -20,7 +20,7 @@ use Rattle.acredact.specs.Ruled.{AreRulesGiven, IsRuledTold, patterns_by_case}
 use Rattle.acredact.specs.RuledChecks.{BeginAllTelling, BeginsLoadedCheck, BeginsRuledCheck, CheckLoad, CheckedLines, LineQuest, RuledCheck, RuledCheckStatus, SeesByRules, SeenFiles, line_quest_by}
 use Rattle.acredact.specs.Statuses.{check_status}
 use Rattle.acredact.specs.Tables.{patterns_in}
-use Rattle.acredact.specs.declared.arguments.Word.TheVariants.{AsWord, Summary}
+use Rattle.acredact.specs.declared.options.Word.TheVariants.{AsWord, Summary}
 use Rattle.acredact.specs.declared.look.Verdict.{Verdict}
 use Rattle.acredact.specs.declared.ruled_failure.RuledFailure.{RuledFailure}
 use Rattle.acredact.proofs.Calls.{some_behind, some_weaker, tells_both, tells_same}

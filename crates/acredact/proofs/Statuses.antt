@@ -11,7 +11,7 @@ use Rattle.acredact.specs.Arguments.{AsksAnyCheck, AsksForRules, AsksForRulesChe
 use Rattle.acredact.specs.Calls.{Call, CallOutcome, IsLineOf, OutputFails}
 use Rattle.acredact.specs.Failures.{IsFailureLine}
 use Rattle.acredact.specs.Statuses.{CallStatus, IsIdle}
-use Rattle.acredact.specs.declared.arguments.Word.TheVariants.{Check, Help, Version}
+use Rattle.acredact.specs.declared.options.Word.TheVariants.{Check, Help, Version}
 use Rattle.acredact.specs.declared.failure.Failure.{Failure}
 use Rattle.acredact.specs.declared.streams.Streams.{Streams}
 use Rattle.acredact.proofs.Calls.{tells_last, tells_same}

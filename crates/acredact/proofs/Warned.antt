@@ -22,7 +22,7 @@ use Rattle.acredact.specs.Pieces.{IsJudgedBy, TellsOfPieces}
 use Rattle.acredact.specs.Ready.{CannotPrepare}
 use Rattle.acredact.specs.Secrets.{AreCleanBy, Redactor, key_of_cover}
 use Rattle.acredact.specs.Tables.{Secret}
-use Rattle.acredact.specs.declared.arguments.Word.TheVariants.{Strict}
+use Rattle.acredact.specs.declared.options.Word.TheVariants.{Strict}
 use Rattle.acredact.specs.declared.clean.Unclean.{Unclean}
 use Rattle.acredact.specs.declared.failure.Failure.{Failure}
 use Rattle.acredact.specs.declared.streams.Streams.{Streams}

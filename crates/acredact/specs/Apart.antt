@@ -15,7 +15,7 @@ use Rattle.acredact.specs.declared.apart.Told.{Told}
 use Rattle.acredact.specs.declared.apart.Told.TheVariants.{Nothing, Each, EachAlone}
 use Rattle.acredact.specs.declared.arguments.Expects.{Expects}
 use Rattle.acredact.specs.declared.arguments.Expects.TheVariants.{Any, Value, Name}
-use Rattle.acredact.specs.declared.arguments.Word.TheVariants.{File, Help, Output, Version}
+use Rattle.acredact.specs.declared.options.Word.TheVariants.{File, Help, Output, Version}
 
 -- what is expected behind an argument; behind one that is wrong that does not matter
 abbrev pub expected_by : Option ItemsSoFar → Expects

@@ -3,7 +3,7 @@ use Rattle.std.specs.Prelude.{ℕ, List}
 use Rattle.aho_core.specs.Patterns.{Patterns}
 use Rattle.tool_parts.specs.Building.{patterns_by_kind}
 use Rattle.acredact.specs.Arguments.{Given, has, kind_asked}
-use Rattle.acredact.specs.declared.arguments.Word.TheVariants.{IgnoreCase}
+use Rattle.acredact.specs.declared.options.Word.TheVariants.{IgnoreCase}
 
 -- these words, by the kind and the case rule that are given
 abbrev pub patterns_by_given : List Given → List (List ℕ) → Patterns

@@ -24,8 +24,8 @@ use Rattle.acredact.specs.Looks.{IsLook, HoldsNoMatch, is_found, sought}
 use Rattle.acredact.specs.Reads.{OfName}
 use Rattle.acredact.specs.Secrets.{Redactor}
 use Rattle.acredact.specs.Tables.{Secret, patterns_in, secrets_of}
-use Rattle.acredact.specs.declared.arguments.Mistake.TheVariants.{NoPattern, OutOfMemory as NoRoom}
-use Rattle.acredact.specs.declared.arguments.Word.TheVariants.{Strict}
+use Rattle.acredact.specs.declared.mistakes.Mistake.TheVariants.{NoPattern, OutOfMemory as NoRoom}
+use Rattle.acredact.specs.declared.options.Word.TheVariants.{Strict}
 use Rattle.acredact.specs.declared.failure.Failure.{Failure}
 use Rattle.acredact.specs.declared.failure.Failure.TheVariants.{Arguments, Other}
 use Rattle.acredact.specs.declared.folder.Folder.{Ghosts as Folders}

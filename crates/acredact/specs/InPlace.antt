@@ -24,8 +24,8 @@ use Rattle.acredact.specs.Messages.{no_file_line, output_line}
 use Rattle.acredact.specs.Summaries.{no_volume}
 use Rattle.acredact.specs.Totals.{CountsOfName, CountsOfNames, NamesHaveRanges}
 use Rattle.acredact.specs.Volumes.{ReadsVolume}
-use Rattle.acredact.specs.declared.arguments.Item.{Item}
-use Rattle.acredact.specs.declared.arguments.Word.TheVariants.{Strict}
+use Rattle.acredact.specs.declared.options.Item.{Item}
+use Rattle.acredact.specs.declared.options.Word.TheVariants.{Strict}
 use Rattle.acredact.specs.declared.failure.Failure.{Failure}
 use Rattle.acredact.specs.declared.failure.Failure.TheVariants.{Other}
 use Rattle.acredact.specs.declared.folder.Folder.{Ghosts as Folders}

@@ -13,8 +13,8 @@ use Rattle.acredact.specs.LineSizes.{size_in}
 use Rattle.acredact.specs.Loading.{EachGives, Reading, reading_of_lists}
 use Rattle.acredact.specs.Parts.{IsAddedSome}
 use Rattle.acredact.specs.Reads.{OfName, ReadsText}
-use Rattle.acredact.specs.declared.arguments.Word.{Word}
-use Rattle.acredact.specs.declared.arguments.Word.TheVariants.{Rules, After, MaxLine}
+use Rattle.acredact.specs.declared.options.Word.{Word}
+use Rattle.acredact.specs.declared.options.Word.TheVariants.{Rules, After, MaxLine}
 use Rattle.acredact.specs.declared.folder.Folder.{Ghosts as Folders}
 use Rattle.acredact.specs.declared.load.Lists.{Lists}
 

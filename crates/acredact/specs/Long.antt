@@ -4,8 +4,8 @@ use Rattle.std.specs.Result.{result_ok}
 use Rattle.tool_parts.specs.OptionNames.{Named, found_among, meant, named}
 use Rattle.tool_parts.specs.declared.options.found.Found.{Found}
 use Rattle.tool_parts.specs.declared.options.found.Found.TheVariants.{Unknown}
-use Rattle.acredact.specs.declared.arguments.Word.{Word}
-use Rattle.acredact.specs.declared.arguments.Word.TheVariants.{IgnoreCase, Kind, Pattern, Patterns, Table, Env, EnvFile, Whole, With, Pseudonym, Forms, AsWord, Rules, After, MaxLine, Output, InPlace, Count, Summary, Crlf, AllowEmpty, Strict, Check, Help, Version}
+use Rattle.acredact.specs.declared.options.Word.{Word}
+use Rattle.acredact.specs.declared.options.Word.TheVariants.{IgnoreCase, Kind, Pattern, Patterns, Table, Env, EnvFile, Whole, With, Pseudonym, Forms, AsWord, Rules, After, MaxLine, Output, InPlace, Count, Summary, Crlf, AllowEmpty, Strict, Check, Help, Version}
 
 -- the options that say what is replaced, and by what
 abbrev pub options_of_patterns : List (Named Word)

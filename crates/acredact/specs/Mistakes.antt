@@ -12,13 +12,13 @@ use Rattle.acredact.specs.Messages.{alone, told_line}
 use Rattle.rule_files.specs.Messages.{as_shown}
 use Rattle.acredact.specs.declared.arguments.Expects.{Expects}
 use Rattle.acredact.specs.declared.arguments.Expects.TheVariants.{Any, Value, Name}
-use Rattle.acredact.specs.declared.arguments.Item.{Item}
-use Rattle.acredact.specs.declared.arguments.Mistake.{Mistake}
-use Rattle.acredact.specs.declared.arguments.Mistake.TheVariants.{UnknownLetter, NotFound, NoValue, TakesNone, UnknownKind, UnknownForm, BadName, BadSize, NoPattern, Mixed, OutOfMemory}
-use Rattle.acredact.specs.declared.arguments.Mixture.{Mixture}
-use Rattle.acredact.specs.declared.arguments.Mixture.TheVariants.{StrictKind, PseudonymKind, PseudonymWith, PseudonymTable, FormsKind, WordsKind, WordsForms, RulesKind, RulesInPlace, RulesStrict, MaxLineAlone, CountCheck, SummaryCheck, OutputCheck, InPlaceCheck, InPlaceOutput}
-use Rattle.acredact.specs.declared.arguments.Word.{Word}
-use Rattle.acredact.specs.declared.arguments.Word.TheVariants.{Env, Forms, MaxLine}
+use Rattle.acredact.specs.declared.options.Item.{Item}
+use Rattle.acredact.specs.declared.mistakes.Mistake.{Mistake}
+use Rattle.acredact.specs.declared.mistakes.Mistake.TheVariants.{UnknownLetter, NotFound, NoValue, TakesNone, UnknownKind, UnknownForm, BadName, BadSize, NoPattern, Mixed, OutOfMemory}
+use Rattle.acredact.specs.declared.mistakes.Mixture.{Mixture}
+use Rattle.acredact.specs.declared.mistakes.Mixture.TheVariants.{StrictKind, PseudonymKind, PseudonymWith, PseudonymTable, FormsKind, WordsKind, WordsForms, RulesKind, RulesInPlace, RulesStrict, MaxLineAlone, CountCheck, SummaryCheck, OutputCheck, InPlaceCheck, InPlaceOutput}
+use Rattle.acredact.specs.declared.options.Word.{Word}
+use Rattle.acredact.specs.declared.options.Word.TheVariants.{Env, Forms, MaxLine}
 
 -- what is told of options that do not go together
 abbrev pub mixture_text : Mixture → List ℕ

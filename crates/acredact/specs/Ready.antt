@@ -12,8 +12,8 @@ use Rattle.acredact.specs.Doubts.{IsDoubtFailure}
 use Rattle.acredact.specs.Files.{redactor_of}
 use Rattle.acredact.specs.Loading.{Loaded}
 use Rattle.acredact.specs.Tables.{Secret, patterns_in, secrets_of}
-use Rattle.acredact.specs.declared.arguments.Item.{Item}
-use Rattle.acredact.specs.declared.arguments.Word.TheVariants.{Strict}
+use Rattle.acredact.specs.declared.options.Item.{Item}
+use Rattle.acredact.specs.declared.options.Word.TheVariants.{Strict}
 use Rattle.acredact.specs.declared.failure.Failure.{Failure}
 use Rattle.acredact.specs.declared.files.Job.{Job}
 use Rattle.acredact.specs.declared.prepare.Ready.{Ready}

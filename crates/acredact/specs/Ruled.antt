@@ -50,8 +50,8 @@ use Rattle.acredact.specs.RunPieces.{mixed_rule, pseudonyms_by}
 use Rattle.acredact.specs.Summaries.{no_volume}
 use Rattle.acredact.specs.Tables.{Secret, patterns_in, secrets_of}
 use Rattle.acredact.specs.Volumes.{ReadsVolume}
-use Rattle.acredact.specs.declared.arguments.Word.TheVariants.{AsWord, Forms, IgnoreCase, Pseudonym}
-use Rattle.acredact.specs.declared.arguments.Item.{Item}
+use Rattle.acredact.specs.declared.options.Word.TheVariants.{AsWord, Forms, IgnoreCase, Pseudonym}
+use Rattle.acredact.specs.declared.options.Item.{Item}
 use Rattle.acredact.specs.declared.folder.Folder.{Ghosts as Folders}
 use Rattle.acredact.specs.declared.patterns.Rule.{Rule as PatternRule}
 use Rattle.acredact.specs.declared.ruled_failure.RuledFailure.{RuledFailure}

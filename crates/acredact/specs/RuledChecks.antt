@@ -41,8 +41,8 @@ use Rattle.rule_files.specs.Flaws.{name_or_number}
 use Rattle.acredact.specs.Ruled.{AreRulesGiven, AreRulesGivenBy, Between, IsRuledTold, TellsRuled, ruling_by}
 use Rattle.acredact.specs.Sums.{counts_for}
 use Rattle.acredact.specs.Tables.{Secret, secrets_of}
-use Rattle.acredact.specs.declared.arguments.Word.TheVariants.{Summary}
-use Rattle.acredact.specs.declared.arguments.Item.{Item}
+use Rattle.acredact.specs.declared.options.Word.TheVariants.{Summary}
+use Rattle.acredact.specs.declared.options.Item.{Item}
 use Rattle.acredact.specs.declared.checked_files.Checked.{Checked}
 use Rattle.acredact.specs.declared.findings.Findings.{Findings}
 use Rattle.acredact.specs.declared.folder.Folder.{Ghosts as Folders}

@@ -17,8 +17,8 @@ use Rattle.acredact.specs.RunSummaries.{run_summary_text}
 use Rattle.acredact.specs.Sums.{sums_of}
 use Rattle.acredact.specs.Tables.{Secret, secrets_of}
 use Rattle.acredact.specs.Totals.{AreTotals}
-use Rattle.acredact.specs.declared.arguments.Item.{Item}
-use Rattle.acredact.specs.declared.arguments.Word.TheVariants.{Count, Summary}
+use Rattle.acredact.specs.declared.options.Item.{Item}
+use Rattle.acredact.specs.declared.options.Word.TheVariants.{Count, Summary}
 use Rattle.acredact.specs.declared.patterns.Rule.{Rule as PatternRule}
 use Rattle.acredact.specs.declared.summary.Volume.{Volume}
 

@@ -4,7 +4,7 @@ use Rattle.std.specs.List.{All}
 use Rattle.acredact.specs.Arguments.{Given, has}
 use Rattle.acredact.specs.Failures.{short_line}
 use Rattle.acredact.specs.Tables.{Secret}
-use Rattle.acredact.specs.declared.arguments.Word.TheVariants.{Forms}
+use Rattle.acredact.specs.declared.options.Word.TheVariants.{Forms}
 use Rattle.acredact.specs.declared.failure.Failure.{Failure}
 use Rattle.acredact.specs.declared.failure.Failure.TheVariants.{Short}
 

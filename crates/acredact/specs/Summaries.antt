@@ -2,7 +2,7 @@
 use Rattle.std.specs.Prelude.{ℕ, List, [], ◌∷◌, ◌++◌, codes, decimal, if◌then◌else◌}
 use Rattle.acredact.specs.Arguments.{Given, has}
 use Rattle.acredact.specs.Counts.{counts_text}
-use Rattle.acredact.specs.declared.arguments.Word.TheVariants.{Count, Summary}
+use Rattle.acredact.specs.declared.options.Word.TheVariants.{Count, Summary}
 use Rattle.acredact.specs.declared.summary.Volume.{Volume}
 
 -- numbers with a comma in front of each

@@ -10,9 +10,10 @@ ghost use Rattle.acredact.specs.Arguments.{all_given};
 ghost use Rattle.acredact.specs.Calls.{IsWrongFailure};
 ghost use Rattle.acredact.specs.declared.arguments.Expects.TheVariants.{Any};
 
-use crate::arguments::{Expects, Item, Mistake, Word, has, items, read};
-use crate::failure::{Failure, PROGRAM};
-use crate::run::{FAILED, gives_pattern};
+use crate::arguments::{Expects, items, read};
+use crate::failure::{FAILED, Failure, PROGRAM};
+use crate::mistakes::Mistake;
+use crate::options::{Item, Word, gives_pattern, has};
 use chromesquid::Sink;
 use rule_files::tell_shown;
 use std::alloc::{Alloc, AllocError, Global};

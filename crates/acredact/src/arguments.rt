@@ -1,85 +1,21 @@
 //! What the arguments of a call are: options with their values, and names of files.
 
-ghost use Rattle.std.specs.Prelude.{◌≡◌, ◌++◌, [], ◌∷◌, Some, None, IfErr, IfOk, OnOk, option_map, string_bytes};
-ghost use Rattle.tool_parts.specs.Arguments.{kind_by, texts};
-ghost use Rattle.acredact.specs.Arguments.{ReadsAs, all_asked, all_given, by_any, by_argument, checks_asked, counts_asked, covers_asked, given, given_by, has, in_place_asked, in_place_mixture_of, is_cover, is_same, is_value_of, by_joined, kind_asked, last_value, by_letter, by_letters, mixture_of, by_name, option_name, output_asked, by_taken, takes_value, max_line_mixture_of, rules_mixture_of, gives_rules, rules_asked, rules_check_asked, words_asked, words_mixture_of, by_value};
+ghost use Rattle.std.specs.Prelude.{◌≡◌, ◌++◌, [], ◌∷◌, Some, IfErr, IfOk, OnOk, string_bytes};
+ghost use Rattle.tool_parts.specs.Arguments.{texts};
+ghost use Rattle.acredact.specs.Arguments.{ReadsAs, all_asked, all_given, by_any, by_argument, given, given_by, in_place_mixture_of, is_value_of, by_joined, by_letter, by_letters, mixture_of, by_name, by_taken, max_line_mixture_of, rules_mixture_of, words_mixture_of, by_value};
 ghost use Rattle.acredact.specs.Long.{word_by_name};
 ghost use Rattle.acredact.specs.Mistakes.{FailsAs, IsMistake, IsMistakeOfCall, TellsAs, line_of_any, line_of_argument, line_of_joined, line_of_letter, line_of_letters, line_of_name, mistake_line, value_line};
 
 use crate::forms::are_forms;
 use crate::line_size::size_of;
 use crate::long::option_of;
+use crate::mistakes::{Mistake, Mixture};
+use crate::options::{
+    Item, Word, covers, gives_rules, has, is_cover, is_same, kind_by, takes_value,
+};
 use crate::values::is_variable_name;
-use chromesquid::MatchKind;
 use std::alloc::{AllocError, Global};
 use tool_parts::options::argument::{Argument, text_argument_of};
-use tool_parts::options::found::NotFound;
-
-/// What an argument is, or the option that it is the value of.
-#[derive(Clone, Copy, PartialEq, Eq)]
-pub enum Word {
-    /// `-i`: ASCII letters are the same in both cases.
-    IgnoreCase,
-    /// `--kind`: what is replaced where several matches share bytes.
-    Kind,
-    /// `-e`: a pattern.
-    Pattern,
-    /// `-f`: a file of patterns.
-    Patterns,
-    /// `-t`: a table of patterns with their replacements.
-    Table,
-    /// `--env`: a variable of the environment, or several, whose values are patterns.
-    Env,
-    /// `--env-file`: a file of variables whose values are patterns.
-    EnvFile,
-    /// `--whole`: a file whose bytes are one pattern.
-    Whole,
-    /// `--with`: the replacement of each pattern that has none of its own.
-    With,
-    /// `--pseudonym`: the file of the key by which the text in the place of each run is made of its bytes.
-    Pseudonym,
-    /// `--forms`: which forms of each pattern are patterns too.
-    Forms,
-    /// `-w`: an occurrence counts where no letter, digit or `_` stands beside it.
-    AsWord,
-    /// `--rules`: a file of rules, or those of the program.
-    Rules,
-    /// `--after`: a keyword; what stands behind it is redacted.
-    After,
-    /// `--max-line`: how many bytes a line may have that is not redacted whole.
-    MaxLine,
-    /// `--output`: the file that is written, in the place of standard output.
-    Output,
-    /// `--in-place`: each file is replaced, and nothing goes to standard output.
-    InPlace,
-    /// `--count`: how often the text of each pattern was written is told.
-    Count,
-    /// `--summary`: how much was read, and how often the text of each pattern was written, is told as JSON.
-    Summary,
-    /// `--crlf`: a carriage return at the end of a line of a file of patterns or of a table is left out.
-    Crlf,
-    /// `--allow-empty`: a file of patterns or a table may be empty, and so may a value.
-    AllowEmpty,
-    /// `--strict`: a replacement that is not clean is refused.
-    Strict,
-    /// `--check`: it is only told whether something would be replaced.
-    Check,
-    /// `--help`: only the help is written.
-    Help,
-    /// `--version`: only the version is written.
-    Version,
-    /// A file that is read; `-` is standard input.
-    File,
-}
-
-/// An option with its value, or a file with its name. An option without a value has itself for one.
-#[derive(Clone, Copy)]
-pub struct Item<'a> {
-    /// Which option it is.
-    pub word: Word,
-    /// Its value.
-    pub value: &'a str,
-}
 
 /// What the next argument is read as.
 #[derive(Clone, Copy)]
@@ -90,137 +26,6 @@ pub enum Expects {
     Value(Word),
     /// A file, whatever it begins with: it stands behind `--`.
     Name,
-}
-
-/// Options that do not go together.
-#[derive(Clone, Copy)]
-pub enum Mixture {
-    /// `--strict` with another kind than cover: it promises something of covers alone.
-    StrictKind,
-    /// `--pseudonym` with another kind than cover: only a cover has runs.
-    PseudonymKind,
-    /// `--pseudonym` with `--with`: each says what is written.
-    PseudonymWith,
-    /// `--pseudonym` with a table, whose lines say what is written.
-    PseudonymTable,
-    /// `--forms` with another kind than cover: by other kinds a part of a form can stay.
-    FormsKind,
-    /// `--word` with another kind than cover: a match that is no word could hide a word from another kind.
-    WordsKind,
-    /// `--word` with `--forms`: a form can stand within a word.
-    WordsForms,
-    /// `--rules` or `--after` with another kind than cover: what rules mark may overlap.
-    RulesKind,
-    /// `--rules` or `--after` with `--in-place`.
-    RulesInPlace,
-    /// `--rules` or `--after` with `--strict`, which promises nothing of what rules mark.
-    RulesStrict,
-    /// `--max-line` without rules: no line is kept.
-    MaxLineAlone,
-    /// `--count` with `--check`, which counts nothing.
-    CountCheck,
-    /// `--summary` with `--check`, without rules.
-    SummaryCheck,
-    /// `--output` with `--check`, which writes nothing.
-    OutputCheck,
-    /// `--in-place` with `--check`.
-    InPlaceCheck,
-    /// `--in-place` with `--output`: each says what is replaced.
-    InPlaceOutput,
-}
-
-/// Why arguments are wrong. Each holds what has to be named.
-#[derive(Clone, Copy)]
-pub enum Mistake<'a> {
-    /// No option has this letter.
-    UnknownLetter(u8),
-    /// This long name means no option.
-    NotFound(NotFound, &'a [u8]),
-    /// The last argument is this option, which needs a value.
-    NoValue(Word),
-    /// The option of this long name has a value, and takes none.
-    TakesNone(&'a [u8]),
-    /// The value of `--kind` is no kind. It is not told: it may be a secret, where the option is not the one that was meant.
-    UnknownKind,
-    /// The value of `--forms` names no forms. It is not told either.
-    UnknownForm,
-    /// The value of `--env` can be no name of a variable. It is not told: it may be the value of one.
-    BadName,
-    /// The value of `--max-line` is no number of bytes. It is not told either.
-    BadSize,
-    /// No option gives a pattern.
-    NoPattern,
-    /// These options do not go together.
-    Mixed(Mixture),
-    /// Memory runs out.
-    OutOfMemory,
-}
-
-impl From<AllocError> for Mistake<'_> {
-    ghost use Rattle.acredact.specs.declared.arguments.Mistake.TheVariants.{OutOfMemory};
-
-    ghost from_gives = { λ _ mistake. mistake ≡ OutOfMemory };
-
-    fn from(_error: AllocError) -> Self {
-        Mistake::OutOfMemory
-    }
-}
-
-/// How an option that needs a value is called.
-pub fn name_of(word: Word) -> &'static str
-    ensures name { result.now ≡ option_name word }
-{
-    match word {
-        Word::Kind => "--kind",
-        Word::Patterns => "-f",
-        Word::Table => "-t",
-        Word::Env => "--env",
-        Word::EnvFile => "--env-file",
-        Word::Whole => "--whole",
-        Word::With => "--with",
-        Word::Pseudonym => "--pseudonym",
-        Word::Forms => "--forms",
-        Word::Rules => "--rules",
-        Word::After => "--after",
-        Word::MaxLine => "--max-line",
-        Word::Output => "--output",
-        _ => "-e",
-    }
-}
-
-/// Whether this option needs a value.
-pub fn takes_value(word: Word) -> bool
-    ensures takes { result ≡ takes_value word }
-{
-    matches!(
-        word,
-        Word::Kind
-            | Word::Pattern
-            | Word::Patterns
-            | Word::Table
-            | Word::Env
-            | Word::EnvFile
-            | Word::Whole
-            | Word::With
-            | Word::Pseudonym
-            | Word::Forms
-            | Word::Rules
-            | Word::After
-            | Word::MaxLine
-            | Word::Output
-    )
-}
-
-/// The match kind of this name.
-fn kind_by(name: &str) -> Option<MatchKind>
-    ensures kind { result ≡ kind_by name.now }
-{
-    match name {
-        "longest" => Some(MatchKind::LeftmostLongest),
-        "first" => Some(MatchKind::LeftmostFirst),
-        "standard" => Some(MatchKind::Standard),
-        _ => None,
-    }
 }
 
 /// All options and files, in order, where they go together.
@@ -509,13 +314,6 @@ fn unknown_value<'a>(word: Word) -> Mistake<'a>
     Mistake::UnknownKind
 }
 
-/// Whether this is the kind that covers each byte of each match.
-fn is_cover(name: &str) -> bool
-    ensures is { result ≡ is_cover name.now }
-{
-    name == "cover"
-}
-
 /// Whether an option can have this value: that of `--kind` is `cover` or a match kind, that of `--forms` names forms, that of `--env`
 /// variables, and that of `--max-line` is a number of bytes.
 fn is_value_of(word: Word, value: &str) -> bool
@@ -528,121 +326,4 @@ fn is_value_of(word: Word, value: &str) -> bool
         Word::MaxLine => size_of(value).is_some(),
         _ => true,
     }
-}
-
-/// Whether these are the same option.
-pub fn is_same(word: Word, other: Word) -> bool
-    ensures same { result ≡ is_same word other }
-{
-    word == other
-}
-
-/// Whether this option is given.
-pub fn has(items: &[Item<'_>], word: Word) -> bool
-    ensures has { result ≡ has word (all_given items.now) }
-{
-    last_value(items, word).is_some()
-}
-
-/// The last value of this option.
-pub fn last_value<'a>(items: &[Item<'a>], word: Word) -> Option<&'a str>
-    ensures last { option_map (λ value. value.now) result ≡ last_value word (all_given items.now) }
-{
-    let mut value = None;
-    let mut rest = items;
-    while !rest.is_empty() {
-        if is_same(word, rest[0].word) {
-            value = Some(rest[0].value);
-        }
-        rest = &rest[1..];
-    }
-    value
-}
-
-/// Whether a check is asked for, and no help, no version and no rules.
-pub fn checks(items: &[Item<'_>]) -> bool
-    ensures checks { result ≡ checks_asked (all_given items.now) }
-{
-    has(items, Word::Check)
-        && !has(items, Word::Help)
-        && !has(items, Word::Version)
-        && !gives_rules(items)
-}
-
-/// The file that is written, where that is asked for, and no help and no version.
-pub fn output_of<'a>(items: &[Item<'a>]) -> Option<&'a str>
-    ensures output { option_map (λ name. name.now) result ≡ output_asked (all_given items.now) }
-{
-    if has(items, Word::Help) || has(items, Word::Version) {
-        return None;
-    }
-    last_value(items, Word::Output)
-}
-
-/// Whether files are to be replaced in place, and no help and no version is asked for.
-pub fn replaces_in_place(items: &[Item<'_>]) -> bool
-    ensures asked { result ≡ in_place_asked (all_given items.now) }
-{
-    has(items, Word::InPlace) && !has(items, Word::Help) && !has(items, Word::Version)
-}
-
-/// Whether a cover is asked for: so it is where no kind is given.
-pub fn covers(items: &[Item<'_>]) -> bool
-    ensures covers { result ≡ covers_asked (all_given items.now) }
-{
-    match last_value(items, Word::Kind) {
-        Some(name) => is_cover(name),
-        None => true,
-    }
-}
-
-/// Whether an option gives rules.
-pub fn gives_rules(items: &[Item<'_>]) -> bool
-    ensures gives { result ≡ gives_rules (all_given items.now) }
-{
-    has(items, Word::Rules) || has(items, Word::After)
-}
-
-/// Whether lines are to be redacted by rules, and no help, no version and no check is asked for.
-pub fn asks_rules(items: &[Item<'_>]) -> bool
-    ensures asks { result ≡ rules_asked (all_given items.now) }
-{
-    gives_rules(items)
-        && !has(items, Word::Help)
-        && !has(items, Word::Version)
-        && !has(items, Word::Check)
-}
-
-/// Whether a check by rules is asked for, and no help and no version.
-pub fn checks_by_rules(items: &[Item<'_>]) -> bool
-    ensures checks { result ≡ rules_check_asked (all_given items.now) }
-{
-    has(items, Word::Check)
-        && gives_rules(items)
-        && !has(items, Word::Help)
-        && !has(items, Word::Version)
-}
-
-/// Whether words alone count: of a cover.
-pub fn words(items: &[Item<'_>]) -> bool
-    ensures words { result ≡ words_asked (all_given items.now) }
-{
-    covers(items) && has(items, Word::AsWord)
-}
-
-/// The match kind that is searched by. A cover needs all matches, so for it that is `Standard`.
-pub fn kind_of(items: &[Item<'_>]) -> MatchKind
-    ensures kind { result ≡ kind_asked (all_given items.now) }
-{
-    match last_value(items, Word::Kind) {
-        Some(name) => kind_by(name).unwrap_or(MatchKind::Standard),
-        None => MatchKind::Standard,
-    }
-}
-
-/// Whether it is asked for how often the text of each pattern is written: as lines, or in a summary.
-pub fn counts(items: &[Item<'_>]) -> bool
-    ensures counts { result ≡ counts_asked (all_given items.now) }
-{
-    has(items, Word::Count) || has(items, Word::Summary)
 }

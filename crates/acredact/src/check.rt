@@ -9,15 +9,15 @@ ghost use Rattle.acredact.specs.Looks.{CanLook};
 ghost use Rattle.acredact.specs.Statuses.{check_status};
 ghost use Rattle.acredact.specs.Tables.{HaveNoEmpty, patterns_in, secrets_of};
 
-use crate::arguments::{Item, Mistake, Word, has, words};
 use crate::doubts::warn_of_lists;
-use crate::failure::Failure;
+use crate::failure::{FAILED, Failure, report};
 use crate::folder::Folder;
 use crate::load::{lists_of, rules};
 use crate::look::{Searched, Verdict, look_at_files};
+use crate::mistakes::Mistake;
+use crate::options::{Item, Word, gives_pattern, has, words};
 use crate::patterns::Rule;
 use crate::prepare::ready_of;
-use crate::run::{FAILED, gives_pattern, report};
 use chromesquid::{AhoCorasick, Automaton, FromRead, Sink};
 use std::alloc::{AllocError, Global};
 use std::io::Read;

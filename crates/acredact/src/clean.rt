@@ -1,7 +1,10 @@
 //! Whether the texts that are written in the place of patterns are clean: no pattern holds the first or the last byte of such a piece,
 //! and none occurs in it. Then no pattern occurs anywhere in a cover.
+//!
+//! A pseudonym begins with `[`, ends with `]`, and between them it holds no other bytes than those of `redacted:` and hexadecimal digits. So
+//! it cannot spell a pattern with what stands beside it where each pattern holds a byte that is none of these, and neither `[` nor `]`.
 
-ghost use Rattle.std.specs.Prelude.{◌≡◌, ℕ, ◌+◌, ◌<◌, ◌≤◌, [], MatchBool, IfNone, IfSome, IsOk, Bool, length, true};
+ghost use Rattle.std.specs.Prelude.{◌≡◌, MatchBool, IfNone, IfSome, IsOk, length, true};
 ghost use Rattle.aho_core.specs.Bytes.{folded_by};
 ghost use Rattle.aho_core.specs.Occurs.{OccursIn};
 ghost use Rattle.aho_core.specs.Patterns.{Patterns};
@@ -11,11 +14,10 @@ ghost use Rattle.aho_core.specs.declared.search.Anchored.TheVariants.{No};
 ghost use Rattle.aho_laws.specs.CoverLaws.{IsCleanPiece};
 ghost use Rattle.acredact.specs.Pieces.{HoldNone, IsFirstOrNone, IsFlawOrNone, IsHolder, IsJudgeOf, IsJudgedBy, IsMarked, StayMarked, WordsAreMarked, pieces_by};
 ghost use Rattle.acredact.specs.Secrets.{IfOf, NoneOccurs};
-ghost use Rattle.acredact.specs.Spelling.{HoldsByte};
+ghost use Rattle.acredact.specs.Spelling.{HoldsByte, IsFirstSpelled, IsUnlike, LiesInside, MayBeSpelled, StandsOutside, is_inside};
 ghost use Rattle.acredact.specs.Tables.{piece_by, secret_of};
 
 use crate::patterns::Rule;
-use crate::spelled::first_spelled;
 use chromesquid::{Automaton, Input, Match};
 
 /// By what pieces are judged.
@@ -265,4 +267,49 @@ pub fn folded(byte: u8, ignore_case: bool) -> u8
     } else {
         byte
     }
+}
+
+/// The first pattern that a pseudonym can spell.
+pub fn first_spelled(words: &[&[u8]], ignore_case: bool) -> Option<Unclean>
+    ensures first { IsFirstSpelled ignore_case (pieces_of words.now) result }
+{
+    let mut at = 0;
+    while at < words.len() {
+        if may_be_spelled(words[at], ignore_case) {
+            return Some(Unclean {
+                number: at + 1,
+                flaw: Flaw::Pseudonym,
+            });
+        }
+        at += 1;
+    }
+    None
+}
+
+/// Whether a pseudonym can spell a word.
+fn may_be_spelled(word: &[u8], ignore_case: bool) -> bool
+    ensures spelled { MatchBool result (MayBeSpelled ignore_case word.now) (IsUnlike ignore_case word.now) }
+{
+    holds(word, ignore_case, b'[')
+        || holds(word, ignore_case, b']')
+        || lies_inside(word, ignore_case)
+}
+
+/// Whether a pseudonym can hold all bytes of a word between its first byte and its last.
+fn lies_inside(word: &[u8], ignore_case: bool) -> bool
+    ensures inside { MatchBool result (LiesInside ignore_case word.now) (StandsOutside ignore_case word.now) }
+{
+    for byte in word {
+        if !is_inside(folded(*byte, ignore_case)) {
+            return false;
+        }
+    }
+    true
+}
+
+/// Whether a pseudonym can hold a byte between its first and its last.
+fn is_inside(byte: u8) -> bool
+    ensures inside { result ≡ is_inside byte }
+{
+    (48 <= byte && byte <= 58) || (97 <= byte && byte <= 102) || byte == 114 || byte == 116
 }

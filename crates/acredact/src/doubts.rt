@@ -9,8 +9,8 @@ ghost use Rattle.acredact.specs.Arguments.{all_given};
 ghost use Rattle.acredact.specs.Short.{AreLongAsked};
 ghost use Rattle.acredact.specs.Tables.{secret_of, secrets_of};
 
-use crate::arguments::Item;
 use crate::failure::{Failure, tell_line};
+use crate::options::Item;
 use crate::patterns::{BadLine, LineFault, Rule};
 use crate::short::{refuse_short_asked, tell_short_asked};
 use chromesquid::Sink;

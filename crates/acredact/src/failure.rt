@@ -2,14 +2,15 @@
 
 ghost use Rattle.std.specs.Prelude.{◌≡◌, ◌++◌, ℕ, List, decimal};
 ghost use Rattle.tool_parts.specs.Messages.{reason_text};
-ghost use Rattle.tool_parts.specs.Telling.{TellsBytes};
+ghost use Rattle.tool_parts.specs.Telling.{TellsBytes, TellsSome};
+ghost use Rattle.acredact.specs.Calls.{IsRefusedLine};
 ghost use Rattle.acredact.specs.Failures.{IsFailureLine, IsOtherLine, bad_line, is_of_output, short_line};
 ghost use Rattle.acredact.specs.LineFaults.{line_fault_text};
 ghost use Rattle.acredact.specs.Messages.{alone, line_about, no_file_line, no_output_line, numbered_line, output_line, told_line, unclean_line};
 ghost use Rattle.acredact.specs.Mistakes.{mistake_line, misuse_line, mixture_text, named_line};
 
-use crate::arguments::{Mistake, Mixture, name_of};
 use crate::clean::{Flaw, Unclean};
+use crate::mistakes::{Mistake, Mixture, name_of};
 use crate::patterns::{BadLine, LineFault};
 use chromesquid::{BuildError, Sink, StreamError};
 use rule_files::{MAX_DIGITS, digits_of, is_plain, tell_shown, write_shown};
@@ -18,6 +19,9 @@ use tool_parts::errors::Errors;
 use tool_parts::failure;
 use tool_parts::options::misuse::Misuse;
 use tool_parts::reason::Reason;
+
+/// The exit status where not all was done.
+pub const FAILED: u8 = 2;
 
 /// The name that stands before each message.
 pub const PROGRAM: &[u8] = b"acredact";
@@ -394,4 +398,25 @@ fn is_of_output(other: &failure::Failure) -> bool
     ensures is { result ≡ is_of_output other.now }
 {
     matches!(other, failure::Failure::Write | failure::Failure::WriteZero)
+}
+
+/// Tells as a line why a call ends early, and answers the exit status, whether that could be written or not.
+pub fn report<E: Sink>(failure: &Failure<'_>, errors: &mut Errors<'_, E>) -> u8
+    ensures failed { result ≡ 2 }
+    ensures told { (line : List ℕ) × IsFailureLine failure.now line
+        × TellsBytes E.Sink errors.old errors.new line }
+{
+    tell_failure(errors, failure);
+    FAILED
+}
+
+/// Tells why there are no arguments, or no memory to begin with, and answers the exit status.
+pub fn refuse<E: Sink>(error: failure::Failure, errors: &mut Errors<'_, E>) -> u8
+    ensures failed { result ≡ 2 }
+    ensures told { TellsSome E.Sink (IsRefusedLine error) errors.old errors.new }
+{
+    match error {
+        failure::Failure::Usage => report(&Failure::NotText, errors),
+        other => report(&Failure::Other(other), errors),
+    }
 }

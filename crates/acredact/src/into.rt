@@ -7,12 +7,13 @@ ghost use Rattle.acredact.specs.Arguments.{IfAsked, IfRuled, NamesOutput};
 ghost use Rattle.acredact.specs.Calls.{IsWrongFailure};
 ghost use Rattle.acredact.specs.Into.{IsKept, IsSpared, RuledTellsUnput, TellsNone, TellsUnread, WritesAll, WritesAllByRules};
 
-use crate::arguments::{items, output_of};
-use crate::failure::{Failure, tell_no_output, tell_unread};
+use crate::arguments::items;
+use crate::failure::{FAILED, Failure, tell_no_output, tell_unread};
 use crate::files::is_input;
 use crate::folder::Folder;
+use crate::options::output_of;
 use crate::outputs::Outputs;
-use crate::run::{FAILED, run};
+use crate::run::run;
 use crate::streams::Streams;
 use chromesquid::{FromWrite, Sink};
 use std::alloc::Global;

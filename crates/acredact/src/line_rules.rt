@@ -6,10 +6,10 @@ ghost use Rattle.secret_rules.specs.Tables.{TellsRules};
 ghost use Rattle.acredact.specs.Arguments.{all_given, given_of};
 ghost use Rattle.acredact.specs.LineRules.{AddsNamed, AddsOption, AddsThese, GivesBehind, ReadsLineRules, is_builtin};
 
-use crate::arguments::{Item, Word};
 use crate::failure::Failure;
 use crate::folder::Folder;
 use crate::load::{Lists, read_list};
+use crate::options::{Item, Word};
 use crate::ruled_failure::RuledFailure;
 use chromesquid::FromRead;
 use rule_files::{RuleFlaw, TextFault, bad_rule, flaw_of, rules_in};

@@ -5,7 +5,7 @@ ghost use Rattle.acredact.specs.Arguments.{all_given};
 ghost use Rattle.acredact.specs.LineRules.{most_asked};
 ghost use Rattle.acredact.specs.LineSizes.{size_in, with_digit};
 
-use crate::arguments::{Item, Word, last_value};
+use crate::options::{Item, Word, last_value};
 
 /// How many bytes a line may have, where nothing else is given.
 const USUAL_MOST: usize = 1024 * 1024;

@@ -12,16 +12,16 @@ ghost use Rattle.acredact.specs.Parts.{AddsSome, ArePartsBy, GivesPattern};
 ghost use Rattle.acredact.specs.Reads.{OfName, ReadsText};
 ghost use Rattle.acredact.specs.Tables.{secrets_of};
 ghost use Rattle.acredact.specs.Values.{GiveEach, GivesValue};
-ghost use Rattle.acredact.specs.declared.arguments.Word.TheVariants.{Pseudonym};
+ghost use Rattle.acredact.specs.declared.options.Word.TheVariants.{Pseudonym};
 ghost use Rattle.acredact.specs.declared.failure.Failure.TheVariants.{Other, Pattern};
 ghost use Rattle.tool_parts.specs.declared.failure.Failure.TheVariants.{OutOfMemory as OutOfMemoryFailure};
 ghost use Rattle.acredact.specs.declared.patterns.LineFault.TheVariants.{OutOfMemory};
 
-use crate::arguments::{Item, Word, covers, has, last_value};
 use crate::failure::Failure;
 use crate::files::is_input;
 use crate::folder::Folder;
 use crate::forms::add_forms;
+use crate::options::{Item, Word, covers, has, last_value};
 use crate::parts::add_parts;
 use crate::patterns::{BadLine, Form, LineFault, Place, Rule, add_line, add_lines, mark_of};
 use crate::values::{are_refused, first_fault, values_in_text, values_of_entries, whole_in};

@@ -5,7 +5,8 @@ ghost use Rattle.acredact.specs.Long.{found_of_name, word_by_name, options_of_ou
 ghost use Rattle.acredact.specs.Mistakes.{mistake_line, line_of_name};
 ghost use Rattle.tool_parts.specs.OptionNames.{found_among};
 
-use crate::arguments::{Mistake, Word};
+use crate::mistakes::Mistake;
+use crate::options::Word;
 use tool_parts::options::found::Found;
 
 /// The option of a long name, or of a beginning that no other option's name has.

@@ -12,16 +12,16 @@ ghost use Rattle.acredact.specs.Loading.{AreSome, key_lent, loaded_in};
 ghost use Rattle.acredact.specs.Pieces.{IsJudged, TellsUnclean};
 ghost use Rattle.acredact.specs.Ready.{CannotPrepare, IsJobFor, IsReadyBy, IsReadyFor};
 ghost use Rattle.acredact.specs.Tables.{patterns_in, secrets_of};
-ghost use Rattle.acredact.specs.declared.arguments.Word.TheVariants.{Strict};
+ghost use Rattle.acredact.specs.declared.options.Word.TheVariants.{Strict};
 ghost use Rattle.acredact.specs.declared.clean.Unclean.{Unclean};
 ghost use Rattle.acredact.specs.declared.failure.Failure.TheVariants.{Unclean as UncleanPiece};
 
-use crate::arguments::{Item, Word, counts, covers, has, is_same, kind_of, last_value};
 use crate::clean::{Judge, Unclean, unclean_of};
 use crate::doubts::warn_of_lists;
 use crate::failure::{Failure, tell_unclean};
 use crate::files::Job;
 use crate::folder::Folder;
+use crate::options::{Item, Word, counts, covers, has, is_same, kind_of, last_value};
 use crate::patterns::{Rule, patterns_of, replacements_of};
 use crate::secrets::{Secrets, key_bytes};
 use crate::ways::Key;

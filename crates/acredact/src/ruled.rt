@@ -7,24 +7,24 @@ ghost use Rattle.secret_rules.specs.OpenLines.{CanSearch};
 ghost use Rattle.tool_parts.specs.Names.{name_bytes};
 ghost use Rattle.tool_parts.specs.Telling.{TellsBytes};
 ghost use Rattle.acredact.specs.LongLines.{long_told};
-ghost use Rattle.acredact.specs.Doubts.{last_of};
 ghost use Rattle.acredact.specs.Arguments.{all_given};
 ghost use Rattle.acredact.specs.Calls.{names_asked};
 ghost use Rattle.acredact.specs.Ruled.{AreTextsAsked, AskedRuled, KeyedRuled, LoadedRuled, SaysOfRules, lent_rule, named_count, own_text, patterns_by_case};
 ghost use Rattle.acredact.specs.Tables.{HaveNoEmpty, patterns_in, secrets_of};
 
-use crate::arguments::{Item, Word, has};
+use crate::failure::FAILED;
 use crate::folder::Folder;
 use crate::line_rules::failure_in;
 use crate::line_size::most_of;
+use crate::options::{Item, Word, has};
 use crate::patterns::{Rule, replacements_of};
 use crate::prepare::{key_by, text_of};
 use crate::ruled_failure::{RuledFailure, tell_long, tell_ruled};
 use crate::ruled_files::{cover_files, lined_of};
 use crate::ruled_load::{KeyedRules, lent_key, load_keyed, ready_for_lines};
-use crate::run::FAILED;
 use crate::run_counts::tell_runs;
 use crate::run_pieces::RunPieces;
+use crate::run_summary::last_of;
 use crate::streams::Streams;
 use crate::summary::Volume;
 use chromesquid::any::Pieces;
@@ -272,16 +272,6 @@ fn counts_for(alloc: Global, count: usize) -> Result<Vec<u64>, AllocError>
         counts.push(0)?;
     }
     Ok(counts)
-}
-
-/// The last of some counts, which has one for each text that is written.
-pub fn last_of(counts: &[u64]) -> u64
-    ensures last { result ≡ last_of counts.now }
-{
-    if counts.is_empty() {
-        return 0;
-    }
-    counts[counts.len() - 1]
 }
 
 /// Tells how many lines were too long, if some were.

@@ -12,12 +12,12 @@ ghost use Rattle.acredact.specs.Loading.{key_in, key_lent};
 ghost use Rattle.acredact.specs.Ruled.{AreRulesGivenBy, AreRulesKeyedBy, IsKeyedBy, IsReadyForLines, KeysRules, patterns_by_case};
 ghost use Rattle.acredact.specs.Tables.{HaveNoEmpty, secrets_of};
 
-use crate::arguments::{Item, Word, has};
 use crate::doubts::tell_of_lists;
 use crate::folder::Folder;
 use crate::line_rules::line_rules_of;
 use crate::load::{key_of, lists_of, rules};
 use crate::named::named_rules;
+use crate::options::{Item, Word, has};
 use crate::patterns::{Rule, patterns_of, split_at};
 use crate::prepare::names;
 use crate::ruled_failure::RuledFailure;

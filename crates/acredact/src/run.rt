@@ -1,6 +1,6 @@
 //! A call of the program over its arguments, files and streams.
 
-ghost use Rattle.std.specs.Prelude.{◌≡◌, ◌⊎◌, ◌<◌, ◌≤◌, ℕ, List, IfErr, IfOk, OnErr, OnOk, false, true};
+ghost use Rattle.std.specs.Prelude.{◌≡◌, ◌⊎◌, ◌<◌, ◌≤◌, IfErr, IfOk, OnErr, OnOk, false, true};
 ghost use Rattle.chromesquid.specs.Searcher.{ForItsPatterns};
 ghost use Rattle.tool_parts.specs.Arguments.{texts};
 ghost use Rattle.tool_parts.specs.Streams.{WritesBytes};
@@ -8,10 +8,9 @@ ghost use Rattle.tool_parts.specs.Telling.{Tells, TellsBytes, TellsSome};
 ghost use Rattle.acredact.specs.Arguments.{AreMistaken, AsksToRedact, GivesNoPattern, IfAsked, IfChecking, IfNoCheck, IfRight, IfRuled, IfRulesCheck, IsCheck, RefusesUnclean, all_given, any_check_asked, counts_asked, counts_given, has};
 ghost use Rattle.acredact.specs.Back.{FilesJob};
 ghost use Rattle.acredact.specs.Bounds.{JobNumbers};
-ghost use Rattle.acredact.specs.Calls.{AskedOutcome, BeginsAsked, CountsAsked, HidesAsked, IsCountsFailure, IsCountsLine, IsPrintFailure, IsRefusedLine, IsWrongLine, LeavesNoneAsked, LoadOutcome, NumbersToldAsked, OutputFails, ReadyOutcome, RedactsAsked, TellsAsked, TellsAnyCounts, WarnsAsked, gives_pattern, gives_value};
+ghost use Rattle.acredact.specs.Calls.{AskedOutcome, BeginsAsked, CountsAsked, HidesAsked, IsCountsFailure, IsCountsLine, IsPrintFailure, IsWrongLine, LeavesNoneAsked, LoadOutcome, NumbersToldAsked, OutputFails, ReadyOutcome, RedactsAsked, TellsAsked, TellsAnyCounts, WarnsAsked};
 ghost use Rattle.acredact.specs.Checks.{MatchedAsked, TellsListsAsked, TellsUncheckedAsked, UnmatchedAsked};
 ghost use Rattle.acredact.specs.Counts.{PutsText, lines_of_rules, secret_lines};
-ghost use Rattle.acredact.specs.Failures.{IsFailureLine};
 ghost use Rattle.acredact.specs.Files.{CanDo};
 ghost use Rattle.acredact.specs.Loading.{AreSome, loaded_in};
 ghost use Rattle.acredact.specs.Ready.{IsReadyBy};
@@ -23,17 +22,17 @@ ghost use Rattle.acredact.specs.Tables.{secrets_of};
 ghost use Rattle.acredact.specs.Summaries.{counts_told_by, summary_told_by, totals_text};
 ghost use Rattle.acredact.specs.Totals.{JobCounts};
 ghost use Rattle.acredact.specs.Volumes.{JobVolume};
-ghost use Rattle.acredact.specs.declared.arguments.Word.TheVariants.{Forms, Summary};
+ghost use Rattle.acredact.specs.declared.options.Word.TheVariants.{Forms, Summary};
 
-use crate::arguments::{
-    Item, Mistake, Word, asks_rules, checks, checks_by_rules, counts, has, items,
-};
+use crate::arguments::items;
 use crate::check::check;
 use crate::counts::{counts_of, put_counts};
-use crate::failure::{Failure, tell_failure};
+use crate::failure::{FAILED, Failure, report};
 use crate::files::{Job, back_files, redact_files};
 use crate::folder::Folder;
 use crate::help::{HELP, VERSION};
+use crate::mistakes::Mistake;
+use crate::options::{Item, Word, asks_rules, checks, checks_by_rules, counts, gives_pattern, has};
 use crate::patterns::Rule;
 use crate::prepare::{Ready, job_of, prepare};
 use crate::ruled::redact_by_rules;
@@ -47,9 +46,6 @@ use std::alloc::{AllocError, Global};
 use std::io::{Read, Write};
 use tool_parts::errors::Errors;
 use tool_parts::failure;
-
-/// The exit status where not all was done.
-pub const FAILED: u8 = 2;
 
 /// Writes each file with a replacement in the place of each match, or checks whether it has one, and answers the exit status: 0 where
 /// all was redacted or nothing would be, 1 where a check found something, and 2 where the arguments or the patterns are wrong,
@@ -244,27 +240,6 @@ fn redact_plain<F: Folder, I: Read, W: Write, E: Sink>(
     }
 }
 
-/// Tells as a line why a call ends early, and answers the exit status, whether that could be written or not.
-pub fn report<E: Sink>(failure: &Failure<'_>, errors: &mut Errors<'_, E>) -> u8
-    ensures failed { result ≡ 2 }
-    ensures told { (line : List ℕ) × IsFailureLine failure.now line
-        × TellsBytes E.Sink errors.old errors.new line }
-{
-    tell_failure(errors, failure);
-    FAILED
-}
-
-/// Tells why there are no arguments, or no memory to begin with, and answers the exit status.
-pub fn refuse<E: Sink>(error: failure::Failure, errors: &mut Errors<'_, E>) -> u8
-    ensures failed { result ≡ 2 }
-    ensures told { TellsSome E.Sink (IsRefusedLine error) errors.old errors.new }
-{
-    match error {
-        failure::Failure::Usage => report(&Failure::NotText, errors),
-        other => report(&Failure::Other(other), errors),
-    }
-}
-
 /// Does what the options and files ask for, and answers whether all files were read.
 fn redact_asked<'a, F: Folder, I: Read, W: Write, E: Sink>(
     alloc: Global,
@@ -293,23 +268,6 @@ fn redact_asked<'a, F: Folder, I: Read, W: Write, E: Sink>(
         Ok(secrets) => redact_loaded(alloc, given, &secrets, folder, streams),
         Err(failure) => Err(failure),
     }
-}
-
-/// Whether an option gives patterns.
-pub fn gives_pattern(given: &[Item<'_>]) -> bool
-    ensures gives { result ≡ gives_pattern (all_given given.now) }
-{
-    has(given, Word::Pattern)
-        || has(given, Word::Patterns)
-        || has(given, Word::Table)
-        || gives_value(given)
-}
-
-/// Whether an option gives values that are patterns.
-fn gives_value(given: &[Item<'_>]) -> bool
-    ensures gives { result ≡ gives_value (all_given given.now) }
-{
-    has(given, Word::Env) || has(given, Word::EnvFile) || has(given, Word::Whole)
 }
 
 /// Writes a text whole, and answers that nothing was left out.

@@ -6,9 +6,9 @@ ghost use Rattle.acredact.specs.Arguments.{all_given};
 ghost use Rattle.acredact.specs.Counts.{PutsText, lines_of_rules};
 ghost use Rattle.acredact.specs.RunCounts.{IsRunsLine, TellsAnyRuns, objects_told_by, rule_count_line, rule_counts_text, runs_text, runs_told_by};
 
-use crate::arguments::{Item, Word, counts, has};
 use crate::counts::{put_counts, put_number};
 use crate::failure::Failure;
+use crate::options::{Item, Word, counts, has};
 use crate::patterns::Rule;
 use crate::ruled_failure::RuledFailure;
 use crate::run_summary::put_run_summary;

@@ -1,11 +1,11 @@
 //! How much was read and replaced by rules, as one object of JSON.
 
-ghost use Rattle.std.specs.Prelude.{OnOk};
+ghost use Rattle.std.specs.Prelude.{◌≡◌, OnOk};
 ghost use Rattle.acredact.specs.Counts.{PutsText};
+ghost use Rattle.acredact.specs.Doubts.{last_of};
 ghost use Rattle.acredact.specs.RunSummaries.{byte_in_json, bytes_in_json, more_rules_listed, rule_object, rules_listed, run_summary_text};
 
 use crate::counts::put_number;
-use crate::ruled::last_of;
 use crate::shown::put_digits;
 use crate::summary::{Volume, put_amounts};
 use secret_rules::Rule as LineRule;
@@ -100,4 +100,14 @@ fn put_byte(text: &mut Vec<u8>, byte: u8) -> Result<(), AllocError>
     }
     text.push(byte)?;
     Ok(())
+}
+
+/// The last of some counts, which has one for each text that is written.
+pub fn last_of(counts: &[u64]) -> u64
+    ensures last { result ≡ last_of counts.now }
+{
+    if counts.is_empty() {
+        return 0;
+    }
+    counts[counts.len() - 1]
 }

@@ -6,13 +6,13 @@ ghost use Rattle.acredact.specs.Arguments.{all_given, has};
 ghost use Rattle.acredact.specs.Calls.{AreLoadedBy, CannotLoadBy, LoadsBeside};
 ghost use Rattle.acredact.specs.Loading.{AreSome, key_in, key_lent, loaded_by, loaded_in};
 ghost use Rattle.acredact.specs.Tables.{secrets_of};
-ghost use Rattle.acredact.specs.declared.arguments.Word.TheVariants.{IgnoreCase};
+ghost use Rattle.acredact.specs.declared.options.Word.TheVariants.{IgnoreCase};
 
-use crate::arguments::{Item, Word, has};
 use crate::failure::Failure;
 use crate::folder::Folder;
 use crate::load::{key_of, lists_of, rules};
 use crate::named::named_rules;
+use crate::options::{Item, Word, has};
 use crate::patterns::Rule;
 use crate::ways::Key;
 use chromesquid::FromRead;

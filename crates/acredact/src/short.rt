@@ -7,8 +7,8 @@ ghost use Rattle.acredact.specs.Arguments.{all_given};
 ghost use Rattle.acredact.specs.Short.{AreLong, AreLongAsked, RefusesShort, RefusesShortAsked, is_formless, lines_of_short, short_lines, short_told};
 ghost use Rattle.acredact.specs.Tables.{secret_of, secrets_of};
 
-use crate::arguments::{Item, Word, has};
 use crate::failure::{Failure, tell_short};
+use crate::options::{Item, Word, has};
 use crate::patterns::Rule;
 use chromesquid::Sink;
 use tool_parts::errors::Errors;

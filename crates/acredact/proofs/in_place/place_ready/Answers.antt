@@ -13,7 +13,7 @@ use Rattle.acredact.specs.InPlace.{PlacesOutcome}
 use Rattle.acredact.specs.Loading.{AreLoaded, key_in, loaded_as, loaded_in}
 use Rattle.acredact.specs.Summaries.{no_volume}
 use Rattle.acredact.specs.Tables.{secrets_of}
-use Rattle.acredact.specs.declared.arguments.Word.TheVariants.{Strict}
+use Rattle.acredact.specs.declared.options.Word.TheVariants.{Strict}
 use Rattle.acredact.specs.declared.failure.Failure.TheVariants.{Other}
 use Rattle.acredact.specs.declared.patterns.Rule.{Rule}
 use Rattle.acredact.proofs.Calls.{job_does}

@@ -9,7 +9,7 @@ use Rattle.acredact.specs.Arguments.{all_given, covers_asked, has}
 use Rattle.acredact.specs.Builds.{patterns_by_given}
 use Rattle.acredact.specs.Calls.{text_asked}
 use Rattle.acredact.specs.Tables.{patterns_in, piece_by, secret_of, secrets_of}
-use Rattle.acredact.specs.declared.arguments.Word.TheVariants.{IgnoreCase}
+use Rattle.acredact.specs.declared.options.Word.TheVariants.{IgnoreCase}
 use Rattle.acredact.specs.declared.patterns.Rule.{Rule}
 use Rattle.acredact.proofs.Warned.{judged_as}
 use Rattle.acredact.proofs.prepare.unclean_in.Goals as goal

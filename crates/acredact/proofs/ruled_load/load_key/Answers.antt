@@ -7,7 +7,7 @@ use Rattle.acredact.specs.Calls.{call_of, reading_by, rules_asked}
 use Rattle.acredact.specs.Loading.{IsKeyGiven, key_in, reading_of_lists}
 use Rattle.acredact.specs.Ruled.{AreRuledLoaded, RuledLoad}
 use Rattle.acredact.specs.Tables.{secrets_of}
-use Rattle.acredact.specs.declared.arguments.Word.TheVariants.{Pseudonym}
+use Rattle.acredact.specs.declared.options.Word.TheVariants.{Pseudonym}
 use Rattle.acredact.proofs.Ready.{reading_from}
 use Rattle.acredact.proofs.ruled_load.load_key.Goals as goal
 

@@ -6,7 +6,7 @@ use Rattle.acredact.specs.Named.{all_named}
 use Rattle.acredact.specs.Pseudonyms.{pseudonym_rule}
 use Rattle.acredact.specs.Ruled.{load_as}
 use Rattle.acredact.specs.Tables.{Secret, secrets_of}
-use Rattle.acredact.specs.declared.arguments.Word.TheVariants.{Forms}
+use Rattle.acredact.specs.declared.options.Word.TheVariants.{Forms}
 use Rattle.acredact.specs.declared.patterns.Rule.{Rule}
 use Rattle.acredact.proofs.Naming.{ruled_named, ruled_plain}
 use Rattle.acredact.proofs.ruled_load.with_key.Goals as goal

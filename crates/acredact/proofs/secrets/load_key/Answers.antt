@@ -5,7 +5,7 @@ use Rattle.tool_parts.specs.Streams.{bytes_left}
 use Rattle.acredact.specs.Arguments.{all_given, last_value}
 use Rattle.acredact.specs.Calls.{rules_asked}
 use Rattle.acredact.specs.Loading.{CannotLoadKey, IsKeyGiven}
-use Rattle.acredact.specs.declared.arguments.Word.TheVariants.{Pseudonym}
+use Rattle.acredact.specs.declared.options.Word.TheVariants.{Pseudonym}
 use Rattle.acredact.proofs.Ready.{reading_from}
 use Rattle.acredact.proofs.secrets.load_key.Goals as goal
 

@@ -4,7 +4,7 @@ use Rattle.acredact.specs.Arguments.{all_given, has}
 use Rattle.acredact.specs.Named.{all_named}
 use Rattle.acredact.specs.Pseudonyms.{pseudonym_rule}
 use Rattle.acredact.specs.Tables.{secrets_of}
-use Rattle.acredact.specs.declared.arguments.Word.TheVariants.{Forms}
+use Rattle.acredact.specs.declared.options.Word.TheVariants.{Forms}
 use Rattle.acredact.specs.declared.patterns.Rule.{Rule}
 use Rattle.acredact.proofs.Naming.{loaded_named, loaded_plain}
 use Rattle.acredact.proofs.secrets.with_key.Goals as goal

@@ -2,7 +2,7 @@
 use Rattle.std.proofs.Common.{List, ℕ, below_more, arith, refl, subst, sym}
 use Rattle.acredact.specs.Spelling.{IsUnlike, MayBeSpelled}
 use Rattle.acredact.proofs.Flaws.{piece_is, pieces_count}
-use Rattle.acredact.proofs.spelled.first_spelled.Goals as goal
+use Rattle.acredact.proofs.clean.first_spelled.Goals as goal
 
 pub returns-then-may_be_spelled : goal.returns-then-may_be_spelled
 returns-then-may_be_spelled c = record {

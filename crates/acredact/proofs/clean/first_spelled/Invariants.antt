@@ -3,7 +3,7 @@ use Rattle.std.proofs.Common.{ℕ, ◌-◌, ◌<◌, ◌≤◌, get_or, length}
 use Rattle.std.specs.Prelude.{[]}
 use Rattle.aho_core.specs.Replacement.{pieces_of}
 use Rattle.acredact.specs.Spelling.{IsUnlike}
-use Rattle.acredact.proofs.spelled.first_spelled.Given as goal
+use Rattle.acredact.proofs.clean.first_spelled.Given as goal
 
 abbrev pub invariant-loop-at : goal.invariant-loop-at
 invariant-loop-at l = (l.at ≤ length l.fn.words) × ((number : ℕ) → number < l.at → IsUnlike l.fn.ignore_case (get_or (pieces_of l.fn.words) number []))

@@ -2,7 +2,7 @@
 use Rattle.std.proofs.Common.{◌≡◌, ℕ, ◌<◌, get_or, true}
 use Rattle.aho_core.specs.Bytes.{folded_by}
 use Rattle.acredact.specs.Spelling.{is_inside}
-use Rattle.acredact.proofs.spelled.lies_inside.Given as goal
+use Rattle.acredact.proofs.clean.lies_inside.Given as goal
 
 abbrev pub invariant-loop-byte : goal.invariant-loop-byte
 invariant-loop-byte l = (place : ℕ) → place < l.byte-index → is_inside (folded_by l.fn.ignore_case (get_or l.fn.word place 0)) ≡ true

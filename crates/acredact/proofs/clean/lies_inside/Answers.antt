@@ -3,7 +3,7 @@ use Rattle.std.proofs.Common.{◌∙◌, ℕ, ap, arith, get_or, sym}
 use Rattle.aho_core.specs.Bytes.{folded_by}
 use Rattle.acredact.specs.Spelling.{is_inside}
 use Rattle.acredact.proofs.Flaws.{member_at, place_of}
-use Rattle.acredact.proofs.spelled.lies_inside.Goals as goal
+use Rattle.acredact.proofs.clean.lies_inside.Goals as goal
 
 pub returns-then-not-is_inside : goal.returns-then-not-is_inside
 returns-then-not-is_inside c = record {

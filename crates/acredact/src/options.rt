@@ -1,0 +1,250 @@
+//! The options of a call: which there are, and what was given.
+
+ghost use Rattle.std.specs.Prelude.{◌≡◌, option_map};
+ghost use Rattle.tool_parts.specs.Arguments.{kind_by};
+ghost use Rattle.acredact.specs.Arguments.{all_given, checks_asked, counts_asked, covers_asked, given, has, in_place_asked, is_cover, is_same, kind_asked, last_value, output_asked, takes_value, gives_rules, rules_asked, rules_check_asked, words_asked};
+ghost use Rattle.acredact.specs.Calls.{gives_pattern, gives_value};
+
+use chromesquid::MatchKind;
+
+/// What an argument is, or the option that it is the value of.
+#[derive(Clone, Copy, PartialEq, Eq)]
+pub enum Word {
+    /// `-i`: ASCII letters are the same in both cases.
+    IgnoreCase,
+    /// `--kind`: what is replaced where several matches share bytes.
+    Kind,
+    /// `-e`: a pattern.
+    Pattern,
+    /// `-f`: a file of patterns.
+    Patterns,
+    /// `-t`: a table of patterns with their replacements.
+    Table,
+    /// `--env`: a variable of the environment, or several, whose values are patterns.
+    Env,
+    /// `--env-file`: a file of variables whose values are patterns.
+    EnvFile,
+    /// `--whole`: a file whose bytes are one pattern.
+    Whole,
+    /// `--with`: the replacement of each pattern that has none of its own.
+    With,
+    /// `--pseudonym`: the file of the key by which the text in the place of each run is made of its bytes.
+    Pseudonym,
+    /// `--forms`: which forms of each pattern are patterns too.
+    Forms,
+    /// `-w`: an occurrence counts where no letter, digit or `_` stands beside it.
+    AsWord,
+    /// `--rules`: a file of rules, or those of the program.
+    Rules,
+    /// `--after`: a keyword; what stands behind it is redacted.
+    After,
+    /// `--max-line`: how many bytes a line may have that is not redacted whole.
+    MaxLine,
+    /// `--output`: the file that is written, in the place of standard output.
+    Output,
+    /// `--in-place`: each file is replaced, and nothing goes to standard output.
+    InPlace,
+    /// `--count`: how often the text of each pattern was written is told.
+    Count,
+    /// `--summary`: how much was read, and how often the text of each pattern was written, is told as JSON.
+    Summary,
+    /// `--crlf`: a carriage return at the end of a line of a file of patterns or of a table is left out.
+    Crlf,
+    /// `--allow-empty`: a file of patterns or a table may be empty, and so may a value.
+    AllowEmpty,
+    /// `--strict`: a replacement that is not clean is refused.
+    Strict,
+    /// `--check`: it is only told whether something would be replaced.
+    Check,
+    /// `--help`: only the help is written.
+    Help,
+    /// `--version`: only the version is written.
+    Version,
+    /// A file that is read; `-` is standard input.
+    File,
+}
+
+/// An option with its value, or a file with its name. An option without a value has itself for one.
+#[derive(Clone, Copy)]
+pub struct Item<'a> {
+    /// Which option it is.
+    pub word: Word,
+    /// Its value.
+    pub value: &'a str,
+}
+
+/// Whether this option needs a value.
+pub fn takes_value(word: Word) -> bool
+    ensures takes { result ≡ takes_value word }
+{
+    matches!(
+        word,
+        Word::Kind
+            | Word::Pattern
+            | Word::Patterns
+            | Word::Table
+            | Word::Env
+            | Word::EnvFile
+            | Word::Whole
+            | Word::With
+            | Word::Pseudonym
+            | Word::Forms
+            | Word::Rules
+            | Word::After
+            | Word::MaxLine
+            | Word::Output
+    )
+}
+
+/// The match kind of this name.
+pub fn kind_by(name: &str) -> Option<MatchKind>
+    ensures kind { result ≡ kind_by name.now }
+{
+    match name {
+        "longest" => Some(MatchKind::LeftmostLongest),
+        "first" => Some(MatchKind::LeftmostFirst),
+        "standard" => Some(MatchKind::Standard),
+        _ => None,
+    }
+}
+
+/// Whether this is the kind that covers each byte of each match.
+pub fn is_cover(name: &str) -> bool
+    ensures is { result ≡ is_cover name.now }
+{
+    name == "cover"
+}
+
+/// Whether these are the same option.
+pub fn is_same(word: Word, other: Word) -> bool
+    ensures same { result ≡ is_same word other }
+{
+    word == other
+}
+
+/// Whether this option is given.
+pub fn has(items: &[Item<'_>], word: Word) -> bool
+    ensures has { result ≡ has word (all_given items.now) }
+{
+    last_value(items, word).is_some()
+}
+
+/// The last value of this option.
+pub fn last_value<'a>(items: &[Item<'a>], word: Word) -> Option<&'a str>
+    ensures last { option_map (λ value. value.now) result ≡ last_value word (all_given items.now) }
+{
+    let mut value = None;
+    let mut rest = items;
+    while !rest.is_empty() {
+        if is_same(word, rest[0].word) {
+            value = Some(rest[0].value);
+        }
+        rest = &rest[1..];
+    }
+    value
+}
+
+/// Whether a check is asked for, and no help, no version and no rules.
+pub fn checks(items: &[Item<'_>]) -> bool
+    ensures checks { result ≡ checks_asked (all_given items.now) }
+{
+    has(items, Word::Check)
+        && !has(items, Word::Help)
+        && !has(items, Word::Version)
+        && !gives_rules(items)
+}
+
+/// The file that is written, where that is asked for, and no help and no version.
+pub fn output_of<'a>(items: &[Item<'a>]) -> Option<&'a str>
+    ensures output { option_map (λ name. name.now) result ≡ output_asked (all_given items.now) }
+{
+    if has(items, Word::Help) || has(items, Word::Version) {
+        return None;
+    }
+    last_value(items, Word::Output)
+}
+
+/// Whether files are to be replaced in place, and no help and no version is asked for.
+pub fn replaces_in_place(items: &[Item<'_>]) -> bool
+    ensures asked { result ≡ in_place_asked (all_given items.now) }
+{
+    has(items, Word::InPlace) && !has(items, Word::Help) && !has(items, Word::Version)
+}
+
+/// Whether a cover is asked for: so it is where no kind is given.
+pub fn covers(items: &[Item<'_>]) -> bool
+    ensures covers { result ≡ covers_asked (all_given items.now) }
+{
+    match last_value(items, Word::Kind) {
+        Some(name) => is_cover(name),
+        None => true,
+    }
+}
+
+/// Whether an option gives rules.
+pub fn gives_rules(items: &[Item<'_>]) -> bool
+    ensures gives { result ≡ gives_rules (all_given items.now) }
+{
+    has(items, Word::Rules) || has(items, Word::After)
+}
+
+/// Whether lines are to be redacted by rules, and no help, no version and no check is asked for.
+pub fn asks_rules(items: &[Item<'_>]) -> bool
+    ensures asks { result ≡ rules_asked (all_given items.now) }
+{
+    gives_rules(items)
+        && !has(items, Word::Help)
+        && !has(items, Word::Version)
+        && !has(items, Word::Check)
+}
+
+/// Whether a check by rules is asked for, and no help and no version.
+pub fn checks_by_rules(items: &[Item<'_>]) -> bool
+    ensures checks { result ≡ rules_check_asked (all_given items.now) }
+{
+    has(items, Word::Check)
+        && gives_rules(items)
+        && !has(items, Word::Help)
+        && !has(items, Word::Version)
+}
+
+/// Whether words alone count: of a cover.
+pub fn words(items: &[Item<'_>]) -> bool
+    ensures words { result ≡ words_asked (all_given items.now) }
+{
+    covers(items) && has(items, Word::AsWord)
+}
+
+/// The match kind that is searched by. A cover needs all matches, so for it that is `Standard`.
+pub fn kind_of(items: &[Item<'_>]) -> MatchKind
+    ensures kind { result ≡ kind_asked (all_given items.now) }
+{
+    match last_value(items, Word::Kind) {
+        Some(name) => kind_by(name).unwrap_or(MatchKind::Standard),
+        None => MatchKind::Standard,
+    }
+}
+
+/// Whether it is asked for how often the text of each pattern is written: as lines, or in a summary.
+pub fn counts(items: &[Item<'_>]) -> bool
+    ensures counts { result ≡ counts_asked (all_given items.now) }
+{
+    has(items, Word::Count) || has(items, Word::Summary)
+}
+
+/// Whether an option gives patterns.
+pub fn gives_pattern(given: &[Item<'_>]) -> bool
+    ensures gives { result ≡ gives_pattern (all_given given.now) }
+{
+    has(given, Word::Pattern)
+        || has(given, Word::Patterns)
+        || has(given, Word::Table)
+        || gives_value(given)
+}
+
+/// Whether an option gives values that are patterns.
+fn gives_value(given: &[Item<'_>]) -> bool
+    ensures gives { result ≡ gives_value (all_given given.now) }
+{
+    has(given, Word::Env) || has(given, Word::EnvFile) || has(given, Word::Whole)
+}
