@@ -193,11 +193,7 @@ pub each_none : (Does : List ℕ → (left left' held held' : Option (List ℕ))
 each_none Does none [] left held = (refl, Keeps-refl held)
 each_none Does none (name ∷ names) left held = (left, held, none name left held, each_none Does none names left held)
 
--- a flush keeps what was written
 pub each_kept : (Does : List ℕ → (left left' held held' : Option (List ℕ)) → Type 0) (names : List (List ℕ)) (left left' held mid held' : Option (List ℕ)) → EachName Does names left left' held mid → Keeps mid held' → EachName Does names left left' held held'
-each_kept Does [] left left' held mid held' done kept = (done.0, Keeps-trans held mid held' done.1 kept)
-each_kept Does (name ∷ names) left left' held mid held' (between, meanwhile, is, others) kept = (between, meanwhile, is, each_kept Does names between left' meanwhile mid held' others kept)
-
 -- so what comes of the file is what comes of its text
 module _ (work : Work) (name : List ℕ) (left left' held held' : Option (List ℕ)) where
   abbrev Redacts : (l l' : Option (List ℕ)) → Type 0
