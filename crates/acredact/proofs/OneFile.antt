@@ -3,7 +3,7 @@ use Rattle.std.proofs.Common.{◌≡◌, ◌≢◌, inl, ℕ, ◌≤◌, List, [
 use Rattle.std.specs.Prelude.{Bool, MatchBool, None, Some, Result, Ok, Err, IfErr, OnOk}
 use Rattle.std.specs.Io.KnownBytes.{Consumes, IsAtEnd, Keeps}
 use Rattle.std.specs.declared.io.traits.Write.{Ghosts as Writers}
-use Rattle.std.proofs.KnownBytes.{Appends-nil, Consumes-nil, Keeps-refl, Keeps-trans}
+use Rattle.std.proofs.KnownBytes.{Appends-nil, Consumes-nil, Keeps-refl}
 use Rattle.aho_core.specs.Laws.{shortest}
 use Rattle.aho_core.specs.declared.error.stream.StreamError.{StreamError}
 use Rattle.aho_core.specs.declared.error.stream.StreamError.TheVariants.{Match, Read, PositionLimit}
@@ -193,7 +193,6 @@ pub each_none : (Does : List ℕ → (left left' held held' : Option (List ℕ))
 each_none Does none [] left held = (refl, Keeps-refl held)
 each_none Does none (name ∷ names) left held = (left, held, none name left held, each_none Does none names left held)
 
-pub each_kept : (Does : List ℕ → (left left' held held' : Option (List ℕ)) → Type 0) (names : List (List ℕ)) (left left' held mid held' : Option (List ℕ)) → EachName Does names left left' held mid → Keeps mid held' → EachName Does names left left' held held'
 -- so what comes of the file is what comes of its text
 module _ (work : Work) (name : List ℕ) (left left' held held' : Option (List ℕ)) where
   abbrev Redacts : (l l' : Option (List ℕ)) → Type 0
