@@ -292,9 +292,6 @@ limit-is WriteZero met = cc
 limit-is Memory met = cc
 limit-is PositionLimit met = refl
 
--- which calls an error tells of
-module _ {R W : Type 0} (S : SourceGhosts R) (K : SinkGhosts W) (source source' : R) (sink sink' : W) where
-
 -- too few bytes for a block: nothing is written
 pub settles-none : {A W : Type 0} (G : Automata A) (K : SinkGhosts W) (a : A) (given : List ℕ) (behind : ℕ) (pieces : List (List ℕ)) (ahead : List ℕ) (sink : W) (lookups : ℕ) → length ahead ≤ 2 * behind
     → SettlesTo G K a given behind pieces ahead ahead sink sink lookups lookups

@@ -1,12 +1,8 @@
 -- What the calls of a run made of a closure: what holds after some calls, and after one more, holds at its end after all.
 use Rattle.std.proofs.Common.{◌≡◌, inl, inr, ℕ, Bool, true, List, [], ◌∷◌, ◌++◌, drop, refl, sym, ap, subst, append_assoc, append-nil}
 use Rattle.std.specs.Prelude.{Result, Ok, Err, MatchBool, OnOk, slice_range}
-use Rattle.std.specs.Borrow.{Bor, MutBor}
-use Rattle.std.specs.Fn.{Mut}
-use Rattle.aho_core.specs.declared.error.stream.StreamError.{StreamError}
-use Rattle.aho_core.specs.ClosureRun.{CalledOn, ClosureRun}
+use Rattle.aho_core.specs.ClosureRun.{ClosureRun}
 use Rattle.aho_core.specs.Occurrence.{Occurrence}
-use Rattle.aho_devices.specs.declared.device.Sink.{Ghosts as SinkGhosts}
 
 -- the closure was called on the first of some matches, and on all of them where the run came to its good end
 pub record CalledOnFirst {F E : Type 0} (Holds : List Occurrence → F → Type 0) (done ms : List Occurrence) (result : Result (Unit {0}) E) (last : F) : Type 0 where
@@ -61,9 +57,3 @@ module _ {F S E : Type 0} (copies : S → List ℕ → Result (Unit {0}) E → S
         holds = subst (λ (ns : List Occurrence). Holds ns last) (append_assoc done (m ∷ []) then.called) then.holds;
         all = then.all;
       }
-
--- the same of a run over a stream, by what a call of the closure itself does
-module _ {F W : Type 0} (K : SinkGhosts W) (calls : Mut F (Bor Occurrence × (Bor (List ℕ) × (MutBor W × Unit {0}))) (Result (Unit {0}) StreamError × (MutBor W × Unit {0})))
-    (Holds : List Occurrence → F → Type 0)
-    (steps : (done : List Occurrence) (f : F) (m : Occurrence) (matched : List ℕ) (old : W) (answer : Result (Unit {0}) StreamError) (next : F) (new : W)
-    → Holds done f → CalledOn calls f m matched old answer next new → Holds (done ++ (m ∷ [])) next) where
