@@ -236,7 +236,6 @@ open-within s at sound = omega (arith, sound.since_walked, sound.some)
 -- once more was read
 module _ (s : CoverProgress) (at : ℕ) (sound : IsSoundCover s at) (last : s.read ≤ at + 1) (near : BareFrom s.copied (held_runs s.hand) (s.read - s.buffer.least)) where
   module _ (x : Occurrence) (rest : List Occurrence) (first : held_runs s.hand ≡ x ∷ rest) where
-
     member-known : (y : Occurrence) → IsMember (held_runs s.hand) y → (y ≡ x) ⊎ (x.end < y.start) × (y.start < y.end)
     member-known y there = elim (subst (λ (runs : List Occurrence). IsMember runs y) first there) [
       | inl e ↦ inl e
@@ -289,8 +288,6 @@ module _ (s : CoverProgress) (at : ℕ) (sound : IsSoundCover s at) (last : s.re
       whole = sound.whole;
       room = sound.room;
     }
-
-    ]
 
   pub sound-read : HasFedFirst s → (buffer : Buffered) (read n : ℕ) → read ≡ s.read + n → read < 2 ^ 63 → buffer.least ≡ s.buffer.least → length buffer.bytes ≡ min s.buffer.least (length s.buffer.bytes) + n
       → IsSoundCover (record s { buffer = buffer; read = read }) at
