@@ -27,7 +27,7 @@ use Rattle.aho_cover.proofs.Counted.{counts_none, counts_then}
 use Rattle.aho_automaton.specs.declared.automaton.Automaton.{Ghosts}
 use Rattle.aho_stream.specs.Refills.{is_limit}
 use Rattle.aho_stream.specs.Replacing.{MayBe, SourceGave}
-use Rattle.aho_stream.proofs.Called.{CalledOnFirst, stream_calls}
+use Rattle.aho_stream.proofs.Called.{CalledOnFirst, run_calls}
 use Rattle.aho_stream.specs.StreamRun.{CallsOn, CanBegin, RunsAndLeaves, RunsLent, RunsOver, SinkTakes}
 use Rattle.tool_parts.proofs.Beginnings.{beginning-later, beginning-more}
 use Rattle.acredact.specs.Faults.{IsStreamEnd}
@@ -145,14 +145,22 @@ module _ {F W : Type 0} (K : SinkGhosts W) (calls : Mut F (Bor Occurrence × (Bo
   abbrev HasCounted : List Occurrence → F → Type 0
   HasCounted done f = (name_of f ≡ name_of closure) × CountsThese done (counts_of closure) (counts_of f)
 
+  counted_one : (done : List Occurrence) (f : F) (m : Occurrence) (matched : List ℕ) (old : W) (answer : Result (Unit {0}) StreamError) (next : F) (new : W)
+      → HasCounted done f → CalledOn calls f m matched old answer next new → HasCounted (done ++ (m ∷ [])) next
+  counted_one done f m matched old answer next new so called =
+      let step = counts f m matched old answer next new called in
+      (step.0 ∙ so.0, counts_then done (m ∷ []) (counts_of closure) (counts_of f) (counts_of next) so.1 step.1)
+
+  one_call : (done : List Occurrence) (f : F) (m : Occurrence) (matched : List ℕ) (old : W) (answer : Result Bool StreamError) (next : F) (new : W)
+      → HasCounted done f → CallsOn calls f m matched old answer next new → HasCounted (done ++ (m ∷ [])) next
+  one_call done f m matched old (Ok goes) next new so called = counted_one done f m matched old (Ok tt) next new so called.1
+  one_call done f m matched old (Err error) next new so called = counted_one done f m matched old (Err error) next new so called
+
   pub has_counted : (stopped : Bool) (haystack : List ℕ) (ms : List Occurrence) (result : Result (Unit {0}) StreamError) → ClosureRun (SinkTakes K stopped) (CallsOn calls) haystack 0 ms closure sink result last sink'
       → CalledOnFirst HasCounted [] ms result last
   has_counted stopped haystack ms result run =
-      stream_calls K calls HasCounted
-      (λ done f m matched old answer next new so called.
-      let step = counts f m matched old answer next new called in
-      (step.0 ∙ so.0, counts_then done (m ∷ []) (counts_of closure) (counts_of f) (counts_of next) so.1 step.1))
-      stopped haystack ms closure sink result last sink' (refl, counts_none (counts_of closure)) run
+      run_calls (SinkTakes K stopped) (CallsOn calls) haystack HasCounted (λ f m matched old goes next new called. called.0) one_call ms [] 0 closure sink result last sink'
+      (refl, counts_none (counts_of closure)) run
 
 -- of a closure that is lent no less is known
 pub over_lent : {R F W : Type 0} {S : SourceGhosts R} {K : SinkGhosts W} {IsOf : Patterns → Type 0}

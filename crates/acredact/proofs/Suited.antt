@@ -40,7 +40,7 @@ module _ {A : Type 0} (G : Ghosts A) where
   covering_still automaton automaton' progress progress' rule rule' r same alike unbegun is = record {
     coverer = subst (λ (a : A). IsCoverer G a progress'.words rule' r) (sym same)
         (record { of = is.coverer.of; covers = is.coverer.covers; chosen = is.coverer.chosen ∙ sym unbegun.chosen; is = is.coverer.is ∙ sym alike });
-    unbegun = rw unbegun.chosen unbegun;
+    unbegun = subst (λ (b : Bool). IsUnbegunWith b G automaton' progress') (sym unbegun.chosen) unbegun;
   }
 
   -- by a standard automaton without empty patterns no cover is refused
@@ -86,7 +86,7 @@ module _ {A F : Type 0} (G : Ghosts A) (automaton : A) (job : Job F) (p : Patter
       → IsCovering G automaton' progress rule (redactor_of job p)
   covering_is automaton' rule progress covers made same unbegun = record {
     coverer = record { of = rw same of; covers = covers; chosen = ap (λ (b : Bool). b && job.words) covers ∙ sym unbegun.chosen; is = sym made };
-    unbegun = rw (same, unbegun.chosen) unbegun;
+    unbegun = subst (λ (a : A). IsUnbegunWith progress.words G a progress) (sym same) (subst (λ (b : Bool). IsUnbegunWith b G automaton progress) (sym unbegun.chosen) unbegun);
   }
 
 module _ {R W E F X : Type 0} {Reads : Readers R} (Writes : Writers W) (K : SinkGhosts E) (D : Folders F X) (job : Job F) (streams streams' : Streams R W E Reads) (counts counts' : List ℕ) (volume volume' : Volume) (r : Redactor) where

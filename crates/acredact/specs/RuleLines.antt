@@ -1,5 +1,6 @@
 -- Why a call with rules ends early, and how many lines were too long: what is told of it.
-use Rattle.std.specs.Prelude.{◌≡◌, ℕ, List, ◌++◌, codes, decimal}
+use Rattle.std.specs.Prelude.{◌≡◌, ℕ, List, ◌++◌, None, codes, decimal}
+use Rattle.aho_core.specs.Texts.{build_error_text}
 use Rattle.rule_files.specs.Flaws.{IsFaultLine}
 use Rattle.acredact.specs.Failures.{IsFailureLine}
 use Rattle.acredact.specs.Messages.{message_about, numbered_line, told_line}

@@ -10,7 +10,7 @@ cover_by-requires g c =
     let named : c.args.job.now.key ≡ Some c.in-Some.key = search rules in
     record { ready = c.requires.ready; covers = c.requires.covers; made = rw (c.requires.covers, named) c.new-names.ensures.rule }
 
-pub cover_by-in-None-requires : goal.cover_by-in-None-requires
-cover_by-in-None-requires g c =
+pub cover_by-requires-in-None : goal.cover_by-requires-in-None
+cover_by-requires-in-None g c =
     let none : c.args.job.now.key ≡ None = search rules in
     record { ready = c.requires.ready; covers = c.requires.covers; made = rw (c.requires.covers, none) (ap (λ l. fixed_rule (pieces_of l)) c.new-texts.ensures.pieces) }

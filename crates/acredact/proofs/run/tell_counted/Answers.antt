@@ -1,5 +1,5 @@
 -- The counts and the summary are one text.
-use Rattle.std.proofs.Common.{rules, ◌≡◌, true}
+use Rattle.std.proofs.Common.{rules, ◌≡◌, refl, true}
 use Rattle.acredact.specs.Arguments.{all_given, counts_asked}
 use Rattle.acredact.specs.Sums.{sums_of}
 use Rattle.acredact.specs.Tables.{secrets_of}
