@@ -38,7 +38,8 @@ returns-in_err-all g c = record {
       let load = loaded_in c.args.secrets.now in
       let is : c.from_residual-in_err-all.result ≡ Err (Other (failure_of_stream c.in_err-all.field-0.0)) = search rules in
       rw is
-      (places_cut g.O.File.Write g.E.Sink g.O.Outputs call left load (bytes_left c.args.streams.now.input) loaded _ _ first _ _ _ _ _ _ warnings c.in_err-all.field-0.0
+      (places_cut g.O.File.Write g.E.Sink g.O.Outputs call left load (bytes_left c.args.streams.now.input) loaded c.args.outputs.now c.place_each.new.outputs first c.args.streams.now c.place_each.new.streams
+      c.as_mut_slice-tally.result.now c.place_each.new.counts no_volume c.place_each.new.volume warnings c.in_err-all.field-0.0
       (job_does g.F.Folder c.args.folder.now call.given load c.job_of-job.result (c.job_of-job.ensures.job c.requires.ready)
       (λ (w : Work). PlacesOutcome g.O.File.Write g.O.Outputs w g.E.Sink (Err c.in_err-all.field-0.0) c.args.outputs.now c.place_each.new.outputs c.args.streams.now c.place_each.new.streams c.as_mut_slice-tally.result.now c.place_each.new.counts no_volume c.place_each.new.volume) (c.in_err-all.ensures.outcome _ c.requires.ready.of)));
 }
