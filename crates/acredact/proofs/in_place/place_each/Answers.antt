@@ -23,7 +23,7 @@ returns-in_err-whole g c =
     record {
       outcome = λ p of.
           rw is
-          (placed_fails g.O.File.Write g.E.Sink g.O.Outputs (work_of g.F.Folder c.args.job.now (redactor_of c.args.job.now p)) _ _ c.loop-rest.all _ _ _ _ _ _ _ _ _ _ _ _
+          (placed_fails g.O.File.Write g.E.Sink g.O.Outputs (work_of g.F.Folder c.args.job.now (redactor_of c.args.job.now p)) _ _ c.loop-rest.all _ _ _ _ _ c.place_one.new.streams _ _ c.place_one.new.counts _ _ c.place_one.new.volume
           (subst (λ (l : List (List ℕ)). PlacedSoFar g.O.File.Write g.E.Sink g.O.Outputs (work_of g.F.Folder c.args.job.now (redactor_of c.args.job.now p)) l c.loop-rest.all c.args.outputs.now c.loop-rest.outputs c.args.streams.now
           c.loop-rest.streams c.args.counts.now c.loop-rest.counts c.args.volume.now c.loop-rest.volume) (names_cut c.loop-rest.rest.now _ some) (c.loop-rest.invariant p of)) c.in_err-whole.field-0.0 (c.in_err-whole.ensures.outcome p of));
     }
