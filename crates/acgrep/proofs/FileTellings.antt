@@ -13,6 +13,7 @@ use Rattle.acgrep.specs.Lines.{lines}
 use Rattle.acgrep.specs.Printed.{file_line}
 use Rattle.acgrep.specs.Written.{EachLine, IsAny, IsPassedOver, IsSelected, IsSettled, ShowsBy, ShowsLine, SomeLine, TellsOfLines, is_full, needs_one, one_more}
 use Rattle.acgrep.specs.declared.options.Context.{Context}
+use Rattle.acgrep.specs.declared.options.Fit.{Fit}
 use Rattle.acgrep.specs.declared.options.Shown.{Shown}
 use Rattle.acgrep.specs.declared.options.Shown.TheVariants.{Count, Lacking, Lines, Matches, Names, Nothing, Objects}
 use Rattle.acgrep.specs.declared.print.Place.{Place}
@@ -24,9 +25,9 @@ use Rattle.acgrep.proofs.Tellings.{full_some, tells_full}
 use Rattle.acgrep.proofs.Walked.{walks_append, walks_full, walks_tells}
 
 -- where one selected line tells all nothing is written of it
-shows_none : (p : Patterns) (shown : Shown) (alone invert : Bool) (style : Style) (place : Place) (line bytes : List ℕ) → needs_one shown ≡ true
-    → ShowsBy p shown alone invert style place line bytes → bytes ≡ []
-shows_none p shown alone invert style place line bytes one shows = grind (arith, common_steps)
+shows_none : (p : Patterns) (shown : Shown) (fit : Fit) (invert : Bool) (style : Style) (place : Place) (line bytes : List ℕ) → needs_one shown ≡ true
+    → ShowsBy p shown fit invert style place line bytes → bytes ≡ []
+shows_none p shown fit invert style place line bytes one shows = grind (arith, common_steps)
 
 more_positive : (count : ℕ) → 0 < one_more count
 more_positive count = omega arith

@@ -14,6 +14,7 @@ use Rattle.acgrep.specs.Guarded.{SearchesFront}
 use Rattle.acgrep.specs.Streamed.{BeginsBehind, course}
 use Rattle.acgrep.specs.Written.{ShowsBy}
 use Rattle.acgrep.specs.declared.options.Context.{Context}
+use Rattle.acgrep.specs.declared.options.Fit.{Fit}
 use Rattle.acgrep.specs.declared.options.Shown.{Shown}
 use Rattle.acgrep.specs.declared.options.Shown.TheVariants.{Lines, Matches, Objects}
 use Rattle.acgrep.specs.declared.print.Place.{Place}
@@ -57,11 +58,11 @@ shows_lines job guarded = (and_parts (writes_lines job.shown) (job.guards && not
 
 -- nothing is asked of a file as a whole, or nothing is written of its lines
 one_none : (p : Patterns) (shown : Shown) → ((style : Style) (count : ℕ) → total_if shown style count ≡ [])
-    ⊎ ((alone invert : Bool) (style : Style) (place : Place) (line bytes : List ℕ) → ShowsBy p shown alone invert style place line bytes → bytes ≡ [])
+    ⊎ ((fit : Fit) (invert : Bool) (style : Style) (place : Place) (line bytes : List ℕ) → ShowsBy p shown fit invert style place line bytes → bytes ≡ [])
 one_none p Lines = inl (λ style count. refl)
 one_none p Matches = inl (λ style count. refl)
 one_none p Objects = inl (λ style count. refl)
-one_none p _ = inr (λ alone invert style place line bytes none. none)
+one_none p _ = inr (λ fit invert style place line bytes none. none)
 
 module _ (p : Patterns) (job : Job) where
   -- nothing is asked of a file as a whole where lines around selected ones are written

@@ -8,7 +8,6 @@ use Rattle.std.specs.Io.KnownBytes.{Appends}
 use Rattle.std.specs.Prelude.{◌&&◌, MatchBool, if◌then◌else◌, nat_le, nat_lt, not}
 use Rattle.aho_core.specs.Occurrence.{Occurrence}
 use Rattle.aho_core.specs.Patterns.{Patterns}
-use Rattle.acgrep.specs.Alone.{asks_alone}
 use Rattle.acgrep.specs.Lines.{EndsLine, lines}
 use Rattle.acgrep.specs.Matches.{WritesColored, WritesMatches}
 use Rattle.acgrep.specs.Objects.{objects_by}
@@ -60,7 +59,7 @@ asked_numbered _ asked is = is
 
 -- a coloured line is what is written of a line where that is asked for
 pub colored_shows : (p : Patterns) (job : Job) (place : Place) (old new : Option (List ℕ)) (line : List ℕ) → job.shown ≡ Lines → (job.style.color && not job.invert) ≡ true
-    → WritesColored old new p (asks_alone job.fit) job.style place line → WritesLine p job place old new line
+    → WritesColored old new p job.fit job.style place line → WritesLine p job place old new line
 colored_shows p job place old new line whole colored writes = (
   (colored_line_by job.style place line writes.matches),
   rw whole (rw colored (writes.matches, writes.found, refl)),
@@ -69,7 +68,7 @@ colored_shows p job place old new line whole colored writes = (
 
 -- the matches are what is written of a line where they are asked for
 pub matches_shows : (p : Patterns) (job : Job) (place : Place) (old new : Option (List ℕ)) (line : List ℕ) → job.shown ≡ Matches → job.invert ≡ false
-    → WritesMatches old new p OnLines (asks_alone job.fit) job.style place line → WritesLine p job place old new line
+    → WritesMatches old new p OnLines job.fit job.style place line → WritesLine p job place old new line
 matches_shows p job place old new line whole plain writes = (
   (matches_by job.style place line writes.matches),
   rw whole (where_false _ job.invert plain (writes.matches, writes.found, refl)),
@@ -78,7 +77,7 @@ matches_shows p job place old new line whole plain writes = (
 
 -- the same of objects
 pub objects_shows : (p : Patterns) (job : Job) (place : Place) (old new : Option (List ℕ)) (line : List ℕ) → job.shown ≡ Objects → job.invert ≡ false
-    → WritesMatches old new p AsFields (asks_alone job.fit) job.style place line → WritesLine p job place old new line
+    → WritesMatches old new p AsFields job.fit job.style place line → WritesLine p job place old new line
 objects_shows p job place old new line whole plain writes = (
   (objects_by job.style place line writes.matches),
   rw whole (where_false _ job.invert plain (writes.matches, writes.found, refl)),
@@ -94,9 +93,9 @@ pub nothing_of_objects : (p : Patterns) (job : Job) (place : Place) (line : List
 nothing_of_objects p job place line whole turned = rw whole (where_true _ job.invert turned refl)
 
 -- where neither lines nor matches nor objects are asked for nothing is written
-pub nothing_else : (p : Patterns) (shown : Shown) (alone invert : Bool) (style : Style) (place : Place) (line : List ℕ) → (shown ≡ Lines → ⊥) → (shown ≡ Matches → ⊥)
-    → (shown ≡ Objects → ⊥) → ShowsBy p shown alone invert style place line []
-nothing_else p shown alone invert style place line whole matches objects = grind (arith, common_steps)
+pub nothing_else : (p : Patterns) (shown : Shown) (fit : Fit) (invert : Bool) (style : Style) (place : Place) (line : List ℕ) → (shown ≡ Lines → ⊥) → (shown ≡ Matches → ⊥)
+    → (shown ≡ Objects → ⊥) → ShowsBy p shown fit invert style place line []
+nothing_else p shown fit invert style place line whole matches objects = grind (arith, common_steps)
 
 -- what stands before a line is the same
 same_head : (job : Job) (a b : Place) (offset : ℕ) (bytes : List ℕ) → SamePlace job a b → head_of job.style (line_number_at a) offset bytes ≡ head_of job.style (line_number_at b) offset bytes
@@ -115,19 +114,19 @@ place_same a b counts bytes = ap (λ (n : ℕ). place_behind n a.bytes) counts �
 start_same : (job : Job) (a b : Place) (line : List ℕ) → SamePlace job a b → head_of job.style (line_number_at a) a.bytes line ≡ head_of job.style (line_number_at b) b.bytes line
 start_same job a b line same = same_head job a b a.bytes line same ∙ ap (λ (n : ℕ). head_of job.style (line_number_at b) n line) same.bytes
 
-line_same : (p : Patterns) (alone colored : Bool) (job : Job) (a b : Place) (line bytes : List ℕ) → SamePlace job a b
-    → LineOf p alone colored job.style a line bytes → LineOf p alone colored job.style b line bytes
-line_same p alone true job a b line bytes same (ms, finds, is) = (ms, finds, is ∙ ap (λ (head : List ℕ). head ++ (colored_from job.style line 0 ms ++ (job.style.ending ∷ []))) (start_same job a b line same))
-line_same p alone false job a b line bytes same is = is ∙ ap (λ (head : List ℕ). head ++ (line ++ (job.style.ending ∷ []))) (start_same job a b line same)
+line_same : (p : Patterns) (fit : Fit) (colored : Bool) (job : Job) (a b : Place) (line bytes : List ℕ) → SamePlace job a b
+    → LineOf p fit colored job.style a line bytes → LineOf p fit colored job.style b line bytes
+line_same p fit true job a b line bytes same (ms, finds, is) = (ms, finds, is ∙ ap (λ (head : List ℕ). head ++ (colored_from job.style line 0 ms ++ (job.style.ending ∷ []))) (start_same job a b line same))
+line_same p fit false job a b line bytes same is = is ∙ ap (λ (head : List ℕ). head ++ (line ++ (job.style.ending ∷ []))) (start_same job a b line same)
 
-pub by_same : (p : Patterns) (shown : Shown) (alone invert : Bool) (job : Job) (a b : Place) (line bytes : List ℕ)
+pub by_same : (p : Patterns) (shown : Shown) (fit : Fit) (invert : Bool) (job : Job) (a b : Place) (line bytes : List ℕ)
     → (is_numbered shown job.style.number ≡ true → a.lines ≡ b.lines) → SamePlace job a b
-    → ShowsBy p shown alone invert job.style a line bytes → ShowsBy p shown alone invert job.style b line bytes
-by_same p Lines alone invert job a b line bytes counted same shows = line_same p alone (job.style.color && not invert) job a b line bytes same shows
-by_same p Matches alone false job a b line bytes counted same (ms, finds, is) = (ms, finds, is ∙ matches_same job a b line ms same)
-by_same p Objects alone false job a b line bytes counted same (ms, finds, is) =
+    → ShowsBy p shown fit invert job.style a line bytes → ShowsBy p shown fit invert job.style b line bytes
+by_same p Lines fit invert job a b line bytes counted same shows = line_same p fit (job.style.color && not invert) job a b line bytes same shows
+by_same p Matches fit false job a b line bytes counted same (ms, finds, is) = (ms, finds, is ∙ matches_same job a b line ms same)
+by_same p Objects fit false job a b line bytes counted same (ms, finds, is) =
     (ms, finds, is ∙ ap (λ (place : Place). objects_by job.style place line ms) (place_same a b (counted refl) same.bytes))
-by_same p _ alone _ job a b line bytes counted same shows = shows
+by_same p _ fit _ job a b line bytes counted same shows = shows
 
 -- lines tell the same from places that are the same
 pub tells_same : (p : Patterns) (job : Job) (ls : List (List ℕ)) (a b : Place) (count : ℕ) (bytes : List ℕ) (total : ℕ) → SamePlace job a b
@@ -142,7 +141,7 @@ tells_same p job (line ∷ rest) a b count bytes total same (inr (goes, inl (sel
         (
           shown,
           more,
-          by_same p job.shown (asks_alone job.fit) job.invert job a b line shown same.lines same shows,
+          by_same p job.shown job.fit job.invert job a b line shown same.lines same shows,
           tells_same p job rest (after_line a line) (after_line b line) (one_more count) more total (same_line job a b line same) behind,
           is,
         ),

@@ -1,6 +1,6 @@
--- What stands alone in a line: no letter, digit or `_` is beside it.
+-- What stands alone in a line: no letter, digit or `_` is beside it. And what is the whole line.
 use Rattle.std.specs.Char.{is_ascii_alphanumeric}
-use Rattle.std.specs.Prelude.{◌&&◌, ◌+◌, ◌-◌, ◌<◌, ◌==◌, ◌||◌, ◌∷◌, ◌≡◌, ◌≤◌, ◌⊎◌, Bool, List, MatchBool, None, Option, Some, [], false, length, max, nat_lt, not, slice_index, true, ℕ}
+use Rattle.std.specs.Prelude.{◌&&◌, ◌+◌, ◌-◌, ◌<◌, ◌==◌, ◌||◌, ◌∷◌, ◌≡◌, ◌≤◌, ◌⊎◌, Bool, List, None, Option, Some, [], if◌then◌else◌, length, max, nat_lt, not, option_to_list, slice_index, true, ℕ}
 use Rattle.aho_core.specs.Best.{IsBestOrNone}
 use Rattle.aho_core.specs.Iteration.{AreFinds}
 use Rattle.aho_core.specs.Occurrence.{Occurrence}
@@ -10,7 +10,7 @@ use Rattle.aho_core.specs.Patterns.{Patterns}
 use Rattle.aho_core.specs.Search.{plain_search}
 use Rattle.aho_core.specs.declared.search.MatchKind.TheVariants.{LeftmostLongest}
 use Rattle.acgrep.specs.declared.options.Fit.{Fit}
-use Rattle.acgrep.specs.declared.options.Fit.TheVariants.{WholeWord}
+use Rattle.acgrep.specs.declared.options.Fit.TheVariants.{AnyPart, WholeLine, WholeWord}
 
 -- a letter of ASCII, a digit or `_`
 abbrev pub is_word_constituent : ℕ → Bool
@@ -44,14 +44,26 @@ abbrev pub AreAloneFrom : Patterns → List ℕ → ℕ → List Occurrence → 
 AreAloneFrom p line at [] = IsNextAlone p line at None
 AreAloneFrom p line at (m ∷ ms) = IsNextAlone p line at (Some m) × AreAloneFrom p line (behind_alone m) ms
 
--- whether a match has to stand alone
-abbrev pub asks_alone : Fit → Bool
-asks_alone WholeWord = true
-asks_alone _ = false
+-- m is the whole line
+pub record IsWholeLine (p : Patterns) (line : List ℕ) (m : Occurrence) : Type 0 where
+  pub occurs : OccursIn p (plain_search line) m
+  pub begins : m.start ≡ 0
+  pub ends : m.end ≡ length line
 
--- the matches of a line that are written: those that stand alone where that is asked for, and else those that iteration finds
-abbrev pub AreShownOf : Patterns → Bool → List ℕ → List Occurrence → Type 0
-AreShownOf p alone line ms = MatchBool alone (AreAloneFrom p line 0 ms) (AreFinds p (plain_search line) None ms)
+-- of those the one whose pattern comes first; or none where there is none
+abbrev pub IsWholeOrNone : Patterns → List ℕ → Option Occurrence → Type 0
+IsWholeOrNone p line found = IsBestOrNone LeftmostLongest (IsWholeLine p line) found
+
+-- a match, where it is all of so many bytes
+abbrev pub whole_of : (len : ℕ) → Occurrence → Option Occurrence
+whole_of len m = if (m.start == 0) && (m.end == len) then Some m else None
+
+-- the matches of a line that are written: those that iteration finds; or, where that is asked for, those that stand alone, or the one
+-- that is the line
+abbrev pub AreShownOf : Patterns → Fit → List ℕ → List Occurrence → Type 0
+AreShownOf p AnyPart line ms = AreFinds p (plain_search line) None ms
+AreShownOf p WholeWord line ms = AreAloneFrom p line 0 ms
+AreShownOf p WholeLine line ms = (found : Option Occurrence) × IsWholeOrNone p line found × (ms ≡ option_to_list found)
 
 -- m occurs in a line, and of what begins with it it is the longest
 pub record IsLongestThere (p : Patterns) (line : List ℕ) (m : Occurrence) : Type 0 where

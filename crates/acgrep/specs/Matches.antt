@@ -1,6 +1,6 @@
 -- The matches of a line as they are written: in the line in colour, each on a line of its own, or each with its fields.
 use Rattle.std.specs.Io.KnownBytes.{Appends}
-use Rattle.std.specs.Prelude.{Bool, List, OnOk, Option, Result, [], length, ℕ}
+use Rattle.std.specs.Prelude.{List, OnOk, Option, Result, [], length, ℕ}
 use Rattle.std.specs.declared.io.traits.Write.{Ghosts as Writers}
 use Rattle.aho_core.specs.Occurrence.{Occurrence}
 use Rattle.aho_core.specs.Patterns.{Patterns}
@@ -10,6 +10,7 @@ use Rattle.acgrep.specs.Objects.{object_by, objects_by}
 use Rattle.acgrep.specs.Printed.{behind_match, colored_by, colored_from, colored_line_by, match_by, matches_by, part_of}
 use Rattle.acgrep.specs.declared.matches.Shape.{Shape}
 use Rattle.acgrep.specs.declared.matches.Shape.TheVariants.{AsFields, Colored, OnLines}
+use Rattle.acgrep.specs.declared.options.Fit.{Fit}
 use Rattle.acgrep.specs.declared.print.Place.{Place}
 use Rattle.acgrep.specs.declared.print.Style.{Style}
 
@@ -36,24 +37,24 @@ shown_from OnLines style place line at ms = matches_by style place line ms
 shown_from AsFields style place line at ms = objects_by style place line ms
 
 -- the matches of a line are written so, and nothing else
-pub record WritesMatches (old new : Option (List ℕ)) (p : Patterns) (shape : Shape) (alone : Bool) (style : Style) (place : Place) (line : List ℕ) : Type 0 where
+pub record WritesMatches (old new : Option (List ℕ)) (p : Patterns) (shape : Shape) (fit : Fit) (style : Style) (place : Place) (line : List ℕ) : Type 0 where
   pub matches : List Occurrence
-  pub found : AreShownOf p alone line matches
+  pub found : AreShownOf p fit line matches
   pub written : Appends old new (shown_from shape style place line 0 matches)
 
 -- a line with its matches in colour is written, and nothing else
-pub record WritesColored (old new : Option (List ℕ)) (p : Patterns) (alone : Bool) (style : Style) (place : Place) (line : List ℕ) : Type 0 where
+pub record WritesColored (old new : Option (List ℕ)) (p : Patterns) (fit : Fit) (style : Style) (place : Place) (line : List ℕ) : Type 0 where
   pub matches : List Occurrence
-  pub found : AreShownOf p alone line matches
+  pub found : AreShownOf p fit line matches
   pub written : Appends old new (colored_line_by style place line matches)
 
 module _ {W : Type 0} (writers : Writers W) (searcher : Searcher) where
   -- where a call does not fail the matches of the searcher's patterns were written
-  abbrev pub PutsMatches : Shape → (alone : Bool) → Style → Place → List ℕ → (old new : W) → {T E : Type 0} → Result T E → Type 0
-  PutsMatches shape alone style place line old new result = (p : Patterns) → IsBuiltFrom searcher p
-      → OnOk result (WritesMatches (writers.contents old) (writers.contents new) p shape alone style place line)
+  abbrev pub PutsMatches : Shape → Fit → Style → Place → List ℕ → (old new : W) → {T E : Type 0} → Result T E → Type 0
+  PutsMatches shape fit style place line old new result = (p : Patterns) → IsBuiltFrom searcher p
+      → OnOk result (WritesMatches (writers.contents old) (writers.contents new) p shape fit style place line)
 
   -- or a line was with those matches in colour
-  abbrev pub PutsColored : (alone : Bool) → Style → Place → List ℕ → (old new : W) → {T E : Type 0} → Result T E → Type 0
-  PutsColored alone style place line old new result = (p : Patterns) → IsBuiltFrom searcher p
-      → OnOk result (WritesColored (writers.contents old) (writers.contents new) p alone style place line)
+  abbrev pub PutsColored : Fit → Style → Place → List ℕ → (old new : W) → {T E : Type 0} → Result T E → Type 0
+  PutsColored fit style place line old new result = (p : Patterns) → IsBuiltFrom searcher p
+      → OnOk result (WritesColored (writers.contents old) (writers.contents new) p fit style place line)

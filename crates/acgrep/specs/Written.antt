@@ -5,7 +5,7 @@ use Rattle.aho_core.specs.Occurrence.{Occurrence}
 use Rattle.aho_core.specs.Occurs.{OccursIn}
 use Rattle.aho_core.specs.Patterns.{Patterns}
 use Rattle.aho_core.specs.Search.{plain_search}
-use Rattle.acgrep.specs.Alone.{AreShownOf, IsAloneFrom, asks_alone}
+use Rattle.acgrep.specs.Alone.{AreShownOf, IsAloneFrom}
 use Rattle.acgrep.specs.Lines.{EndsLine, lines}
 use Rattle.acgrep.specs.Objects.{objects_by}
 use Rattle.acgrep.specs.Printed.{colored_line_by, line_by, matches_by}
@@ -75,34 +75,34 @@ abbrev pub EachLine : (List ℕ → Type 0) → List (List ℕ) → Type 0
 EachLine P [] = ⊤
 EachLine P (line ∷ rest) = P line × EachLine P rest
 
--- the matches of a line, as they are written
-abbrev pub MatchesOf : Patterns → Bool → Style → Place → List ℕ → List ℕ → Type 0
-MatchesOf p alone style place line bytes =
-    (ms : List Occurrence) × AreShownOf p alone line ms × (bytes ≡ matches_by style place line ms)
+-- the matches of a line that fit, as they are written
+abbrev pub MatchesOf : Patterns → Fit → Style → Place → List ℕ → List ℕ → Type 0
+MatchesOf p fit style place line bytes =
+    (ms : List Occurrence) × AreShownOf p fit line ms × (bytes ≡ matches_by style place line ms)
 
 -- the same as objects, or by a format
-abbrev pub ObjectsOf : Patterns → Bool → Style → Place → List ℕ → List ℕ → Type 0
-ObjectsOf p alone style place line bytes =
-    (ms : List Occurrence) × AreShownOf p alone line ms × (bytes ≡ objects_by style place line ms)
+abbrev pub ObjectsOf : Patterns → Fit → Style → Place → List ℕ → List ℕ → Type 0
+ObjectsOf p fit style place line bytes =
+    (ms : List Occurrence) × AreShownOf p fit line ms × (bytes ≡ objects_by style place line ms)
 
 -- the line with its matches in colour
-abbrev pub ColoredOf : Patterns → Bool → Style → Place → List ℕ → List ℕ → Type 0
-ColoredOf p alone style place line bytes =
-    (ms : List Occurrence) × AreShownOf p alone line ms × (bytes ≡ colored_line_by style place line ms)
+abbrev pub ColoredOf : Patterns → Fit → Style → Place → List ℕ → List ℕ → Type 0
+ColoredOf p fit style place line bytes =
+    (ms : List Occurrence) × AreShownOf p fit line ms × (bytes ≡ colored_line_by style place line ms)
 
 -- the line, in colour or not
-abbrev pub LineOf : Patterns → (alone colored : Bool) → Style → Place → List ℕ → List ℕ → Type 0
-LineOf p alone colored style place line bytes = MatchBool colored (ColoredOf p alone style place line bytes) (bytes ≡ line_by style place line)
+abbrev pub LineOf : Patterns → Fit → (colored : Bool) → Style → Place → List ℕ → List ℕ → Type 0
+LineOf p alone colored style place line bytes = MatchBool colored (ColoredOf p fit style place line bytes) (bytes ≡ line_by style place line)
 
 -- what is written of a selected line: itself, its matches, or nothing; a line that is selected by `invert` has no match
-abbrev pub ShowsBy : Patterns → Shown → (alone invert : Bool) → Style → Place → List ℕ → List ℕ → Type 0
-ShowsBy p Lines alone invert style place line bytes = LineOf p alone (style.color && not invert) style place line bytes
-ShowsBy p Matches alone invert style place line bytes = MatchBool invert (bytes ≡ []) (MatchesOf p alone style place line bytes)
-ShowsBy p Objects alone invert style place line bytes = MatchBool invert (bytes ≡ []) (ObjectsOf p alone style place line bytes)
-ShowsBy p _ alone invert style place line bytes = bytes ≡ []
+abbrev pub ShowsBy : Patterns → Shown → Fit → (invert : Bool) → Style → Place → List ℕ → List ℕ → Type 0
+ShowsBy p Lines fit invert style place line bytes = LineOf p fit (style.color && not invert) style place line bytes
+ShowsBy p Matches fit invert style place line bytes = MatchBool invert (bytes ≡ []) (MatchesOf p fit style place line bytes)
+ShowsBy p Objects fit invert style place line bytes = MatchBool invert (bytes ≡ []) (ObjectsOf p fit style place line bytes)
+ShowsBy p _ fit invert style place line bytes = bytes ≡ []
 
 abbrev pub ShowsLine : Patterns → Job → Place → List ℕ → List ℕ → Type 0
-ShowsLine p job place line bytes = ShowsBy p job.shown (asks_alone job.fit) job.invert job.style place line bytes
+ShowsLine p job place line bytes = ShowsBy p job.shown job.fit job.invert job.style place line bytes
 
 -- that is written, and nothing else
 abbrev pub WritesLine : Patterns → Job → Place → Option (List ℕ) → Option (List ℕ) → List ℕ → Type 0

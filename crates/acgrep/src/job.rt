@@ -1,7 +1,6 @@
 //! What is written of which lines of each file, by what the arguments say, and how far one was searched.
 
 ghost use Rattle.std.specs.Prelude.{◌≡◌, ◌↔◌, ◌⊎◌, ◌&&◌, ◌<◌, [], IsTrue, false, not, length};
-ghost use Rattle.acgrep.specs.Alone.{asks_alone};
 ghost use Rattle.acgrep.specs.Arguments.{said};
 ghost use Rattle.acgrep.specs.Runs.{IsJob, asks_none, form_asked, form_said, inverts, is_colored};
 ghost use Rattle.acgrep.specs.Written.{IsSettled, is_full, is_numbered, needs_one, selects};
@@ -79,13 +78,6 @@ impl<'a> Job<'a> {
         ensures colored { result ≡ (self.now.style.color && not self.now.invert) }
     {
         self.style.color && !self.invert
-    }
-
-    /// Whether a match has to stand alone.
-    pub fn asks_alone(&self) -> bool
-        ensures alone { result ≡ asks_alone self.now.fit }
-    {
-        matches!(self.fit, Fit::WholeWord)
     }
 
     /// Whether a line is selected, by whether it matches.

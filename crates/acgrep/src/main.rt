@@ -52,6 +52,7 @@ mod tell;
 mod trail;
 mod unread;
 mod walk;
+mod whole;
 mod wrong;
 
 use bytes::{arguments, variable};

@@ -6,15 +6,17 @@ ghost use Rattle.aho_core.specs.Iteration.{AreFinds};
 ghost use Rattle.aho_core.specs.Patterns.{Patterns};
 ghost use Rattle.aho_core.specs.Search.{plain_search};
 ghost use Rattle.chromesquid.specs.Searcher.{ForItsPatterns, IsBuiltFromSome};
-ghost use Rattle.acgrep.specs.Alone.{asks_alone};
 ghost use Rattle.acgrep.specs.Matches.{PutsColored, PutsMatches, behind_by, found_by, rest_behind, shown_from};
 ghost use Rattle.acgrep.specs.Printed.{Puts, PutsEach};
+ghost use Rattle.acgrep.specs.declared.options.Fit.TheVariants.{AnyPart, WholeLine, WholeWord};
 
 use crate::alone::{behind_alone, next_alone};
 use crate::failure::Stop;
 use crate::job::Job;
 use crate::json::put_object;
+use crate::options::Fit;
 use crate::print::{Place, Style, part, put_head, put_match, put_up_to};
+use crate::whole::find_whole;
 use chromesquid::{AhoCorasick, Match};
 use std::alloc::Global;
 use std::io;
@@ -31,7 +33,7 @@ pub enum Shape {
     AsFields,
 }
 
-/// Writes a line with its matches coloured, or those that stand alone.
+/// Writes a line with its matches that fit coloured.
 pub fn put_colored_line<W: Write>(
     searcher: &AhoCorasick,
     job: &Job<'_>,
@@ -41,7 +43,7 @@ pub fn put_colored_line<W: Write>(
 ) -> Result<(), Stop>
     requires of { IsBuiltFromSome searcher.now }
     ensures written { PutsColored W.Write searcher.now
-        (asks_alone job.now.fit) job.now.style place line.now output.old output.new result }
+        job.now.fit job.now.style place line.now output.old output.new result }
 {
     let style = &job.style;
     let number = place.lines.wrapping_add(1);
@@ -51,7 +53,7 @@ pub fn put_colored_line<W: Write>(
     Ok(())
 }
 
-/// Writes each match of a line that is not empty, or each of those that stand alone.
+/// Writes each match of a line that fits: each that is not empty, each of those that stand alone, or the one that is the line.
 pub fn put_matches<W: Write>(
     searcher: &AhoCorasick,
     job: &Job<'_>,
@@ -62,12 +64,30 @@ pub fn put_matches<W: Write>(
 ) -> Result<(), Stop>
     requires of { IsBuiltFromSome searcher.now }
     ensures written { PutsMatches W.Write searcher.now
-        shape (asks_alone job.now.fit) job.now.style place line.now output.old output.new result }
+        shape job.now.fit job.now.style place line.now output.old output.new result }
 {
     let style = &job.style;
-    if job.asks_alone() {
-        return put_alone(searcher, output, shape, style, place, line);
+    match job.fit {
+        Fit::AnyPart => put_finds(searcher, job, shape, place, line, output),
+        Fit::WholeWord => put_alone(searcher, output, shape, style, place, line),
+        Fit::WholeLine => put_whole(searcher, output, shape, style, place, line),
     }
+}
+
+/// Writes each match of a line that iteration finds.
+fn put_finds<W: Write>(
+    searcher: &AhoCorasick,
+    job: &Job<'_>,
+    shape: Shape,
+    place: Place,
+    line: &[u8],
+    output: &mut W,
+) -> Result<(), Stop>
+    requires of { IsBuiltFromSome searcher.now }
+    ensures written { PutsMatches W.Write searcher.now
+        shape AnyPart job.now.style place line.now output.old output.new result }
+{
+    let style = &job.style;
     if let Some(found) = list_finds(job.alloc, searcher, line) {
         put_listed(output, shape, style, place, line, found.as_slice())?;
         return Ok(());
@@ -104,7 +124,7 @@ fn put_alone<W: Write>(
 ) -> Result<(), Stop>
     requires of { IsBuiltFromSome searcher.now }
     ensures written { PutsMatches W.Write searcher.now
-        shape true style.now place line.now output.old output.new result }
+        shape WholeWord style.now place line.now output.old output.new result }
 {
     let mut at = 0;
     let mut from = 0;
@@ -113,6 +133,26 @@ fn put_alone<W: Write>(
         from = behind_alone(&found);
     }
     put_rest(output, shape, line, at)?;
+    Ok(())
+}
+
+/// Writes the match of a line that is the line, if there is one.
+fn put_whole<W: Write>(
+    searcher: &AhoCorasick,
+    output: &mut W,
+    shape: Shape,
+    style: &Style<'_>,
+    place: Place,
+    line: &[u8],
+) -> Result<(), Stop>
+    requires of { IsBuiltFromSome searcher.now }
+    ensures written { PutsMatches W.Write searcher.now
+        shape WholeLine style.now place line.now output.old output.new result }
+{
+    match find_whole(searcher, line)? {
+        Some(found) => put_listed(output, shape, style, place, line, &[found])?,
+        None => put_listed(output, shape, style, place, line, &[])?,
+    }
     Ok(())
 }
 

@@ -1,11 +1,10 @@
 //! Which lines of a text are selected, and what is written of them.
 
-ghost use Rattle.std.specs.Prelude.{◌≡◌, ◌==◌, ◌+◌, ◌%◌, ◌^◌, ◌↔◌, ◌⊎◌, ◌&&◌, ◌≤◌, ◌<◌, [], IfOk, IfSome, OnOk, false, true, not, length};
+ghost use Rattle.std.specs.Prelude.{◌≡◌, ◌+◌, ◌%◌, ◌^◌, ◌≤◌, ◌<◌, IfOk, IfSome, OnOk, false, true, not, length};
 ghost use Rattle.memchr.specs.Find.{is_byte, places};
 ghost use Rattle.aho_core.specs.Patterns.{Patterns};
-ghost use Rattle.aho_core.specs.declared.search.MatchKind.TheVariants.{LeftmostLongest};
 ghost use Rattle.chromesquid.specs.Searcher.{IsBuiltFrom, IsBuiltFromSome};
-ghost use Rattle.acgrep.specs.declared.options.Fit.TheVariants.{AnyPart, WholeLine};
+ghost use Rattle.acgrep.specs.declared.options.Fit.TheVariants.{AnyPart};
 ghost use Rattle.acgrep.specs.Searched.{BeginsOthersBy, BeginsPlainBy, BeginsWhere, SearchesPlainBy, SearchesSomeBy, TellsOthersBy, TellsWhere, WritesLineBy, WritesNextBy};
 ghost use Rattle.acgrep.specs.Selected.{EndsBy, FindsNone, ForJob, ForLines, IsLine, IsNextLine, IsNoneSelected, lines_by};
 ghost use Rattle.acgrep.specs.Written.{HasMatch, IsMatched, IsSelected, NumbersLines, SamePlace, after_line, after_lines, is_full, next_count, place_behind, selects};
@@ -17,7 +16,8 @@ use crate::lines::{behind, line_end, line_start};
 use crate::matches::{Shape, put_colored_line, put_matches};
 use crate::options::{Fit, Shown};
 use crate::print::{Place, behind_line, put_line};
-use chromesquid::{AhoCorasick, MatchError, MatchKind, Sink, Span, write_whole};
+use crate::whole::is_whole;
+use chromesquid::{AhoCorasick, Sink, Span, write_whole};
 use memchr::memchr_iter;
 use std::io::Write;
 
@@ -146,37 +146,6 @@ pub fn is_match(searcher: &AhoCorasick, job: &Job<'_>, line: &[u8]) -> Result<bo
         Fit::WholeWord => has_alone(searcher, line),
         Fit::WholeLine => is_whole(searcher, line),
     }
-}
-
-/// Whether a pattern is the whole line.
-fn is_whole(searcher: &AhoCorasick, line: &[u8]) -> Result<bool, Stop>
-    requires of { IsBuiltFromSome searcher.now }
-    ensures whole { (p : Patterns) → IsBuiltFrom searcher.now p
-        → IfOk result (IsMatched p WholeLine line.now) }
-{
-    match searcher.match_kind() {
-        MatchKind::LeftmostLongest => is_longest_whole(searcher, line),
-        kind => Err(Stop::Search(MatchError::unsupported_overlapping(kind))),
-    }
-}
-
-/// The same where of those that occur the longest that begins first is found.
-fn is_longest_whole(searcher: &AhoCorasick, line: &[u8]) -> Result<bool, Stop>
-    requires of { IsBuiltFromSome searcher.now }
-    ensures whole { (p : Patterns) → IsBuiltFrom searcher.now p → p.kind ≡ LeftmostLongest
-        → IfOk result (IsMatched p WholeLine line.now) }
-{
-    match searcher.try_find(line)? {
-        Some(found) => Ok(spans(found.start(), found.end(), line.len())),
-        None => Ok(false),
-    }
-}
-
-/// Whether a range is all that there is.
-fn spans(start: usize, end: usize, len: usize) -> bool
-    ensures spans { result ≡ ((start == 0) && (end == len)) }
-{
-    start == 0 && end == len
 }
 
 /// Goes over a line of which it is known whether it matches.

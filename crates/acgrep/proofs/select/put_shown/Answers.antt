@@ -2,7 +2,6 @@
 use Rattle.std.proofs.Common.{◌∙◌, [], sym}
 use Rattle.std.proofs.KnownBytes.{Appends-nil}
 use Rattle.std.proofs.lemmas.Result.{on_ok_weaker}
-use Rattle.acgrep.specs.Alone.{asks_alone}
 use Rattle.acgrep.proofs.Tellings.{colored_shows, matches_shows, nothing_else, nothing_of_matches, nothing_of_objects, objects_shows}
 use Rattle.acgrep.proofs.select.put_shown.Goals.{in_default-via-in-Matches+else-not-job, in_default-via-in-Objects+else-not-job-2, in_default-via-in_default}
 use Rattle.acgrep.proofs.select.put_shown.Goals as goal
@@ -49,6 +48,6 @@ returns-in_default g c =
             | in_default-via-in-Matches+else-not-job w ↦ ([], nothing_of_matches p job _ _ w.in-Matches.is w.if-not-job.false, same)
             | in_default-via-in-Objects+else-not-job-2 w ↦ ([], nothing_of_objects p job _ _ w.in-Objects.is w.if-not-job-2.false, same)
             | in_default-via-in_default w ↦
-                ([], nothing_else p job.shown (asks_alone job.fit) job.invert job.style _ _ w.in_default.not-Lines w.in_default.not-Matches w.in_default.not-Objects, same)
+                ([], nothing_else p job.shown job.fit job.invert job.style _ _ w.in_default.not-Lines w.in_default.not-Matches w.in_default.not-Objects, same)
           ];
     }

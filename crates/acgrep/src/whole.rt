@@ -1,0 +1,58 @@
+//! The match of a line that is the whole line.
+
+ghost use Rattle.std.specs.Prelude.{◌≡◌, IfOk};
+ghost use Rattle.aho_core.specs.Patterns.{Patterns};
+ghost use Rattle.aho_core.specs.declared.search.MatchKind.TheVariants.{LeftmostLongest};
+ghost use Rattle.chromesquid.specs.Searcher.{IsBuiltFrom, IsBuiltFromSome};
+ghost use Rattle.acgrep.specs.Alone.{IsWholeOrNone, whole_of};
+ghost use Rattle.acgrep.specs.Written.{IsMatched};
+ghost use Rattle.acgrep.specs.declared.options.Fit.TheVariants.{WholeLine};
+
+use crate::failure::Stop;
+use chromesquid::{AhoCorasick, Match, MatchError, MatchKind};
+
+/// Whether a pattern is the whole line.
+pub fn is_whole(searcher: &AhoCorasick, line: &[u8]) -> Result<bool, Stop>
+    requires of { IsBuiltFromSome searcher.now }
+    ensures whole { (p : Patterns) → IsBuiltFrom searcher.now p
+        → IfOk result (IsMatched p WholeLine line.now) }
+{
+    match find_whole(searcher, line)? {
+        Some(_) => Ok(true),
+        None => Ok(false),
+    }
+}
+
+/// Of the matches that are the whole line that of the pattern that comes first.
+pub fn find_whole(searcher: &AhoCorasick, line: &[u8]) -> Result<Option<Match>, Stop>
+    requires of { IsBuiltFromSome searcher.now }
+    ensures whole { (p : Patterns) → IsBuiltFrom searcher.now p
+        → IfOk result (IsWholeOrNone p line.now) }
+{
+    match searcher.match_kind() {
+        MatchKind::LeftmostLongest => longest_whole(searcher, line),
+        kind => Err(Stop::Search(MatchError::unsupported_overlapping(kind))),
+    }
+}
+
+/// The same where of those that occur the longest that begins first is found.
+fn longest_whole(searcher: &AhoCorasick, line: &[u8]) -> Result<Option<Match>, Stop>
+    requires of { IsBuiltFromSome searcher.now }
+    ensures whole { (p : Patterns) → IsBuiltFrom searcher.now p → p.kind ≡ LeftmostLongest
+        → IfOk result (IsWholeOrNone p line.now) }
+{
+    match searcher.try_find(line)? {
+        Some(found) => Ok(whole_of(line.len(), found)),
+        None => Ok(None),
+    }
+}
+
+/// A match, where it is all of so many bytes.
+fn whole_of(len: usize, found: Match) -> Option<Match>
+    ensures whole { result ≡ whole_of len found }
+{
+    if found.start() == 0 && found.end() == len {
+        return Some(found);
+    }
+    None
+}
