@@ -42,4 +42,5 @@ mod Told
 pub mod Unfitting
 pub mod Walked
 pub mod Walking
+pub mod WholeLines
 pub mod WordLists
