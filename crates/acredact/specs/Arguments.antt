@@ -13,6 +13,8 @@ use Rattle.acredact.specs.declared.options.Word.{Word}
 use Rattle.acredact.specs.declared.options.Word.TheVariants.{IgnoreCase, Kind, Pattern, Patterns, Table, Env, EnvFile, Whole, With, Pseudonym, Forms, AsWord, Rules, After, MaxLine, Output, InPlace, Count, Summary, Crlf, AllowEmpty, Strict, Check, Help, Version, File}
 use Rattle.acredact.specs.declared.arguments.Expects.{Expects}
 use Rattle.acredact.specs.declared.arguments.Expects.TheVariants.{Any, Value, Name}
+use Rattle.acredact.specs.declared.destination.Destination.{Destination}
+use Rattle.acredact.specs.declared.destination.Destination.TheVariants.{EachFile, NewFile, StandardOutput}
 use Rattle.acredact.specs.declared.options.Item.{Item}
 use Rattle.acredact.specs.declared.mistakes.Mixture.{Mixture}
 use Rattle.acredact.specs.declared.mistakes.Mixture.TheVariants.{StrictKind, PseudonymKind, PseudonymWith, PseudonymTable, FormsKind, WordsKind, WordsForms, RulesKind, RulesInPlace, RulesStrict, MaxLineAlone, CountCheck, SummaryCheck, OutputCheck, InPlaceCheck, InPlaceOutput}
@@ -376,13 +378,15 @@ IfRuled arguments Holds = IfRight arguments (λ given. AsksForRules given → Ho
 abbrev pub IfRulesCheck : {Z : Type 0} → List (String Z) → (List Given → Type 0) → Type 0
 IfRulesCheck arguments Holds = IfRight arguments (λ given. AsksForRulesCheck given → Holds given)
 
--- the options that are given name this file for the output, or none
-abbrev pub NamesOutput : {Z : Type 0} → List (String Z) → Option (List ℕ) → Type 0
-NamesOutput arguments output = (given : List Given) × (all_asked (texts arguments) ≡ Some given) × (output ≡ output_asked given)
+-- where the output of a call with these options goes: into each file itself, to a new file of a name, or to standard output
+abbrev pub GoesTo : List Given → Destination → Type 0
+GoesTo given EachFile = in_place_asked given ≡ true
+GoesTo given (NewFile name) = (in_place_asked given ≡ false) × (output_asked given ≡ Some name.now)
+GoesTo given StandardOutput = (in_place_asked given ≡ false) × (output_asked given ≡ None)
 
--- the options that are given ask for files to be replaced in place, or do not
-abbrev pub AsksInPlace : {Z : Type 0} → List (String Z) → Bool → Type 0
-AsksInPlace arguments asked = (given : List Given) × (all_asked (texts arguments) ≡ Some given) × (asked ≡ in_place_asked given)
+-- and with these arguments
+abbrev pub IsDestination : {Z : Type 0} → List (String Z) → Destination → Type 0
+IsDestination arguments destination = (given : List Given) × (all_asked (texts arguments) ≡ Some given) × GoesTo given destination
 
 -- these arguments ask for a check
 abbrev pub IsCheck : {Z : Type 0} → List (String Z) → Type 0

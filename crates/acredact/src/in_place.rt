@@ -1,13 +1,13 @@
 //! A call that replaces each file: a new one is written beside it, and takes its place where all of it was redacted.
 
-ghost use Rattle.std.specs.Prelude.{◌≡◌, ◌≤◌, IfErr, IfOk, Ok, true};
+ghost use Rattle.std.specs.Prelude.{◌≡◌, ◌≤◌, Ok, true};
 ghost use Rattle.aho_core.specs.declared.error.stream.StreamError.TheVariants.{Memory};
 ghost use Rattle.chromesquid.specs.Searcher.{ForItsPatterns};
 ghost use Rattle.tool_parts.specs.Arguments.{texts};
 ghost use Rattle.tool_parts.specs.Streams.{bytes_left};
 ghost use Rattle.tool_parts.specs.Telling.{TellsSome};
-ghost use Rattle.acredact.specs.Arguments.{AreMistaken, AsksInPlace, IfAsked, all_given};
-ghost use Rattle.acredact.specs.Calls.{IsWrongFailure, IsWrongLine, call_of};
+ghost use Rattle.acredact.specs.Arguments.{AreMistaken, IfAsked, all_given};
+ghost use Rattle.acredact.specs.Calls.{IsWrongLine, call_of};
 ghost use Rattle.acredact.specs.Files.{CanDo, redactor_of, work_of};
 ghost use Rattle.acredact.specs.InPlace.{CalledPlaces, FreesAll, IsSettled, KeepsEach, PlaceOutcome, PlacesAll, PlacesCount, PlacesOutcome, PlacesReach, PlacesStatus, PlacesTell, ReadyPlaces};
 ghost use Rattle.acredact.specs.Into.{WarnsAll};
@@ -20,7 +20,7 @@ use crate::failure::{FAILED, Failure, report, tell_no_file, tell_unread};
 use crate::files::{Job, both, is_input};
 use crate::folder::Folder;
 use crate::mistakes::Mistake;
-use crate::options::{Item, counts, gives_pattern, replaces_in_place};
+use crate::options::{Item, counts, gives_pattern};
 use crate::outputs::Outputs;
 use crate::prepare::{Ready, job_of, prepare};
 use crate::run::{redact_by, tell_counted};
@@ -31,21 +31,6 @@ use chromesquid::{AhoCorasick, Automaton, FromWrite, Sink, StreamError};
 use std::alloc::Global;
 use std::io::Read;
 use tool_parts::errors::Errors;
-
-/// Whether the arguments ask for files to be replaced in place.
-///
-/// # Errors
-///
-/// As `items`: the arguments are wrong, or memory runs out.
-pub fn asks_in_place<'a>(alloc: Global, arguments: &'a [String]) -> Result<bool, Failure<'a>>
-    ensures asked { IfOk result (AsksInPlace arguments.now) }
-    ensures wrong { IfErr result (IsWrongFailure (texts arguments.now)) }
-{
-    match items(alloc, arguments) {
-        Ok(given) => Ok(replaces_in_place(given.as_slice())),
-        Err(mistake) => Err(Failure::Arguments(mistake)),
-    }
-}
 
 /// Replaces each file by its redaction, and answers the exit status: 0 where all were, and 2 where the arguments or the patterns are
 /// wrong, memory runs out, or a file cannot be read or replaced. Such a file stays as it was, and it is told why.

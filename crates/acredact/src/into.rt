@@ -1,17 +1,13 @@
 //! A call whose output is a new file, which takes the place of another where all was done.
 
-ghost use Rattle.std.specs.Prelude.{◌≡◌, IfErr, IfOk, option_map};
-ghost use Rattle.tool_parts.specs.Arguments.{texts};
+ghost use Rattle.std.specs.Prelude.{◌≡◌};
 ghost use Rattle.tool_parts.specs.Streams.{output_bytes};
-ghost use Rattle.acredact.specs.Arguments.{IfAsked, IfRuled, NamesOutput};
-ghost use Rattle.acredact.specs.Calls.{IsWrongFailure};
+ghost use Rattle.acredact.specs.Arguments.{IfAsked, IfRuled};
 ghost use Rattle.acredact.specs.Into.{IsKept, IsSpared, RuledTellsUnput, TellsNone, TellsUnread, WritesAll, WritesAllByRules};
 
-use crate::arguments::items;
-use crate::failure::{FAILED, Failure, tell_no_output, tell_unread};
+use crate::failure::{FAILED, tell_no_output, tell_unread};
 use crate::files::is_input;
 use crate::folder::Folder;
-use crate::options::output_of;
 use crate::outputs::Outputs;
 use crate::run::run;
 use crate::streams::Streams;
@@ -19,25 +15,6 @@ use chromesquid::{FromWrite, Sink};
 use std::alloc::Global;
 use std::io::Read;
 use tool_parts::errors::Errors;
-
-/// The file that is named for the output, if one is.
-///
-/// # Errors
-///
-/// As `items`: the arguments are wrong, or memory runs out.
-pub fn named_output<'a>(
-    alloc: Global,
-    arguments: &'a [String],
-) -> Result<Option<&'a str>, Failure<'a>>
-    ensures named { IfOk result (λ name. NamesOutput arguments.now
-        (option_map (λ name. name.now) name)) }
-    ensures wrong { IfErr result (IsWrongFailure (texts arguments.now)) }
-{
-    match items(alloc, arguments) {
-        Ok(given) => Ok(output_of(given.as_slice())),
-        Err(mistake) => Err(Failure::Arguments(mistake)),
-    }
-}
 
 /// Makes a new file, and does what the arguments ask for with that for the output. Where all was done it takes the place of the file
 /// of this name, and else it is removed. Answers the exit status.

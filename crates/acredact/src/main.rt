@@ -16,6 +16,7 @@ mod check;
 mod checked_files;
 mod clean;
 mod counts;
+mod destination;
 mod doubts;
 mod environment;
 mod failure;
@@ -78,11 +79,12 @@ ghost use Rattle.acredact.specs.RuledChecks.{RuledFound, RuledClean};
 use apart::{Apart, Told, arguments, status_behind, tell_apart};
 use beside::Beside;
 use chromesquid::{FromRead, FromWrite, Sink};
+use destination::{Destination, destination};
 use failure::Failure::Unread;
 use failure::{FAILED, refuse, report};
 use folder::{Folder, Host};
-use in_place::{asks_in_place, replace_in_place};
-use into::{make_and_run, named_output};
+use in_place::replace_in_place;
+use into::make_and_run;
 use outputs::Outputs;
 use run::run;
 use std::alloc::Global;
@@ -118,9 +120,9 @@ fn main(rt: HostRuntime) -> ExitCode {
         let arguments = apart.arguments.as_slice();
         let number = process::id(rt.process());
         let mut outputs = Beside::new(rt.alloc(), &rt, number, &reason, &looked);
-        match asks_in_place(rt.alloc(), arguments) {
-            Ok(false) => {}
-            Ok(true) => {
+        match destination(rt.alloc(), arguments) {
+            Ok(Destination::StandardOutput) => {}
+            Ok(Destination::EachFile) => {
                 let folder = Host::new(&rt, &looked, None);
                 let mut streams = Streams {
                     input: FromRead::new(rt.stdin()),
@@ -136,11 +138,7 @@ fn main(rt: HostRuntime) -> ExitCode {
                 );
                 return ExitCode::from(status_behind(told, status));
             }
-            Err(failure) => return ExitCode::from(report(&failure, &mut errors)),
-        }
-        match named_output(rt.alloc(), arguments) {
-            Ok(None) => {}
-            Ok(Some(name)) => {
+            Ok(Destination::NewFile(name)) => {
                 let folder = Host::new(&rt, &looked, Some(name));
                 let mut streams = Streams {
                     input: FromRead::new(rt.stdin()),
