@@ -7,8 +7,8 @@ use Rattle.std.proofs.lemmas.Grind.{common_steps}
 use Rattle.std.proofs.lemmas.List.{get_or-append_right, length-map}
 use Rattle.std.specs.Prelude.{◌&&◌, map, nat_le, nat_lt}
 use Rattle.aho_core.specs.Patterns.{Patterns}
-use Rattle.acgrep.specs.Contexts.{AreChosen, IsNearChosen, IsNotChosen, PassesBy, ShowsEach, ShowsGroup, TellsAround, TellsWritten, Walk, WalksOver, behind_passed, beside, first_in, separator_if}
-use Rattle.acgrep.specs.Written.{IsSelected, ShowsLine, after_line, after_lines, is_full, one_more}
+use Rattle.acgrep.specs.Contexts.{AreChosen, Holding, IsNearChosen, IsNotChosen, PassesBy, ShowsEach, Steps, TakesLine, TellsAround, TellsWritten, Walk, WalksOver, behind_chosen, behind_due, behind_passed, beside, first_in, holding, holding_of, separator_if, walk_holding, with_line}
+use Rattle.acgrep.specs.Written.{ShowsLine, after_line, after_lines}
 use Rattle.acgrep.specs.declared.options.Context.{Context}
 use Rattle.acgrep.specs.declared.print.Place.{Place}
 use Rattle.acgrep.specs.declared.job.Job.{Job}
@@ -215,9 +215,6 @@ module _ (p : Patterns) (job : Job) (context : Context) where
         ap (λ (l : List ℕ). separator_if (context.parted && (some && apart)) job.style ++ l) (ap (λ (l : List ℕ). l ++ (shown ++ more)) is ∙ append_assoc one next (shown ++ more)),
       )
 
-abbrev pub walk : Place → (selected due : ℕ) → (some apart : Bool) → Place → List (List ℕ) → Walk
-walk place selected due some apart first held = record { place = place; selected = selected; due = due; some = some; apart = apart; first = first; held = held }
-
 -- two walks are the same where their parts are
 pub walk_same : (a b : Walk) → a.place ≡ b.place → a.selected ≡ b.selected → a.due ≡ b.due → a.some ≡ b.some → a.apart ≡ b.apart → a.first ≡ b.first → a.held ≡ b.held → a ≡ b
 walk_same a b place selected due some apart first held = grind (arith, common_steps)
@@ -238,260 +235,228 @@ pub record Grouped (p : Patterns) (job : Job) (context : Context) (w : Walk) (ls
   pub are_written : AreWrittenFrom context w.due (marks false w.held ++ chosen) written
   pub tells : TellsWritten p job context (first_in w.place w.first w.held) w.some w.apart (w.held ++ ls) (marks false w.held ++ chosen) written bytes
 
--- behind a selected line
-kept_chosen : (context : Context) (place : Place) (selected : ℕ) (first : Place) → IsKept context (walk place selected context.after true false first [])
-kept_chosen context place selected first = record {
-  within = omega arith;
-  most = omega arith;
-  none = λ due. refl;
-  joined = λ due. (refl, refl);
-  placed = refl;
-}
+-- what is held, put together
+abbrev held_as : Bool → Place → List (List ℕ) → Holding
+held_as apart first held = record { apart = apart; first = first; held = held }
+
+-- a line is passed over where none may be held, is held, or takes the place of the first that is
+by_holding : (most : ℕ) (place : Place) (apart : Bool) (first : Place) (held : List (List ℕ)) (line : List ℕ) (Q : Holding → Type 0) → length held ≤ most
+    → (most ≡ 0 → held ≡ [] → Q (held_as true first []))
+    → (length held < most → Q (with_line place (held_as apart first held) line))
+    → ((other : List ℕ) (others : List (List ℕ)) → held ≡ other ∷ others → most ≤ length held → Q (with_line place (held_as true (after_line first other) others) line))
+    → Q (holding most place (held_as apart first held) line)
+by_holding most place apart first [] line Q within over more full =
+    elim (cases_Bool (most == 0)) [
+      | inl none ↦ rw none (over (eqb-true most 0 none) refl)
+      | inr some ↦ rw some (rw (no_room most some) (more (some_more most some)))
+    ]
+by_holding most place apart first (other ∷ others) line Q within over more full =
+    elim (cases_Bool (most == 0)) [
+      | inl none ↦ absurd (omega (arith, within, eqb-true most 0 none))
+      | inr some ↦ elim (cases_Bool (nat_le most (length (other ∷ others)))) [
+        | inl long ↦ rw some (rw long (full other others refl (leb-true most (length (other ∷ others)) long)))
+        | inr room ↦ rw some (rw room (more (leb-false most (length (other ∷ others)) room)))
+      ]
+    ]
+
+-- where held lines begin behind the first of them
+placed_behind : (place first : Place) (held : List (List ℕ)) (other : List ℕ) (others : List (List ℕ)) → held ≡ other ∷ others → after_lines (first_in place first held) held ≡ place
+    → after_lines (after_line first other) others ≡ place
+placed_behind place first held other others is placed = subst (λ (h : List (List ℕ)). after_lines (first_in place first h) h ≡ place) is placed
+
+held_short : (held : List (List ℕ)) (line : List ℕ) (n : ℕ) → length held < n → length (held ++ (line ∷ [])) ≤ n
+held_short held line n short = omega (arith, short, length-append held (line ∷ []))
+
+joined_more : (place start : Place) (held : List (List ℕ)) (line : List ℕ) → after_lines start held ≡ place
+    → after_lines (first_in (after_line place line) start (held ++ (line ∷ []))) (held ++ (line ∷ [])) ≡ after_line place line
+joined_more place start held line there =
+    ap (λ (at : Place). after_lines at (held ++ (line ∷ []))) (first_more (after_line place line) start held line)
+    ∙ after_append held (line ∷ []) start ∙ ap (λ (at : Place). after_line at line) there
+
+module _ (context : Context) (w : Walk) (line : List ℕ) where
+  -- behind a selected line
+  kept_chosen : IsKept context (behind_chosen context w line)
+  kept_chosen = record { within = omega arith; most = omega arith; none = λ due. refl; joined = λ due. (refl, refl); placed = refl }
+
+  -- behind one that was due
+  kept_due : IsKept context w → 0 < w.due → IsKept context (behind_due w line)
+  kept_due kept due = record {
+    within = kept.within;
+    most = omega (arith, kept.most);
+    none = λ _. kept.none due;
+    joined = λ _. kept.joined due;
+    placed = subst (λ (h : List (List ℕ)). after_lines (first_in (after_line w.place line) w.first h) h ≡ after_line w.place line) (sym (kept.none due)) refl;
+  }
+
+  -- behind one that was not, where none is due
+  kept_idle : w.due ≡ 0 → (h : Holding) → length h.held ≤ context.before → after_lines (first_in (after_line w.place line) h.first h.held) h.held ≡ after_line w.place line
+      → IsKept context (walk_holding w (after_line w.place line) h)
+  kept_idle past h within placed = record {
+    within = within;
+    most = omega (arith, past);
+    none = λ due. absurd (omega (arith, due, past));
+    joined = λ due. absurd (omega (arith, due, past));
+    placed = placed;
+  }
+
+  kept_passed : IsKept context w → w.due ≡ 0 → IsKept context (behind_passed context w line)
+  kept_passed kept past =
+      by_holding context.before w.place w.apart w.first w.held line (λ (h : Holding). IsKept context (walk_holding w (after_line w.place line) h)) kept.within
+      (λ none empty. kept_idle past (held_as true w.first []) (omega arith) refl)
+      (λ room. kept_idle past (with_line w.place (holding_of w) line) (held_short w.held line context.before room) (joined_more w.place (first_in w.place w.first w.held) w.held line kept.placed))
+      (λ other others is full.
+      let second = after_line w.first other in
+      let placed = placed_behind w.place w.first w.held other others is kept.placed in
+      kept_idle past (with_line w.place (held_as true second others) line) (held_short others line context.before (omega (arith, kept.within, ap length is)))
+      (joined_more w.place (first_in w.place second others) others line (ap (λ (at : Place). after_lines at others) (first_same w.place second others placed) ∙ placed)))
 
 module _ (p : Patterns) (job : Job) (context : Context) where
   each_start : (held : List (List ℕ)) (place first : Place) (before : List ℕ) → ShowsEach p (beside job) first held before → ShowsEach p (beside job) (first_in place first held) held before
   each_start [] place first before each = each
   each_start (line ∷ rest) place first before each = each
 
-  -- one line more: a selected one
-  group_chosen : (place : Place) (selected due : ℕ) (some apart : Bool) (first : Place) (held : List (List ℕ)) (line : List ℕ) (rest : List (List ℕ)) (shown more : List ℕ) (total : ℕ)
-      → IsKept context (walk place selected due some apart first held) → is_full job.most selected ≡ false → IsSelected p job.fit job.invert line
-      → ShowsGroup p job context (walk place selected due some apart first held) line shown
-      → Grouped p job context (walk (after_line place line) (one_more selected) context.after true false first []) rest more total
-      → Grouped p job context (walk place selected due some apart first held) (line ∷ rest) (shown ++ more) total
-  group_chosen place selected due some apart first held line rest shown more total kept goes is (before, one, each, shows, cut) IH =
-      let start = first_in place first held in
-      let sep = separator_if (context.parted && (some && apart)) job.style in
-      let there : after_lines start held ≡ place = kept.placed in
-      let bytes : sep ++ (before ++ (one ++ more)) ≡ shown ++ more =
-      sym (ap (λ (l : List ℕ). l ++ more) cut ∙ append_assoc sep (before ++ one) more ∙ ap (λ (l : List ℕ). sep ++ l) (append_assoc before one more)) in
-      record {
-        chosen = true ∷ IH.chosen;
-        written = marks true held ++ (true ∷ IH.written);
-        are_chosen = (goes, is, IH.are_chosen);
-        are_written = written_group context due held IH.chosen IH.written kept.within kept.most (λ some_due. omega (arith, ap length (kept.none some_due))) IH.are_written;
-        tells = subst (TellsWritten p job context start some apart (held ++ (line ∷ rest)) (marks false held ++ (true ∷ IH.chosen)) (marks true held ++ (true ∷ IH.written))) bytes
-            (tells_group p job context held start some apart before one more line rest IH.chosen IH.written (each_start held place first before each)
-            (subst (λ (at : Place). ShowsLine p job at line one) (sym there) shows)
-            (subst (λ (at : Place). TellsWritten p job context (after_line at line) true false rest IH.chosen IH.written more) (sym there) IH.tells));
-      }
+  module _ (w : Walk) (line : List ℕ) (rest : List (List ℕ)) where
+    -- one line more: a selected one
+    group_chosen : (shown more : List ℕ) (w' : Walk) (total : ℕ) → IsKept context w → TakesLine p job context w line shown w'
+        → Grouped p job context (behind_chosen context w line) rest more total → Grouped p job context w (line ∷ rest) (shown ++ more) total
+    group_chosen shown more w' total kept takes IH =
+        let (before, one, each, shows, cut) = takes.shows in
+        let start = first_in w.place w.first w.held in
+        let sep = separator_if (context.parted && (w.some && w.apart)) job.style in
+        let there : after_lines start w.held ≡ w.place = kept.placed in
+        let bytes : sep ++ (before ++ (one ++ more)) ≡ shown ++ more =
+        sym (ap (λ (l : List ℕ). l ++ more) cut ∙ append_assoc sep (before ++ one) more ∙ ap (λ (l : List ℕ). sep ++ l) (append_assoc before one more)) in
+        record {
+          chosen = true ∷ IH.chosen;
+          written = marks true w.held ++ (true ∷ IH.written);
+          are_chosen = (takes.more, takes.selected, IH.are_chosen);
+          are_written = written_group context w.due w.held IH.chosen IH.written kept.within kept.most (λ due. omega (arith, ap length (kept.none due))) IH.are_written;
+          tells = subst (TellsWritten p job context start w.some w.apart (w.held ++ (line ∷ rest)) (marks false w.held ++ (true ∷ IH.chosen)) (marks true w.held ++ (true ∷ IH.written))) bytes
+              (tells_group p job context w.held start w.some w.apart before one more line rest IH.chosen IH.written (each_start w.held w.place w.first before each)
+              (subst (λ (at : Place). ShowsLine p job at line one) (sym there) shows)
+              (subst (λ (at : Place). TellsWritten p job context (after_line at line) true false rest IH.chosen IH.written more) (sym there) IH.tells));
+        }
 
-  -- one that is due
-  group_due : (place : Place) (selected due : ℕ) (some apart : Bool) (first : Place) (held : List (List ℕ)) (line : List ℕ) (rest : List (List ℕ)) (shown more : List ℕ) (total : ℕ)
-      → IsKept context (walk place selected due some apart first held) → 0 < due → IsNotChosen p job selected line → ShowsLine p (beside job) place line shown
-      → Grouped p job context (walk (after_line place line) selected (due - 1) some apart first held) rest more total
-      → Grouped p job context (walk place selected due some apart first held) (line ∷ rest) (shown ++ more) total
-  group_due place selected due some apart first held line rest shown more total kept some_due passed shows IH =
-      let none : held ≡ [] = kept.none some_due in
-      let (is_some, is_joined) = kept.joined some_due in
-      let next = after_line place line in
-      let told : TellsWritten p job context next some apart rest IH.chosen IH.written more =
-      subst (λ (h : List (List ℕ)). TellsWritten p job context (first_in next first h) some apart (h ++ rest) (marks false h ++ IH.chosen) IH.written more) none IH.tells in
-      let joined : TellsWritten p job context next true false rest IH.chosen IH.written more =
-      subst (λ (b : Bool). TellsWritten p job context next true b rest IH.chosen IH.written more) is_joined
-      (subst (λ (b : Bool). TellsWritten p job context next b apart rest IH.chosen IH.written more) is_some told) in
-      let unparted : separator_if (context.parted && (some && apart)) job.style ≡ [] =
-      ap (λ (b : Bool). separator_if (context.parted && (some && b)) job.style) is_joined ∙ ap (λ (b : Bool). separator_if (context.parted && b) job.style) (and-false some)
-      ∙ ap (λ (b : Bool). separator_if b job.style) (and-false context.parted) in
-      record {
-        chosen = false ∷ IH.chosen;
-        written = true ∷ IH.written;
-        are_chosen = (passed, IH.are_chosen);
-        are_written = subst (λ (h : List (List ℕ)). AreWrittenFrom context due (marks false h ++ (false ∷ IH.chosen)) (true ∷ IH.written)) (sym none)
-            (written_due context due IH.chosen IH.written some_due (subst (λ (h : List (List ℕ)). AreWrittenFrom context (due - 1) (marks false h ++ IH.chosen) IH.written) none IH.are_written));
-        tells = subst (λ (h : List (List ℕ)). TellsWritten p job context (first_in place first h) some apart (h ++ (line ∷ rest)) (marks false h ++ (false ∷ IH.chosen)) (true ∷ IH.written) (shown ++ more)) (sym none)
-            (shown, more, shows, joined, ap (λ (l : List ℕ). l ++ (shown ++ more)) (sym unparted));
-      }
+    -- one that is due
+    group_due : (shown more : List ℕ) (total : ℕ) → IsKept context w → 0 < w.due → IsNotChosen p job w.selected line → ShowsLine p (beside job) w.place line shown
+        → Grouped p job context (behind_due w line) rest more total → Grouped p job context w (line ∷ rest) (shown ++ more) total
+    group_due shown more total kept due passed shows IH =
+        let none : w.held ≡ [] = kept.none due in
+        let (is_some, is_joined) = kept.joined due in
+        let next = after_line w.place line in
+        let told : TellsWritten p job context next w.some w.apart rest IH.chosen IH.written more =
+        subst (λ (h : List (List ℕ)). TellsWritten p job context (first_in next w.first h) w.some w.apart (h ++ rest) (marks false h ++ IH.chosen) IH.written more) none IH.tells in
+        let joined : TellsWritten p job context next true false rest IH.chosen IH.written more =
+        subst (λ (b : Bool). TellsWritten p job context next true b rest IH.chosen IH.written more) is_joined
+        (subst (λ (b : Bool). TellsWritten p job context next b w.apart rest IH.chosen IH.written more) is_some told) in
+        let unparted : separator_if (context.parted && (w.some && w.apart)) job.style ≡ [] =
+        ap (λ (b : Bool). separator_if (context.parted && (w.some && b)) job.style) is_joined ∙ ap (λ (b : Bool). separator_if (context.parted && b) job.style) (and-false w.some)
+        ∙ ap (λ (b : Bool). separator_if b job.style) (and-false context.parted) in
+        record {
+          chosen = false ∷ IH.chosen;
+          written = true ∷ IH.written;
+          are_chosen = (passed, IH.are_chosen);
+          are_written = subst (λ (h : List (List ℕ)). AreWrittenFrom context w.due (marks false h ++ (false ∷ IH.chosen)) (true ∷ IH.written)) (sym none)
+              (written_due context w.due IH.chosen IH.written due (subst (λ (h : List (List ℕ)). AreWrittenFrom context (w.due - 1) (marks false h ++ IH.chosen) IH.written) none IH.are_written));
+          tells = subst (λ (h : List (List ℕ)). TellsWritten p job context (first_in w.place w.first h) w.some w.apart (h ++ (line ∷ rest)) (marks false h ++ (false ∷ IH.chosen)) (true ∷ IH.written) (shown ++ more)) (sym none)
+              (shown, more, shows, joined, ap (λ (l : List ℕ). l ++ (shown ++ more)) (sym unparted));
+        }
 
-  -- one that is passed over where none is held
-  group_over : (place : Place) (selected due : ℕ) (some apart : Bool) (first : Place) (line : List ℕ) (rest : List (List ℕ)) (more : List ℕ) (total : ℕ)
-      → due ≡ 0 → context.before ≡ 0 → IsNotChosen p job selected line
-      → Grouped p job context (walk (after_line place line) selected due some true first []) rest more total
-      → Grouped p job context (walk place selected due some apart first []) (line ∷ rest) more total
-  group_over place selected due some apart first line rest more total past none passed IH = record {
-    chosen = false ∷ IH.chosen;
-    written = false ∷ IH.written;
-    are_chosen = (passed, IH.are_chosen);
-    are_written = rw past (written_far context IH.chosen IH.written (λ at low. let here : at ≡ 0 = omega (arith, low, none) in ap (λ (n : ℕ). get_or (false ∷ IH.chosen) n false) here)
-        (rw past at IH.are_written));
-    tells = IH.tells;
-  }
+    -- one that is held
+    group_held : (more : List ℕ) (total : ℕ) → IsNotChosen p job w.selected line
+        → Grouped p job context (walk_holding w (after_line w.place line) (with_line w.place (holding_of w) line)) rest more total → Grouped p job context w (line ∷ rest) more total
+    group_held more total passed IH = record {
+      chosen = false ∷ IH.chosen;
+      written = IH.written;
+      are_chosen = (passed, IH.are_chosen);
+      are_written = rw (marks_more w.held line IH.chosen) at IH.are_written;
+      tells = rw (first_more (after_line w.place line) (first_in w.place w.first w.held) w.held line) at (rw (marks_more w.held line IH.chosen) at (rw (append_assoc w.held (line ∷ []) rest) at IH.tells));
+    }
 
-  -- that is held
-  group_held : (place : Place) (selected due : ℕ) (some apart : Bool) (first : Place) (held : List (List ℕ)) (line : List ℕ) (rest : List (List ℕ)) (more : List ℕ) (total : ℕ)
-      → IsNotChosen p job selected line
-      → Grouped p job context (walk (after_line place line) selected due some apart (first_in place first held) (held ++ (line ∷ []))) rest more total
-      → Grouped p job context (walk place selected due some apart first held) (line ∷ rest) more total
-  group_held place selected due some apart first held line rest more total passed IH =
-      record {
-        chosen = false ∷ IH.chosen;
-        written = IH.written;
-        are_chosen = (passed, IH.are_chosen);
-        are_written = rw (marks_more held line IH.chosen) at IH.are_written;
-        tells = rw (first_more (after_line place line) (first_in place first held) held line) at (rw (marks_more held line IH.chosen) at (rw (append_assoc held (line ∷ []) rest) at IH.tells));
-      }
+    -- one that is passed over where none may be held
+    group_over : (more : List ℕ) (total : ℕ) → w.due ≡ 0 → context.before ≡ 0 → IsNotChosen p job w.selected line
+        → Grouped p job context (walk_holding w (after_line w.place line) (held_as true w.first [])) rest more total → Grouped p job context (record w { held = [] }) (line ∷ rest) more total
+    group_over more total past none passed IH = record {
+      chosen = false ∷ IH.chosen;
+      written = false ∷ IH.written;
+      are_chosen = (passed, IH.are_chosen);
+      are_written = rw past (written_far context IH.chosen IH.written (λ at low. let here : at ≡ 0 = omega (arith, low, none) in ap (λ (n : ℕ). get_or (false ∷ IH.chosen) n false) here)
+          (rw past at IH.are_written));
+      tells = IH.tells;
+    }
 
-  -- and the first held one is not near
-  group_dropped : (place : Place) (selected due : ℕ) (some apart : Bool) (first : Place) (other : List ℕ) (held : List (List ℕ)) (line : List ℕ) (rest : List (List ℕ)) (more : List ℕ) (total : ℕ)
-      → due ≡ 0 → context.before ≤ suc (length held) → after_lines (after_line first other) held ≡ place → IsNotChosen p job selected line
-      → Grouped p job context (walk (after_line place line) selected due some true (first_in place (after_line first other) held) (held ++ (line ∷ []))) rest more total
-      → Grouped p job context (walk place selected due some apart first (other ∷ held)) (line ∷ rest) more total
+  -- one that is held, where the first held one is not near
+  group_full : (w : Walk) (line : List ℕ) (rest : List (List ℕ)) (other : List ℕ) (others : List (List ℕ)) (more : List ℕ) (total : ℕ) → w.due ≡ 0 → context.before ≤ suc (length others)
+      → after_lines (after_line w.first other) others ≡ w.place → IsNotChosen p job w.selected line
+      → Grouped p job context (walk_holding w (after_line w.place line) (with_line w.place (held_as true (after_line w.first other) others) line)) rest more total
+      → Grouped p job context (record w { held = other ∷ others }) (line ∷ rest) more total
   unfolding group_held
-  group_dropped place selected due some apart first other held line rest more total past long placed passed IH =
-      let second = after_line first other in
-      let IH' = group_held place selected due some true second held line rest more total passed IH in
+  group_full w line rest other others more total past long placed passed IH =
+      let second = after_line w.first other in
+      let IH' = group_held (record w { apart = true; first = second; held = others }) line rest more total passed IH in
       record {
         chosen = IH'.chosen;
         written = false ∷ IH'.written;
         are_chosen = IH'.are_chosen;
-        are_written = rw past (written_far context (marks false held ++ (false ∷ IH.chosen)) IH'.written
-            (λ at low. unmarked (other ∷ held) IH.chosen at (omega (arith, low, long))) (rw past at IH'.are_written));
-        tells = rw (first_same place second held placed) at IH'.tells;
+        are_written = rw past (written_far context (marks false others ++ (false ∷ IH.chosen)) IH'.written (λ at low. unmarked (other ∷ others) IH.chosen at (omega (arith, low, long)))
+            (rw past at IH'.are_written));
+        tells = rw (first_same w.place second others placed) at IH'.tells;
       }
 
-  held_short : (held : List (List ℕ)) (line : List ℕ) (n : ℕ) → length held < n → length (held ++ (line ∷ [])) ≤ n
-  held_short held line n short = omega (arith, short, length-append held (line ∷ []))
+  -- one that is not selected where none is due
+  group_passed : (w : Walk) (line : List ℕ) (rest : List (List ℕ)) (more : List ℕ) (total : ℕ) → IsKept context w → w.due ≡ 0 → IsNotChosen p job w.selected line
+      → Grouped p job context (behind_passed context w line) rest more total → Grouped p job context w (line ∷ rest) more total
+  group_passed w line rest more total kept past passed =
+      let with_held = λ (l : List (List ℕ)). Grouped p job context (record w { held = l }) (line ∷ rest) more total in
+      by_holding context.before w.place w.apart w.first w.held line
+      (λ (h : Holding). Grouped p job context (walk_holding w (after_line w.place line) h) rest more total → Grouped p job context w (line ∷ rest) more total) kept.within
+      (λ none empty IH. subst with_held (sym empty) (group_over w line rest more total past none passed IH))
+      (λ room IH. group_held w line rest more total passed IH)
+      (λ other others is full IH. subst with_held (sym is)
+      (group_full w line rest other others more total past (omega (arith, full, ap length is)) (placed_behind w.place w.first w.held other others is kept.placed) passed IH))
 
-  joined_more : (place start : Place) (held : List (List ℕ)) (line : List ℕ) → after_lines start held ≡ place
-      → after_lines (first_in (after_line place line) start (held ++ (line ∷ []))) (held ++ (line ∷ [])) ≡ after_line place line
-  joined_more place start held line there =
-      ap (λ (at : Place). after_lines at (held ++ (line ∷ []))) (first_more (after_line place line) start held line)
-      ∙ after_append held (line ∷ []) start ∙ ap (λ (at : Place). after_line at line) there
-
-  -- where none is due what is kept stays so
-  kept_held : (place : Place) (selected due : ℕ) (some apart : Bool) (first : Place) (held : List (List ℕ)) (line : List ℕ) → due ≡ 0 → length held < context.before
-      → after_lines (first_in place first held) held ≡ place
-      → IsKept context (walk (after_line place line) selected due some apart (first_in place first held) (held ++ (line ∷ [])))
-  kept_held place selected due some apart first held line past short there = record {
-    within = held_short held line context.before short;
-    most = omega (arith, past);
-    none = λ some_due. absurd (omega (arith, some_due, past));
-    joined = λ some_due. absurd (omega (arith, some_due, past));
-    placed = joined_more place (first_in place first held) held line there;
-  }
-
-  kept_due : (place : Place) (selected due : ℕ) (some apart : Bool) (first : Place) (held : List (List ℕ)) (line : List ℕ) → 0 < due
-      → IsKept context (walk place selected due some apart first held) → IsKept context (walk (after_line place line) selected (due - 1) some apart first held)
-  kept_due place selected due some apart first held line some_due kept = record {
-    within = kept.within;
-    most = omega (arith, kept.most);
-    none = λ _. kept.none some_due;
-    joined = λ _. kept.joined some_due;
-    placed = subst (λ (h : List (List ℕ)). after_lines (first_in (after_line place line) first h) h ≡ after_line place line) (sym (kept.none some_due)) refl;
-  }
-
-  kept_over : (place : Place) (selected due : ℕ) (some apart : Bool) (first : Place) → due ≡ 0 → IsKept context (walk place selected due some apart first [])
-  kept_over place selected due some apart first past = record {
-    within = omega arith;
-    most = omega (arith, past);
-    none = λ _. refl;
-    joined = λ some_due. absurd (omega (arith, some_due, past));
-    placed = refl;
-  }
-
-  -- where none is held and none may be
-  over_is : (place : Place) (selected due : ℕ) (some apart : Bool) (first : Place) (line : List ℕ) → (context.before == 0) ≡ true
-      → behind_passed context (walk place selected due some apart first []) line ≡ walk (after_line place line) selected due some true first []
-  over_is place selected due some apart first line none = rw none refl
-
-  held_is : (place : Place) (selected due : ℕ) (some apart : Bool) (first : Place) (held : List (List ℕ)) (line : List ℕ) → (context.before == 0) ≡ false → nat_le context.before (length held) ≡ false
-      → behind_passed context (walk place selected due some apart first held) line
-      ≡ walk (after_line place line) selected due some apart (first_in place first held) (held ++ (line ∷ []))
-  held_is place selected due some apart first held line some_asked short = rw some_asked (rw short refl)
-
-  dropped_is : (place : Place) (selected due : ℕ) (some apart : Bool) (first : Place) (other : List ℕ) (held : List (List ℕ)) (line : List ℕ) → (context.before == 0) ≡ false
-      → nat_le context.before (length (other ∷ held)) ≡ true
-      → behind_passed context (walk place selected due some apart first (other ∷ held)) line
-      ≡ walk (after_line place line) selected due some true (first_in place (after_line first other) held) (held ++ (line ∷ []))
-  dropped_is place selected due some apart first other held line some_asked long = rw some_asked (rw long refl)
+  group_step : (w w' : Walk) (line : List ℕ) (rest : List (List ℕ)) (shown more : List ℕ) (total : ℕ) → IsKept context w → Steps p job context w line shown w'
+      → (IsKept context w' → Grouped p job context w' rest more total) → Grouped p job context w (line ∷ rest) (shown ++ more) total
+  group_step w w' line rest shown more total kept (inl takes) others =
+      group_chosen w line rest shown more w' total kept takes
+      (subst (λ (v : Walk). Grouped p job context v rest more total) takes.behind (others (subst (IsKept context) (sym takes.behind) (kept_chosen context w line))))
+  group_step w w' line rest shown more total kept (inr passes) others =
+      elim (cases_Bool (nat_lt 0 w.due)) [
+        | inl is_due ↦
+            let due : 0 < w.due = ltb-true 0 w.due is_due in
+            let (shows, behind) = subst (PassesBy p job context w line shown w') is_due passes.passes in
+            group_due w line rest shown more total kept due passes.passed shows
+            (subst (λ (v : Walk). Grouped p job context v rest more total) behind (others (subst (IsKept context) (sym behind) (kept_due context w line kept due))))
+        | inr not_due ↦
+            let past : w.due ≡ 0 = omega (arith, ltb-false 0 w.due not_due) in
+            let (none, behind) = subst (PassesBy p job context w line shown w') not_due passes.passes in
+            subst (λ (l : List ℕ). Grouped p job context w (line ∷ rest) (l ++ more) total) (sym none) (group_passed w line rest more total kept past passes.passed
+            (subst (λ (v : Walk). Grouped p job context v rest more total) behind (others (subst (IsKept context) (sym behind) (kept_passed context w line kept past)))))
+      ]
 
   -- what is told of a walk
-  pub grouped : (ls : List (List ℕ)) (place : Place) (selected due : ℕ) (some apart : Bool) (first : Place) (held : List (List ℕ)) (w' : Walk) (bytes : List ℕ)
-      → IsKept context (walk place selected due some apart first held) → WalksOver p job context (walk place selected due some apart first held) ls bytes w'
-      → Grouped p job context (walk place selected due some apart first held) ls bytes w'.selected
-  grouped [] place selected due some apart first held w' bytes kept (empty, same) = record {
+  grouped : (ls : List (List ℕ)) (w w' : Walk) (bytes : List ℕ) → IsKept context w → WalksOver p job context w ls bytes w' → Grouped p job context w ls bytes w'.selected
+  grouped [] w w' bytes kept (empty, same) = record {
     chosen = [];
-    written = marks false held;
-    are_chosen = ap (λ (w : Walk). w.selected) same;
-    are_written = written_none context due held (λ some_due. omega (arith, ap length (kept.none some_due)));
-    tells = subst (TellsWritten p job context (first_in place first held) some apart (held ++ []) (marks false held ++ []) (marks false held)) (sym empty)
-        (tells_none p job context held (first_in place first held) some apart);
+    written = marks false w.held;
+    are_chosen = ap (λ (v : Walk). v.selected) same;
+    are_written = written_none context w.due w.held (λ due. omega (arith, ap length (kept.none due)));
+    tells = subst (TellsWritten p job context (first_in w.place w.first w.held) w.some w.apart (w.held ++ []) (marks false w.held ++ []) (marks false w.held)) (sym empty)
+        (tells_none p job context w.held (first_in w.place w.first w.held) w.some w.apart);
   }
-  grouped (line ∷ rest) place selected due some apart first held w' bytes kept (shown, more, between, inl takes, walks, is) =
-      let w = walk place selected due some apart first held in
-      let next = after_line place line in
-      let IH = grouped rest next (one_more selected) context.after true false first [] w' more (kept_chosen context next (one_more selected) first)
-      (subst (λ (v : Walk). WalksOver p job context v rest more w') takes.behind walks) in
+  grouped (line ∷ rest) w w' bytes kept (shown, more, between, step, walks, is) =
       subst (λ (l : List ℕ). Grouped p job context w (line ∷ rest) l w'.selected) (sym is)
-      (group_chosen place selected due some apart first held line rest shown more w'.selected kept takes.more takes.selected takes.shows IH)
-  grouped (line ∷ rest) place selected due some apart first [] w' bytes kept (shown, more, between, inr passes, walks, is) =
-      let w = walk place selected due some apart first [] in
-      let next = after_line place line in
-      elim (cases_Bool (nat_lt 0 due)) [
-        | inl is_due ↦
-            let some_due : 0 < due = ltb-true 0 due is_due in
-            let (shows, behind) = subst (PassesBy p job context w line shown between) is_due passes.passes in
-            let IH = grouped rest next selected (due - 1) some apart first [] w' more (kept_due place selected due some apart first [] line some_due kept)
-            (subst (λ (v : Walk). WalksOver p job context v rest more w') behind walks) in
-            subst (λ (l : List ℕ). Grouped p job context w (line ∷ rest) l w'.selected) (sym is)
-            (group_due place selected due some apart first [] line rest shown more w'.selected kept some_due passes.passed shows IH)
-        | inr not_due ↦
-            let past : due ≡ 0 = omega (arith, ltb-false 0 due not_due) in
-            let (none, behind) = subst (PassesBy p job context w line shown between) not_due passes.passes in
-            let same : more ≡ bytes = sym (is ∙ ap (λ (l : List ℕ). l ++ more) none) in
-            elim (cases_Bool (context.before == 0)) [
-              | inl empty ↦
-                  let IH = grouped rest next selected due some true first [] w' more (kept_over next selected due some true first past)
-                  (subst (λ (v : Walk). WalksOver p job context v rest more w') (behind ∙ over_is place selected due some apart first line empty) walks) in
-                  subst (λ (l : List ℕ). Grouped p job context w (line ∷ rest) l w'.selected) same
-                  (group_over place selected due some apart first line rest more w'.selected past (eqb-true context.before 0 empty) passes.passed IH)
-              | inr some_asked ↦
-                  let short : nat_le context.before 0 ≡ false = no_room context.before some_asked in
-                  let IH = grouped rest next selected due some apart place (line ∷ []) w' more
-                  (kept_held place selected due some apart first [] line past (some_more context.before some_asked) refl)
-                  (subst (λ (v : Walk). WalksOver p job context v rest more w') (behind ∙ held_is place selected due some apart first [] line some_asked short) walks) in
-                  subst (λ (l : List ℕ). Grouped p job context w (line ∷ rest) l w'.selected) same
-                  (group_held place selected due some apart first [] line rest more w'.selected passes.passed IH)
-            ]
-      ]
-  grouped (line ∷ rest) place selected due some apart first (other ∷ held) w' bytes kept (shown, more, between, inr passes, walks, is) =
-      let w = walk place selected due some apart first (other ∷ held) in
-      let next = after_line place line in
-      let past : due ≡ 0 = elim (cases_lt 0 due) [
-        | inl some_due ↦ absurd (omega (arith, ap length (kept.none some_due)))
-        | inr none ↦ omega (arith, none)
-      ] in
-      let not_due : nat_lt 0 due ≡ false = ap (nat_lt 0) past in
-      let (none, behind) = subst (PassesBy p job context w line shown between) not_due passes.passes in
-      let same : more ≡ bytes = sym (is ∙ ap (λ (l : List ℕ). l ++ more) none) in
-      elim (cases_Bool (context.before == 0)) [
-        | inl empty ↦ absurd (omega (arith, kept.within, eqb-true context.before 0 empty))
-        | inr some_asked ↦ elim (cases_Bool (nat_le context.before (length (other ∷ held)))) [
-          | inl full ↦
-              let long : context.before ≤ suc (length held) = leb-true context.before (length (other ∷ held)) full in
-              let start = first_in place (after_line first other) held in
-              let there : after_lines start held ≡ place = ap (λ (at : Place). after_lines at held) (first_same place (after_line first other) held kept.placed) ∙ kept.placed in
-              let IH = grouped rest next selected due some true start (held ++ (line ∷ [])) w' more
-              (kept_held place selected due some true (after_line first other) held line past (omega (arith, kept.within)) there)
-              (subst (λ (v : Walk). WalksOver p job context v rest more w') (behind ∙ dropped_is place selected due some apart first other held line some_asked full) walks) in
-              subst (λ (l : List ℕ). Grouped p job context w (line ∷ rest) l w'.selected) same
-              (group_dropped place selected due some apart first other held line rest more w'.selected past long kept.placed passes.passed IH)
-          | inr room ↦
-              let short : length (other ∷ held) < context.before = leb-false context.before (length (other ∷ held)) room in
-              let IH = grouped rest next selected due some apart first ((other ∷ held) ++ (line ∷ [])) w' more
-              (kept_held place selected due some apart first (other ∷ held) line past short kept.placed)
-              (subst (λ (v : Walk). WalksOver p job context v rest more w') (behind ∙ held_is place selected due some apart first (other ∷ held) line some_asked room) walks) in
-              subst (λ (l : List ℕ). Grouped p job context w (line ∷ rest) l w'.selected) same
-              (group_held place selected due some apart first (other ∷ held) line rest more w'.selected passes.passed IH)
-        ]
-      ]
+      (group_step w between line rest shown more w'.selected kept step (λ next. grouped rest between w' more next walks))
 
   -- what is told of a walk over a whole file
   pub told_around : (ls : List (List ℕ)) (w w' : Walk) (bytes : List ℕ) → w.place ≡ job.first → w.selected ≡ 0 → w.due ≡ 0 → w.some ≡ job.follows → w.apart ≡ true → w.held ≡ []
       → WalksOver p job context w ls bytes w' → TellsAround p job context ls bytes w'.selected
   told_around ls w w' bytes place selected due some apart held walks =
-      let same = walk_same w (walk job.first 0 0 job.follows true w.first []) place selected due some apart refl held in
-      let all = grouped ls job.first 0 0 job.follows true w.first [] w' bytes (kept_over job.first 0 0 job.follows true w.first refl) (subst (λ (v : Walk). WalksOver p job context v ls bytes w') same walks) in
+      let start = record { place = job.first; selected = 0; due = 0; some = job.follows; apart = true; first = w.first; held = [] } in
+      let same = walk_same w start place selected due some apart refl held in
+      let kept : IsKept context start =
+      record { within = omega arith; most = omega arith; none = λ _. refl; joined = λ one. absurd (omega (arith, one)); placed = refl } in
+      let all = grouped ls start w' bytes kept (subst (λ (v : Walk). WalksOver p job context v ls bytes w') same walks) in
       record {
         chosen = all.chosen;
         written = all.written;
