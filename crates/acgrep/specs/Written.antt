@@ -92,7 +92,7 @@ ColoredOf p fit style place line bytes =
 
 -- the line, in colour or not
 abbrev pub LineOf : Patterns → Fit → (colored : Bool) → Style → Place → List ℕ → List ℕ → Type 0
-LineOf p alone colored style place line bytes = MatchBool colored (ColoredOf p fit style place line bytes) (bytes ≡ line_by style place line)
+LineOf p fit colored style place line bytes = MatchBool colored (ColoredOf p fit style place line bytes) (bytes ≡ line_by style place line)
 
 -- what is written of a selected line: itself, its matches, or nothing; a line that is selected by `invert` has no match
 abbrev pub ShowsBy : Patterns → Shown → Fit → (invert : Bool) → Style → Place → List ℕ → List ℕ → Type 0

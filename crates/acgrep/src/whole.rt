@@ -1,6 +1,6 @@
 //! The match of a line that is the whole line.
 
-ghost use Rattle.std.specs.Prelude.{◌≡◌, IfOk};
+ghost use Rattle.std.specs.Prelude.{◌≡◌, IfOk, length};
 ghost use Rattle.aho_core.specs.Patterns.{Patterns};
 ghost use Rattle.aho_core.specs.declared.search.MatchKind.TheVariants.{LeftmostLongest};
 ghost use Rattle.chromesquid.specs.Searcher.{IsBuiltFrom, IsBuiltFromSome};
@@ -42,16 +42,16 @@ fn longest_whole(searcher: &AhoCorasick, line: &[u8]) -> Result<Option<Match>, S
         → IfOk result (IsWholeOrNone p line.now) }
 {
     match searcher.try_find(line)? {
-        Some(found) => Ok(whole_of(line.len(), found)),
+        Some(found) => Ok(whole_of(line, found)),
         None => Ok(None),
     }
 }
 
-/// A match, where it is all of so many bytes.
-fn whole_of(len: usize, found: Match) -> Option<Match>
-    ensures whole { result ≡ whole_of len found }
+/// A match, where it is the whole line.
+fn whole_of(line: &[u8], found: Match) -> Option<Match>
+    ensures whole { result ≡ whole_of (length line.now) found }
 {
-    if found.start() == 0 && found.end() == len {
+    if found.start() == 0 && found.end() == line.len() {
         return Some(found);
     }
     None
