@@ -26,7 +26,7 @@ pub enum Destination<'a> {
 /// # Errors
 ///
 /// As `items`: the arguments are wrong, or memory runs out.
-pub fn destination<'a>(
+pub fn read_destination<'a>(
     alloc: Global,
     arguments: &'a [String],
 ) -> Result<Destination<'a>, Failure<'a>>

@@ -79,7 +79,7 @@ ghost use Rattle.acredact.specs.RuledChecks.{RuledFound, RuledClean};
 use apart::{Apart, Told, arguments, status_behind, tell_apart};
 use beside::Beside;
 use chromesquid::{FromRead, FromWrite, Sink};
-use destination::{Destination, destination};
+use destination::{Destination, read_destination};
 use failure::Failure::Unread;
 use failure::{FAILED, refuse, report};
 use folder::{Folder, Host};
@@ -120,7 +120,7 @@ fn main(rt: HostRuntime) -> ExitCode {
         let arguments = apart.arguments.as_slice();
         let number = process::id(rt.process());
         let mut outputs = Beside::new(rt.alloc(), &rt, number, &reason, &looked);
-        match destination(rt.alloc(), arguments) {
+        match read_destination(rt.alloc(), arguments) {
             Ok(Destination::StandardOutput) => {}
             Ok(Destination::EachFile) => {
                 let folder = Host::new(&rt, &looked, None);
