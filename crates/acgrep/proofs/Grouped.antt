@@ -452,7 +452,7 @@ module _ (p : Patterns) (job : Job) (context : Context) where
   pub told_around : (ls : List (List ℕ)) (w w' : Walk) (bytes : List ℕ) → w.place ≡ job.first → w.selected ≡ 0 → w.due ≡ 0 → w.some ≡ job.follows → w.apart ≡ true → w.held ≡ []
       → WalksOver p job context w ls bytes w' → TellsAround p job context ls bytes w'.selected
   told_around ls w w' bytes place selected due some apart held walks =
-      let start = record { place = job.first; selected = 0; due = 0; some = job.follows; apart = true; first = w.first; held = [] } in
+      let start : Walk = record { place = job.first; selected = 0; due = 0; some = job.follows; apart = true; first = w.first; held = [] } in
       let same = walk_same w start place selected due some apart refl held in
       let kept : IsKept context start =
       record { within = omega arith; most = omega arith; none = λ _. refl; joined = λ one. absurd (omega (arith, one)); placed = refl } in
