@@ -1,7 +1,7 @@
 -- What is written of files whose lines rules mark.
 use Rattle.std.proofs.Common.{◌++◌, ◌==◌, ◌∙◌, ◌∷◌, ◌≡◌, ◌⊎◌, Bool, List, None, Option, Some, [], ap, append-nil, arith, false, inl, inr, refl, subst, sym, true, ℕ}
 use Rattle.std.proofs.KnownBytes.{Appends-trans, Consumes-whole}
-use Rattle.std.proofs.Math.Bool.{and-false, and-true}
+use Rattle.std.proofs.Math.Bool.{and-false}
 use Rattle.std.proofs.lemmas.Grind.{common_steps}
 use Rattle.std.specs.Io.{StartsWith}
 use Rattle.std.specs.Io.KnownBytes.{Consumes, IsAtEnd, Keeps}
@@ -23,7 +23,7 @@ use Rattle.tool_parts.specs.Names.{is_input}
 use Rattle.acgrep.specs.Files.{BeginsTotal, EndsFile, IsNamed, known_of, shown_name, total_if}
 use Rattle.acgrep.specs.InTurn.{IfBroken, IfSearched}
 use Rattle.acgrep.specs.Marked.{FileAsked, marked_line, marked_lines, marked_shown, pass_behind}
-use Rattle.acgrep.specs.MarkedFiles.{AreFirstGiven, BeginsInput, BeginsMarks, BeginsWalk, ComesInput, ComesMarked, ComesName, HasFirst, HasToldAll, MarksBy, MarksFile, MarksInput, MarksText, TellsAll, WalksGiven, WalksLines, file_asked, file_marked, file_selected, pass_from, seen_lines}
+use Rattle.acgrep.specs.MarkedFiles.{AreFirstGiven, BeginsInput, BeginsMarks, BeginsWalk, ComesMarked, ComesName, HasFirst, HasToldAll, MarksBy, MarksFile, MarksInput, MarksText, TellsAll, WalksGiven, WalksLines, file_asked, file_marked, file_selected, pass_from, seen_lines}
 use Rattle.acgrep.specs.Written.{needs_one}
 use Rattle.acgrep.specs.declared.files.Outcome.{Outcome}
 use Rattle.acgrep.specs.declared.files.Outcome.TheVariants.{Unread}
@@ -214,61 +214,47 @@ part_known job covering known left held held' kept begun = record {
   written = begun.written;
 }
 
-pub comes_known : (job : Job) (covering : Covering) (known left held held' : Option (List ℕ)) (outcome : Outcome) → Keeps known left → ComesMarked job covering left held held' outcome → ComesMarked job covering known held held' outcome
+comes_known : (job : Job) (covering : Covering) (known left held held' : Option (List ℕ)) (outcome : Outcome) → Keeps known left → ComesMarked job covering left held held' outcome → ComesMarked job covering known held held' outcome
 comes_known job covering known left held held' outcome kept comes = record {
   searched = if_searched outcome _ _ (file_known job covering known left held held' kept) comes.searched;
   begun = if_broken outcome (part_known job covering known left held held' kept) comes.begun;
 }
 
-pub comes_none : (job : Job) (covering : Covering) (known held held' : Option (List ℕ)) → Keeps held held' → ComesMarked job covering known held held' Unread
-comes_none job covering known held held' kept = record { searched = tt; begun = marks_none job covering known held held' kept }
-
--- the same of standard input
-pub input_none : (job : Job) (covering : Covering) (again : Bool) (known held held' : Option (List ℕ)) → Keeps held held' → ComesInput job covering again known held held' Unread
-input_none job covering true known held held' kept = record { searched = tt; begun = total_none job 0 held held' kept }
-input_none job covering false known held held' kept = record { searched = tt; begun = marks_none job covering known held held' kept }
-
-pub input_again : (job : Job) (covering : Covering) (again : Bool) (known held held' : Option (List ℕ)) (outcome : Outcome) → again ≡ true → IfSearched outcome (EndsFile job 0 held held') → IfBroken outcome (BeginsTotal job 0 held held')
-    → ComesInput job covering again known held held' outcome
-input_again job covering true known held held' outcome is ended begun = record { searched = ended; begun = begun }
-input_again job covering false known held held' outcome is ended begun = absurd (cc)
-
-pub input_first : (job : Job) (covering : Covering) (again : Bool) (known held held' : Option (List ℕ)) (outcome : Outcome) → again ≡ false → ComesMarked job covering known held held' outcome
-    → ComesInput job covering again known held held' outcome
-input_first job covering true known held held' outcome is comes = absurd (cc)
-input_first job covering false known held held' outcome is comes = record { searched = comes.searched; begun = comes.begun }
-
--- what comes of the file of a name: of standard input, or of another
-module _ (job named : Job) (covering : Covering) (holds : List ℕ → Option (List ℕ)) (left : Option (List ℕ)) (read : Bool) (name : List ℕ) (held held' : Option (List ℕ)) (outcome : Outcome)
+-- what comes of the file of a name
+module _ (job named : Job) (covering : Covering) (holds : List ℕ → Option (List ℕ)) (left : Option (List ℕ)) (read : Bool) (name : List ℕ) (held held' : Option (List ℕ))
     (is_named : IsNamed job (shown_name job.label.now name) false named) where
-  pub name_input : is_input name ≡ true → ComesInput named covering read left held held' outcome → ComesName job covering holds left read name held held' outcome
-  name_input is comes =
-      let again : (read && is_input name) ≡ read = ap (λ (b : Bool). read && b) is ∙ and-true read in
-      record {
-        searched = if_searched outcome _ _ (λ any file. record {
-          named = named;
-          is_named = is_named;
-          file = subst (λ (b : Bool). MarksInput named covering b (known_of holds name left) held held' any) (sym again) (at_input (λ k. MarksInput named covering read k held held' any) holds name left is file);
-        }) comes.searched;
-        begun = if_broken outcome (λ file. record {
-          named = named;
-          is_named = is_named;
-          file = subst (λ (b : Bool). BeginsInput named covering b (known_of holds name left) held held') (sym again) (at_input (λ k. BeginsInput named covering read k held held') holds name left is file);
-        }) comes.begun;
-      }
+  -- by whether it is standard input, which was read before
+  pub name_comes : (again : Bool) → (read && is_input name) ≡ again → (outcome : Outcome) → IfSearched outcome (MarksInput named covering again (known_of holds name left) held held')
+      → IfBroken outcome (BeginsInput named covering again (known_of holds name left) held held') → ComesName job covering holds left read name held held' outcome
+  name_comes again is outcome searched begun = record {
+    searched = if_searched outcome _ _ (λ any file. record {
+      named = named;
+      is_named = is_named;
+      file = subst (λ (b : Bool). MarksInput named covering b (known_of holds name left) held held' any) (sym is) file;
+    }) searched;
+    begun = if_broken outcome (λ file. record {
+      named = named;
+      is_named = is_named;
+      file = subst (λ (b : Bool). BeginsInput named covering b (known_of holds name left) held held') (sym is) file;
+    }) begun;
+  }
 
-  pub name_file : is_input name ≡ false → ComesMarked named covering (holds name) held held' outcome → ComesName job covering holds left read name held held' outcome
-  name_file is comes =
-      let again : (read && is_input name) ≡ false = ap (λ (b : Bool). read && b) is ∙ and-false read in
-      record {
-        searched = if_searched outcome _ _ (λ any file. record {
-          named = named;
-          is_named = is_named;
-          file = subst (λ (b : Bool). MarksInput named covering b (known_of holds name left) held held' any) (sym again) (at_file (λ k. MarksFile named covering k held held' any) holds name left is file);
-        }) comes.searched;
-        begun = if_broken outcome (λ file. record {
-          named = named;
-          is_named = is_named;
-          file = subst (λ (b : Bool). BeginsInput named covering b (known_of holds name left) held held') (sym again) (at_file (λ k. BeginsMarks named covering k held held') holds name left is file);
-        }) comes.begun;
-      }
+  -- of one that is not searched
+  pub name_none : Keeps held held' → ComesName job covering holds left read name held held' Unread
+  name_none kept = name_comes (read && is_input name) refl Unread tt (none (read && is_input name))
+    where
+      none : (again : Bool) → BeginsInput named covering again (known_of holds name left) held held'
+      none true = total_none named 0 held held' kept
+      none false = marks_none named covering (known_of holds name left) held held' kept
+
+  -- of standard input, and of any other
+  pub name_input : read ≡ false → is_input name ≡ true → (outcome : Outcome) → ComesMarked named covering left held held' outcome → ComesName job covering holds left read name held held' outcome
+  name_input first is outcome comes =
+      let known = at_input (λ (k : Option (List ℕ)). ComesMarked named covering k held held' outcome) holds name left is comes in
+      name_comes false (ap (λ (b : Bool). b && is_input name) first) outcome known.searched known.begun
+
+  pub name_file : is_input name ≡ false → (kept : Option (List ℕ)) → Keeps (holds name) kept → (outcome : Outcome) → ComesMarked named covering kept held held' outcome
+      → ComesName job covering holds left read name held held' outcome
+  name_file is kept keeps outcome comes =
+      let known = at_file (λ (k : Option (List ℕ)). ComesMarked named covering k held held' outcome) holds name left is (comes_known named covering (holds name) kept held held' outcome keeps comes) in
+      name_comes false (ap (λ (b : Bool). read && b) is ∙ and-false read) outcome known.searched known.begun

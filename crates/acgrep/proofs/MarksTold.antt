@@ -7,6 +7,7 @@ use Rattle.tool_parts.proofs.Lines.{some-one, some-tells, some-then, some-weaker
 use Rattle.tool_parts.specs.Telling.{Tells, TellsBytes, TellsSome}
 use Rattle.tool_parts.specs.declared.errors.Errors.{Errors}
 use Rattle.acgrep.specs.Arguments.{shown_by}
+use Rattle.acgrep.specs.Files.{IsNamed}
 use Rattle.acgrep.specs.Reached.{TellsMissed}
 use Rattle.acgrep.specs.Runs.{status_reached}
 use Rattle.acgrep.specs.RunsByRules.{long_message, unwritten_line}
@@ -17,6 +18,7 @@ use Rattle.acgrep.specs.declared.files.Outcome.TheVariants.{Stopped, Unread}
 use Rattle.acgrep.specs.declared.options.Flags.{Flags}
 use Rattle.acgrep.specs.declared.options.Shown.{Shown}
 use Rattle.acgrep.specs.declared.options.Shown.TheVariants.{Nothing}
+use Rattle.acgrep.specs.declared.job.Job.{Job}
 use Rattle.acgrep.proofs.Reaching.{reached-quiet, shown-quiet}
 
 module _ {E : Type 0} (K : SinkGhosts E) where
@@ -34,6 +36,11 @@ module _ {E : Type 0} (K : SinkGhosts E) where
 
   pub end-told : (hushed : Bool) (outcome : Outcome) (old new : Errors E) → TellsOfEnd K hushed outcome old new → TellsOutcome K IsMarkTold hushed outcome old new
   end-told hushed outcome old new told = outcome-by [] hushed outcome old new (told [])
+
+  -- of the file of a name
+  pub named-told : (job named : Job) (name : List ℕ) → IsNamed job name false named → (outcome : Outcome) (old new : Errors E) → TellsOutcome K IsMarkTold named.hushed outcome old new
+      → TellsOutcome K IsMarkTold job.hushed outcome old new
+  named-told job named name is outcome old new told = subst (λ (b : Bool). TellsOutcome K IsMarkTold b outcome old new) (ap (λ (j : Job). j.hushed) is.is) told
 
   -- what cannot be looked at was told before
   pub missed-told : (flags : Flags) (unread : List (List ℕ)) (found : ℕ) (old mid new : Errors E) → TellsMissed K flags.no_messages unread old mid

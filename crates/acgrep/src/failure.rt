@@ -40,6 +40,19 @@ impl Unusable {
     }
 }
 
+/// Why a file is not searched, or not to its end.
+#[derive(Clone, Copy)]
+pub enum Obstacle {
+    /// The output goes to it.
+    Output,
+    /// It cannot be opened, for this reason.
+    Closed(Reason),
+    /// It is standard input, which cannot be read at all.
+    Unusable(Unusable),
+    /// It cannot be read on, for this reason.
+    Fault(Reason),
+}
+
 impl From<MatchError> for Stop {
     fn from(error: MatchError) -> Stop {
         Stop::Search(error)

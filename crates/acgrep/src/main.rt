@@ -38,6 +38,7 @@ mod marking;
 mod matches;
 mod noting;
 mod open;
+mod opening;
 mod options;
 mod patterns;
 mod print;
