@@ -100,7 +100,8 @@ impl Seen {
 
     /// The status of a call: an error goes before all but a selected line under `-q`.
     pub fn status(self, shown: Shown) -> u8
-        ensures { result ≡ status_by shown self }
+        ensures seen { result ≡ status_by shown self }
+        ensures bound { result ≤ 2 }
     {
         if is_enough(shown, self.selected) {
             0

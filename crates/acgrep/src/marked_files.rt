@@ -1,12 +1,12 @@
 //! Searching the files of a call by rules, one after another.
 
-ghost use Rattle.std.specs.Prelude.{◌≡◌, ◌<◌, ◌≤◌, ◌||◌, List, Option, false, ℕ};
+ghost use Rattle.std.specs.Prelude.{◌≡◌, ◌||◌, List, Option, false, ℕ};
 ghost use Rattle.tool_parts.specs.Names.{is_input};
 ghost use Rattle.tool_parts.specs.Telling.{TellsSome};
 ghost use Rattle.acgrep.specs.InTurn.{AreSeen};
 ghost use Rattle.acgrep.specs.Listed.{listed_bytes};
-ghost use Rattle.acgrep.specs.MarkedFiles.{AreMarkedOr, AreMarksBegun, ComesName, IfMarks, IsMarking, MarksBytes, SameMarking, mark_work};
-ghost use Rattle.acgrep.specs.Told.{TellsIf, TellsOutcome, TellsStatus};
+ghost use Rattle.acgrep.specs.MarkedFiles.{ComesName, IfMarks, IsMarking, MarksBytes, SameMarking, mark_work};
+ghost use Rattle.acgrep.specs.Told.{TellsIf, TellsOutcome};
 ghost use Rattle.acgrep.specs.ToldByRules.{IsMarkTold};
 
 use crate::failure::Stop;
@@ -42,33 +42,9 @@ pub struct Marking<'r, 'a, A> {
     pub long: u64,
 }
 
-/// Searches the files of these names, one after another, and answers the status. A file that cannot be read does not stop the others.
-pub fn mark_names<A: Automaton, F: Open, R: Read, W: Sink, E: Sink>(
-    marking: &mut Marking<'_, '_, A>,
-    job: &Job<'_>,
-    files: &F,
-    names: &[Vec<u8>],
-    input: &mut R,
-    output: &mut W,
-    errors: &mut Errors<'_, E>,
-) -> u8
-    requires ready { IsMarking A.Automaton marking.old }
-    requires unread { marking.old.input_read ≡ false }
-    ensures bound { result ≤ 2 }
-    ensures searched { IfMarks A.Automaton marking.old.cover (λ covering. result < 2
-        → AreMarkedOr job.now covering (F.holds files.now) (R.remaining input.old)
-        (listed_bytes names.now) (W.taken output.old) (W.taken output.new) result) }
-    ensures begun { IfMarks A.Automaton marking.old.cover (λ covering.
-        AreMarksBegun job.now covering (F.holds files.now) (R.remaining input.old)
-        (listed_bytes names.now) (W.taken output.old) (W.taken output.new)) }
-    ensures told { TellsStatus E.Sink IsMarkTold job.now.hushed job.now.shown result errors.old errors.new }
-{
-    let seen = mark_each(marking, job, files, names, input, output, errors);
-    seen.status(job.shown)
-}
-
-/// Searches the files of these names, one after another, and answers what was seen.
-fn mark_each<A: Automaton, F: Open, R: Read, W: Sink, E: Sink>(
+/// Searches the files of these names, one after another, and answers what was seen. A file that cannot be read does not
+/// stop the others.
+pub fn mark_each<A: Automaton, F: Open, R: Read, W: Sink, E: Sink>(
     marking: &mut Marking<'_, '_, A>,
     job: &Job<'_>,
     files: &F,

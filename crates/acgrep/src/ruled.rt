@@ -19,7 +19,7 @@ use crate::excluded::{expanded, read_globs};
 use crate::files::Files;
 use crate::folders::Folders;
 use crate::job::job_of;
-use crate::marked_files::{Marking, mark_names};
+use crate::marked_files::{Marking, mark_each};
 use crate::open::Open;
 use crate::options::Flags;
 use crate::rule_lists::{read_rules, tell_all};
@@ -198,7 +198,8 @@ fn mark_operands<A: Automaton, F: Open + Folders, R: Read, W: Sink, E: Sink>(
     let several = are_several(&given.flags, operands.names, names);
     let job = job_of(operands.alloc, given, screen, several);
     let files = operands.files;
-    let status = mark_names(marking, &job, files, names, input, output, errors);
+    let seen = mark_each(marking, &job, files, names, input, output, errors);
+    let status = seen.status(job.shown);
     status_below(&given.flags, found.unread.as_slice(), status)
 }
 
