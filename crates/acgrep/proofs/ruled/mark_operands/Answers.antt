@@ -1,5 +1,5 @@
 -- What was found was searched, and what cannot be read was told before.
-use Rattle.std.proofs.Common.{◌<◌, ◌∙◌, ◌≡◌, [], ap, false, inr, refl, subst, sym, ℕ}
+use Rattle.std.proofs.Common.{◌<◌, ◌∙◌, ◌≡◌, [], ap, false, inl, inr, refl, subst, sym, ℕ}
 use Rattle.secret_rules.specs.Covering.{Covering}
 use Rattle.tool_parts.specs.Names.{name_bytes}
 use Rattle.acgrep.specs.Arguments.{shown_by}
@@ -11,8 +11,8 @@ use Rattle.acgrep.specs.Runs.{are_several, status_reached}
 use Rattle.acgrep.specs.Told.{TellsStatus}
 use Rattle.acgrep.specs.ToldByRules.{IsMarkTold}
 use Rattle.acgrep.proofs.InTurn.{status_seen}
-use Rattle.acgrep.proofs.MarksTold.{missed-told, some-told}
-use Rattle.acgrep.proofs.Reaching.{reached-bound, reached-low}
+use Rattle.acgrep.proofs.MarksTold.{some-told}
+use Rattle.acgrep.proofs.Reaching.{missed-told, reached-bound, reached-low}
 use Rattle.acgrep.proofs.Told.{status-seen, status-some}
 use Rattle.acgrep.proofs.ruled.mark_operands.Goals as goal
 
@@ -67,5 +67,5 @@ returns g c =
         is_job = is_job;
         does = (rw listed at c.mark_each-seen.ensures.seen covering by).begun;
       });
-      told = rw status (missed-told g.E.Sink flags unread found _ _ _ c.in-Some.ensures.told (rw (is_job.hushed, is_job.shown) at told));
+      told = rw status (missed-told g.E.Sink IsMarkTold flags unread (λ asked line is. inl (unread, is)) found _ _ _ c.in-Some.ensures.told (rw (is_job.hushed, is_job.shown) at told));
     }
