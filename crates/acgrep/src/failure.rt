@@ -21,36 +21,29 @@ pub enum Stop {
 /// The system's number for a descriptor that is closed, or not open for what is asked of it.
 const NO_DESCRIPTOR: i32 = 9;
 
-/// Why standard input cannot be read at all.
-#[derive(Clone, Copy)]
-pub enum Unusable {
-    /// It is closed, or open for writing alone.
-    Closed,
-    /// It cannot be read, for this reason.
-    Fault(Reason),
-}
-
-impl Unusable {
-    /// What an error of a read tells.
-    pub fn of(error: &io::Error) -> Unusable {
-        if error.raw_os_error() == Some(NO_DESCRIPTOR) {
-            return Unusable::Closed;
-        }
-        Unusable::Fault(Reason::of(error))
-    }
-}
-
 /// Why a file is not searched, or not to its end.
 #[derive(Clone, Copy)]
 pub enum Obstacle {
     /// The output goes to it.
     Output,
-    /// It cannot be opened, for this reason.
+    /// It is a folder that stands in itself.
+    Loop,
+    /// It is standard input, which is closed, or open for writing alone.
+    NoInput,
+    /// It cannot be opened or looked at, for this reason.
     Closed(Reason),
-    /// It is standard input, which cannot be read at all.
-    Unusable(Unusable),
-    /// It cannot be read on, for this reason.
+    /// It cannot be read, for this reason.
     Fault(Reason),
+}
+
+impl Obstacle {
+    /// What an error of a read of standard input tells.
+    pub fn of_input(error: &io::Error) -> Obstacle {
+        if error.raw_os_error() == Some(NO_DESCRIPTOR) {
+            return Obstacle::NoInput;
+        }
+        Obstacle::Fault(Reason::of(error))
+    }
 }
 
 impl From<MatchError> for Stop {

@@ -34,10 +34,7 @@ pub fn input_obstacle<F: Open>(job: &Job<'_>, files: &F) -> Option<Obstacle> {
     if writes_into(job, files, b"/dev/stdin") {
         return Some(Obstacle::Output);
     }
-    match files.unusable_input() {
-        Some(why) => Some(Obstacle::Unusable(why)),
-        None => None,
-    }
+    files.unusable_input()
 }
 
 /// Whether several lines of the file of this name may be written to it.

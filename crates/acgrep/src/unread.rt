@@ -1,13 +1,11 @@
 //! Telling why a file was not searched, if that is asked for.
 
 ghost use Rattle.std.specs.Prelude.{false};
-ghost use Rattle.acgrep.specs.Told.{TellsCause, TellsOfFile, TellsOfOutcome, stopped_if};
+ghost use Rattle.acgrep.specs.Told.{TellsCause, TellsOfOutcome, stopped_if};
 
 use crate::failure::{Obstacle, Stop};
 use crate::job::Job;
-use crate::tell::{
-    tell_fault, tell_input, tell_memory, tell_output, tell_search, tell_unopened, tell_write,
-};
+use crate::tell::{tell_file, tell_memory, tell_search, tell_write};
 use chromesquid::Sink;
 use tool_parts::errors::Errors;
 use tool_parts::reason::Reason;
@@ -20,19 +18,7 @@ pub fn tell_unread<E: Sink>(job: &Job<'_>, why: Obstacle, errors: &mut Errors<'_
     if job.hushed {
         return;
     }
-    tell_obstacle(job.style.name, why, errors);
-}
-
-/// Tells it of the file of this name.
-fn tell_obstacle<E: Sink>(name: &[u8], why: Obstacle, errors: &mut Errors<'_, E>)
-    ensures told { TellsOfFile E.Sink name.now errors.old errors.new }
-{
-    match why {
-        Obstacle::Output => tell_output(name, errors),
-        Obstacle::Closed(reason) => tell_unopened(name, reason, errors),
-        Obstacle::Unusable(why) => tell_input(name, why, errors),
-        Obstacle::Fault(reason) => tell_fault(name, reason, errors),
-    }
+    tell_file(job.style.name, why, errors);
 }
 
 /// Tells why a search stopped, and answers whether that ends the call.

@@ -6,4 +6,4 @@ pub returns-then-job : goal.returns-then-job
 returns-then-job g c = record { told = λ names is. rw c.if-job.true refl }
 
 pub returns : goal.returns
-returns g c = record { told = λ names is. rw c.if-job.false (c.tell_obstacle.ensures.told names (is c.if-job.false)) }
+returns g c = record { told = λ names is. rw c.if-job.false (c.tell_file.ensures.told names (is c.if-job.false)) }
