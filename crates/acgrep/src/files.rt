@@ -255,9 +255,7 @@ fn search_name<F: Open, R: Read, W: Sink, E: Sink>(
         match input_obstacle(&named, files) {
             Some(why) => why,
             None => {
-                return search_one(
-                    searcher, &named, buffer, input, state, page, output, errors,
-                );
+                return search_one(searcher, &named, buffer, input, state, page, output, errors);
             }
         }
     } else {

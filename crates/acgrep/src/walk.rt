@@ -155,7 +155,10 @@ fn begin<F: Folders>(
             let above = around_here(alloc, files, ways)?;
             put_first(alloc, names, b"", above.as_slice(), pending)
         }
-        Err(error) => found.miss(Vec::from_slice(alloc, HERE)?, Obstacle::Closed(Reason::of(&error))),
+        Err(error) => found.miss(
+            Vec::from_slice(alloc, HERE)?,
+            Obstacle::Closed(Reason::of(&error)),
+        ),
     }
 }
 
