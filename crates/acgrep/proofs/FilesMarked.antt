@@ -1,7 +1,6 @@
 -- What is written of files whose lines rules mark.
 use Rattle.std.proofs.Common.{◌++◌, ◌==◌, ◌∙◌, ◌∷◌, ◌≡◌, ◌⊎◌, Bool, List, None, Option, Some, [], ap, append-nil, arith, false, inl, inr, refl, subst, sym, true, ℕ}
 use Rattle.std.proofs.KnownBytes.{Appends-trans, Consumes-whole}
-use Rattle.std.proofs.Math.Bool.{and-false}
 use Rattle.std.proofs.lemmas.Grind.{common_steps}
 use Rattle.std.specs.Io.{StartsWith}
 use Rattle.std.specs.Io.KnownBytes.{Consumes, IsAtEnd, Keeps}
@@ -23,7 +22,7 @@ use Rattle.tool_parts.specs.Names.{is_input}
 use Rattle.acgrep.specs.Files.{BeginsTotal, EndsFile, IsNamed, known_of, shown_name, total_if}
 use Rattle.acgrep.specs.InTurn.{IfBroken, IfSearched}
 use Rattle.acgrep.specs.Marked.{FileAsked, marked_line, marked_lines, marked_shown, pass_behind}
-use Rattle.acgrep.specs.MarkedFiles.{AreFirstGiven, BeginsInput, BeginsMarks, BeginsWalk, ComesMarked, ComesName, HasFirst, HasToldAll, MarksBy, MarksFile, MarksInput, MarksText, TellsAll, WalksGiven, WalksLines, file_asked, file_marked, file_selected, pass_from, seen_lines}
+use Rattle.acgrep.specs.MarkedFiles.{AreFirstGiven, BeginsInput, BeginsMarks, BeginsWalk, ComesName, HasFirst, HasToldAll, MarksBy, MarksFile, MarksInput, MarksText, TellsAll, WalksGiven, WalksLines, file_asked, file_marked, file_selected, pass_from, seen_lines}
 use Rattle.acgrep.specs.Written.{needs_one}
 use Rattle.acgrep.specs.declared.files.Outcome.{Outcome}
 use Rattle.acgrep.specs.declared.files.Outcome.TheVariants.{Unread}
@@ -32,9 +31,8 @@ use Rattle.acgrep.specs.declared.options.Shown.{Shown}
 use Rattle.acgrep.specs.declared.print.Place.{Place}
 use Rattle.acgrep.specs.declared.print.Style.{Style}
 use Rattle.acgrep.specs.declared.job.Job.{Job}
-use Rattle.acgrep.proofs.FilesBegun.{of_kept, total_none}
+use Rattle.acgrep.proofs.FilesBegun.{total_none}
 use Rattle.acgrep.proofs.InTurn.{if_broken, if_searched}
-use Rattle.acgrep.proofs.NamesSearched.{at_file, at_input}
 use Rattle.acgrep.proofs.Streams.{keeps_nil}
 
 -- a stream that has seen no end before is at its end where it sees one
@@ -83,10 +81,14 @@ lines_none asked needs pass _ _ = refl
 starts_nothing : (all part : List ℕ) → all ≡ [] → StartsWith all part → part ≡ []
 starts_nothing all part none starts = grind (arith, common_steps)
 
+-- where no more is known, what is read is too
+kept_read : (known left left' : Option (List ℕ)) (given : List ℕ) → Keeps known left → Consumes left left' given → Consumes known left' given
+kept_read known left left' given kept read = grind (arith, common_steps)
+
 module _ {R W : Type 0} (S : SourceGhosts R) (K : SinkGhosts W) (job : Job) (covering : Covering) (source source' : R) (output output' : W) (known : Option (List ℕ)) (pass' : Pass) (held' : Option (List ℕ))
-    (left : S.remaining source ≡ known) (none : S.empty_reads source ≡ 0) (ends : S.empty_reads source' ≢ 0 → IsAtEnd (S.remaining source')) where
+    (left : Keeps known (S.remaining source)) (none : S.empty_reads source ≡ 0) (ends : S.empty_reads source' ≢ 0 → IsAtEnd (S.remaining source')) where
   reads_given : (given : List ℕ) → Consumes (S.remaining source) (S.remaining source') given → Consumes known (S.remaining source') given
-  reads_given given read = subst (λ bytes. Consumes bytes (S.remaining source') given) left read
+  reads_given given read = kept_read known (S.remaining source) (S.remaining source') given left read
 
   -- a file that was read to its end
   pub file_whole : (asked : FileAsked) → asked ≡ file_asked job covering.rules → WalksGiven S K asked (pass_from job.first) pass' source source' output output' covering → (any : Bool)
@@ -178,48 +180,6 @@ marks_none job covering known held held' kept = record {
     nothing_of None = record { text = []; of = tt; first = (stream_lines [], refl); are = tt }
     nothing_of (Some all) = record { text = all; of = refl; first = (stream_lines all, refl); are = tt }
 
--- whatever more is known of its bytes
-has_known : (covering : Covering) (known left : Option (List ℕ)) (lines : List Line) (runs : List (List Occurrence)) → Keeps known left → HasFirst covering left lines runs → HasFirst covering known lines runs
-has_known covering known left lines runs kept has = grind (arith, common_steps)
-
-file_known : (job : Job) (covering : Covering) (known left held held' : Option (List ℕ)) → Keeps known left → (any : Bool) → MarksFile job covering left held held' any → MarksFile job covering known held held' any
-file_known job covering known left held held' kept any (inl whole) = inl (record {
-  text = whole.text;
-  of = of_kept known left whole.text kept whole.of;
-  runs = whole.runs;
-  are = whole.are;
-  any_is = whole.any_is;
-  written = whole.written;
-})
-file_known job covering known left held held' kept any (inr told) = inr (record {
-  needs = told.needs;
-  is_any = told.is_any;
-  lines = told.lines;
-  runs = told.runs;
-  has = has_known covering known left told.lines told.runs kept told.has;
-  selected = told.selected;
-  written = told.written;
-})
-
-part_known : (job : Job) (covering : Covering) (known left held held' : Option (List ℕ)) → Keeps known left → BeginsMarks job covering left held held' → BeginsMarks job covering known held held'
-part_known job covering known left held held' kept begun = record {
-  lines = begun.lines;
-  runs = begun.runs;
-  has = has_known covering known left begun.lines begun.runs kept begun.has;
-  part = begun.part;
-  begins = begun.begins;
-  count = begun.count;
-  tail = begun.tail;
-  ends = begun.ends;
-  written = begun.written;
-}
-
-comes_known : (job : Job) (covering : Covering) (known left held held' : Option (List ℕ)) (outcome : Outcome) → Keeps known left → ComesMarked job covering left held held' outcome → ComesMarked job covering known held held' outcome
-comes_known job covering known left held held' outcome kept comes = record {
-  searched = if_searched outcome _ _ (file_known job covering known left held held' kept) comes.searched;
-  begun = if_broken outcome (part_known job covering known left held held' kept) comes.begun;
-}
-
 -- what comes of the file of a name
 module _ (job named : Job) (covering : Covering) (holds : List ℕ → Option (List ℕ)) (left : Option (List ℕ)) (read : Bool) (name : List ℕ) (held held' : Option (List ℕ))
     (is_named : IsNamed job (shown_name job.label.now name) false named) where
@@ -246,15 +206,3 @@ module _ (job named : Job) (covering : Covering) (holds : List ℕ → Option (L
       none : (again : Bool) → BeginsInput named covering again (known_of holds name left) held held'
       none true = total_none named 0 held held' kept
       none false = marks_none named covering (known_of holds name left) held held' kept
-
-  -- of standard input, and of any other
-  pub name_input : read ≡ false → is_input name ≡ true → (outcome : Outcome) → ComesMarked named covering left held held' outcome → ComesName job covering holds left read name held held' outcome
-  name_input first is outcome comes =
-      let known = at_input (λ (k : Option (List ℕ)). ComesMarked named covering k held held' outcome) holds name left is comes in
-      name_comes false (ap (λ (b : Bool). b && is_input name) first) outcome known.searched known.begun
-
-  pub name_file : is_input name ≡ false → (kept : Option (List ℕ)) → Keeps (holds name) kept → (outcome : Outcome) → ComesMarked named covering kept held held' outcome
-      → ComesName job covering holds left read name held held' outcome
-  name_file is kept keeps outcome comes =
-      let known = at_file (λ (k : Option (List ℕ)). ComesMarked named covering k held held' outcome) holds name left is (comes_known named covering (holds name) kept held held' outcome keeps comes) in
-      name_comes false (ap (λ (b : Bool). read && b) is ∙ and-false read) outcome known.searched known.begun

@@ -1,6 +1,7 @@
 //! Searching the files of a call by rules, one after another.
 
 ghost use Rattle.std.specs.Prelude.{◌≡◌, ◌||◌, List, Option, false, ℕ};
+ghost use Rattle.std.specs.Io.KnownBytes.{Keeps};
 ghost use Rattle.tool_parts.specs.Names.{is_input};
 ghost use Rattle.tool_parts.specs.Telling.{TellsSome};
 ghost use Rattle.acgrep.specs.InTurn.{AreSeen};
@@ -134,8 +135,8 @@ fn mark_reader<A: Automaton, R: Read + Drop, W: Sink, E: Sink>(
     errors: &mut Errors<'_, E>,
 ) -> Outcome
     requires ready { IsMarking A.Automaton marking.old }
-    ensures comes { MarksBytes A.Automaton W.Sink marking.old job.now (R.remaining reader)
-        output.old output.new result }
+    ensures comes { (known : Option (List ℕ)) → Keeps known (R.remaining reader)
+        → MarksBytes A.Automaton W.Sink marking.old job.now known output.old output.new result }
     ensures read { marking.new.input_read ≡ marking.old.input_read }
     ensures told { TellsOutcome E.Sink IsMarkTold job.now.hushed result errors.old errors.new }
     ensures same { SameMarking marking.old marking.new }

@@ -1,12 +1,15 @@
 -- The name is that of standard input, or of a file.
-use Rattle.std.proofs.Common.{◌∙◌, Bool, List, Option, ap, false, subst, sym, true, ℕ}
+use Rattle.std.proofs.Common.{◌∙◌, ◌≡◌, Bool, List, Option, ap, false, subst, sym, true, ℕ}
+use Rattle.std.proofs.KnownBytes.{Keeps-refl}
+use Rattle.std.proofs.Math.Bool.{and-false}
+use Rattle.std.specs.Io.KnownBytes.{Keeps}
 use Rattle.std.specs.Prelude.{◌&&◌}
 use Rattle.tool_parts.specs.Names.{is_input}
-use Rattle.acgrep.specs.Files.{IsNamed, shown_name}
-use Rattle.acgrep.specs.MarkedFiles.{ComesMarked}
+use Rattle.acgrep.specs.Files.{IsNamed, known_of, shown_name}
 use Rattle.acgrep.specs.declared.files.Outcome.TheVariants.{Unread}
-use Rattle.acgrep.proofs.FilesMarked.{name_comes, name_file, name_input, name_none}
+use Rattle.acgrep.proofs.FilesMarked.{name_comes, name_none}
 use Rattle.acgrep.proofs.MarksTold.{end-told, named-told, outcome-told}
+use Rattle.acgrep.proofs.NamesSearched.{at_file, at_input}
 use Rattle.acgrep.proofs.marked_files.mark_name.Given.{Over}
 use Rattle.acgrep.proofs.marked_files.mark_name.Goals.{After-job_for-named}
 use Rattle.acgrep.proofs.marked_files.mark_name.Goals as goal
@@ -21,14 +24,22 @@ returns-then-again-clause-comes g c = λ covering by left same.
 
 pub returns-in-None-clause-comes : goal.returns-in-None-clause-comes
 returns-in-None-clause-comes g c = λ covering by left same.
-    name_input c.args.job.now c.job_for-named.result covering (g.F.Open.holds c.args.files.now) left c.args.marking.now.input_read c.args.name.now _ _ (named_so g (goal.at.returns-in-None-clause-comes g c).After-job_for-named)
-    c.if-again.false (sym c.is_input-from_input.ensures ∙ c.if-from_input.true) c.mark_reader.result
-    (subst (λ (l : Option (List ℕ)). ComesMarked c.job_for-named.result covering l _ _ c.mark_reader.result) (same c.if-again.false) (c.mark_reader.ensures.comes covering by))
+    let holds = g.F.Open.holds c.args.files.now in
+    let name = c.args.name.now in
+    let input : is_input name ≡ true = sym c.is_input-from_input.ensures ∙ c.if-from_input.true in
+    let kept : Keeps left (g.R.Read.remaining c.args.input.now) = subst (Keeps left) (sym (same c.if-again.false)) (Keeps-refl left) in
+    let comes = c.mark_reader.ensures.comes (known_of holds name left) (at_input (λ (k : Option (List ℕ)). Keeps k (g.R.Read.remaining c.args.input.now)) holds name left input kept) covering by in
+    name_comes c.args.job.now c.job_for-named.result covering holds left c.args.marking.now.input_read name _ _ (named_so g (goal.at.returns-in-None-clause-comes g c).After-job_for-named)
+    false (ap (λ (b : Bool). b && is_input name) c.if-again.false) c.mark_reader.result comes.searched comes.begun
 
 pub returns-in-Ok-clause-comes : goal.returns-in-Ok-clause-comes
 returns-in-Ok-clause-comes g c = λ covering by left same.
-    name_file c.args.job.now c.job_for-named.result covering (g.F.Open.holds c.args.files.now) left c.args.marking.now.input_read c.args.name.now _ _ (named_so g (goal.at.returns-in-Ok-clause-comes g c).After-job_for-named)
-    (sym c.is_input-from_input.ensures ∙ c.if-from_input.false) _ c.in-Ok.ensures.held c.mark_reader.result (c.mark_reader.ensures.comes covering by)
+    let holds = g.F.Open.holds c.args.files.now in
+    let name = c.args.name.now in
+    let other : is_input name ≡ false = sym c.is_input-from_input.ensures ∙ c.if-from_input.false in
+    let comes = c.mark_reader.ensures.comes (known_of holds name left) (at_file (λ (k : Option (List ℕ)). Keeps k (g.F.File.Read.remaining c.in-Ok.file)) holds name left other c.in-Ok.ensures.held) covering by in
+    name_comes c.args.job.now c.job_for-named.result covering holds left c.args.marking.now.input_read name _ _ (named_so g (goal.at.returns-in-Ok-clause-comes g c).After-job_for-named)
+    false (ap (λ (b : Bool). c.args.marking.now.input_read && b) other ∙ and-false c.args.marking.now.input_read) c.mark_reader.result comes.searched comes.begun
 
 pub returns-clause-comes : goal.returns-clause-comes
 returns-clause-comes g c = λ covering by left same.
