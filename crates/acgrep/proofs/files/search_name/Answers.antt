@@ -42,13 +42,13 @@ returns-in-Ok g c =
     let is = named_so g before in
     let known = g.F.Open.holds c.args.files.now c.args.name.now in
     record {
-      searched = λ p by plain. if_searched c.search_one.result (SearchesReader p named _ _ _ _) _
+      searched = λ p by plain. if_searched c.search_one-in-Ok.result (SearchesReader p named _ _ _ _) _
           (λ any done. record { named = named; is_named = is; file = rw other (file_read p named known _ _ _ any c.in-Ok.ensures.held done.file); reads = rw other refl })
-          (c.search_one.ensures.searched p by (free_so g before p plain));
-      begun = λ p by plain. if_broken c.search_one.result (λ begins. record { named = named; is_named = is; file = rw other (file_known p named known _ _ _ c.in-Ok.ensures.held begins) })
-          (c.search_one.ensures.begun p by (free_so g before p plain));
+          (c.search_one-in-Ok.ensures.searched p by (free_so g before p plain));
+      begun = λ p by plain. if_broken c.search_one-in-Ok.result (λ begins. record { named = named; is_named = is; file = rw other (file_known p named known _ _ _ c.in-Ok.ensures.held begins) })
+          (c.search_one-in-Ok.ensures.begun p by (free_so g before p plain));
       leaves = rw other refl;
-      told = told-named g.E.Sink _ _ _ c.args.follows is _ _ _ c.search_one.ensures.told;
+      told = told-named g.E.Sink _ _ _ c.args.follows is _ _ _ c.search_one-in-Ok.ensures.told;
     }
 
 pub returns : goal.returns

@@ -37,9 +37,9 @@ returns-in-Ok-clause-comes g c = λ covering by left same.
     let holds = g.F.Open.holds c.args.files.now in
     let name = c.args.name.now in
     let other : is_input name ≡ false = sym c.is_input-from_input.ensures ∙ c.if-from_input.false in
-    let comes = c.mark_reader.ensures.comes (known_of holds name left) (at_file (λ (k : Option (List ℕ)). Keeps k (g.F.File.Read.remaining c.in-Ok.file)) holds name left other c.in-Ok.ensures.held) covering by in
+    let comes = c.mark_reader-in-Ok.ensures.comes (known_of holds name left) (at_file (λ (k : Option (List ℕ)). Keeps k (g.F.File.Read.remaining c.in-Ok.file)) holds name left other c.in-Ok.ensures.held) covering by in
     name_comes c.args.job.now c.job_for-named.result covering holds left c.args.marking.now.input_read name _ _ (named_so g (goal.at.returns-in-Ok-clause-comes g c).After-job_for-named)
-    false (ap (λ (b : Bool). c.args.marking.now.input_read && b) other ∙ and-false c.args.marking.now.input_read) c.mark_reader.result comes.searched comes.begun
+    false (ap (λ (b : Bool). c.args.marking.now.input_read && b) other ∙ and-false c.args.marking.now.input_read) c.mark_reader-in-Ok.result comes.searched comes.begun
 
 pub returns-clause-comes : goal.returns-clause-comes
 returns-clause-comes g c = λ covering by left same.
@@ -53,7 +53,7 @@ pub returns-in-None-clause-told : goal.returns-in-None-clause-told
 returns-in-None-clause-told g c = named-told g.E.Sink _ _ _ c.job_for-named.ensures.named c.mark_reader.result _ _ c.mark_reader.ensures.told
 
 pub returns-in-Ok-clause-told : goal.returns-in-Ok-clause-told
-returns-in-Ok-clause-told g c = named-told g.E.Sink _ _ _ c.job_for-named.ensures.named c.mark_reader.result _ _ c.mark_reader.ensures.told
+returns-in-Ok-clause-told g c = named-told g.E.Sink _ _ _ c.job_for-named.ensures.named c.mark_reader-in-Ok.result _ _ c.mark_reader-in-Ok.ensures.told
 
 pub returns-clause-told : goal.returns-clause-told
 returns-clause-told g c =
