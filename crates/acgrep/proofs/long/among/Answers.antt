@@ -1,5 +1,5 @@
 -- An option more was looked at.
-use Rattle.std.proofs.Common.{◌∙◌, ◌≡◌, List, [], ap, refl, subst, sym, ℕ}
+use Rattle.std.proofs.Common.{◌∙◌, ◌≡◌, List, [], ap, sym}
 use Rattle.std.proofs.lemmas.List.{nil_from_length}
 use Rattle.std.specs.Prelude.{map}
 use Rattle.tool_parts.specs.OptionNames.{found_among}
