@@ -1,6 +1,6 @@
 //! Opening the files of a call, but for those to which its output goes.
 
-ghost use Rattle.std.specs.Prelude.{IfOk};
+ghost use Rattle.std.specs.Prelude.{IfOk, false};
 ghost use Rattle.std.specs.Io.KnownBytes.{Keeps};
 ghost use Rattle.acgrep.specs.Told.{TellsOfOutcome, stopped_if};
 
