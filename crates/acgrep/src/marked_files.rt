@@ -105,7 +105,7 @@ fn mark_name<A: Automaton, F: Open, R: Read, W: Sink, E: Sink>(
     let named = job_for(job, shown_name(job, name), false);
     let again = marking.input_read;
     let from_input = is_input(name);
-    marking.input_read = again || from_input;
+    marking.input_read |= from_input;
     let why = if from_input {
         match input_obstacle(&named, files) {
             Some(why) => why,

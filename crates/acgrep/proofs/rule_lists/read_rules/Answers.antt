@@ -1,5 +1,5 @@
 -- Those of a name more were read.
-use Rattle.std.proofs.Common.{◌-◌, ◌<◌, ◌∙◌, ◌≡◌, Bor, List, [], arith, length, refl, subst, sym, ℕ}
+use Rattle.std.proofs.Common.{◌++◌, ◌-◌, ◌<◌, ◌∙◌, ◌≡◌, Bor, List, [], arith, length, refl, subst, sym, ℕ}
 use Rattle.std.proofs.lemmas.Grind.{common_steps}
 use Rattle.secret_rules.specs.declared.rule.Rule.{Rule}
 use Rattle.tool_parts.specs.Names.{name_bytes}

@@ -14,8 +14,8 @@ returns-in-NoInput c = record { cause = inl (inr (inr (inr (inr (inr (inr refl))
 pub returns-then-is_text : goal.returns-then-is_text
 returns-then-is_text c = record { cause = inl (inl (c.in-Closed.reason, c.as_bytes.ensures.value ∙ c.text.ensures.text)) }
 
-pub returns-in-Closed : goal.returns-in-Closed
-returns-in-Closed c = record { cause = inr (sym c.is_text.ensures.text ∙ c.if-is_text.false, refl) }
+pub returns-else-is_text : goal.returns-else-is_text
+returns-else-is_text c = record { cause = inr (sym c.is_text.ensures.text ∙ c.if-is_text.false, refl) }
 
 pub returns-in-Fault : goal.returns-in-Fault
 returns-in-Fault c = record { cause = inl (inl (c.in-Fault.reason, c.as_bytes-in-Fault.ensures.value ∙ c.text-in-Fault.ensures.text)) }
