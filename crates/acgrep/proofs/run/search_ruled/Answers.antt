@@ -107,7 +107,7 @@ returns-then-by_rules-clause-marks g c = λ by low. record {
   what = rules_said c.in-Ok.all.items;
   between = g.R.Read.remaining c.read_globs.new.input;
   read = read_so g (goal.at.returns-then-by_rules-clause-marks g c).After-with_rules-ruled;
-  does = subst (λ (s : Said). MarksAsked (known_by g.F.Open g.F.Folders c.args.files.now) c.args.screen.now s _ _ _ c.mark_asked.result) c.with_rules-ruled.ensures.ruled (c.mark_asked.ensures.searches low);
+  does = subst (λ (s : Said). MarksAsked (known_by g.F.Open g.F.Folders c.args.files.now) c.args.screen.now s (g.R.Read.remaining c.read_globs.new.input) (g.W.Sink.taken c.args.output.now) (g.W.Sink.taken c.mark_asked.new.output) c.mark_asked.result) c.with_rules-ruled.ensures.ruled (c.mark_asked.ensures.searches low);
 }
 
 pub returns-then-by_rules-clause-begins_marks : goal.returns-then-by_rules-clause-begins_marks
@@ -115,7 +115,7 @@ returns-then-by_rules-clause-begins_marks g c = λ by. inr (record {
   what = rules_said c.in-Ok.all.items;
   between = g.R.Read.remaining c.read_globs.new.input;
   read = read_so g (goal.at.returns-then-by_rules-clause-begins_marks g c).After-with_rules-ruled;
-  does = subst (λ (s : Said). MayBeginAsked (known_by g.F.Open g.F.Folders c.args.files.now) c.args.screen.now s _ _ _) c.with_rules-ruled.ensures.ruled c.mark_asked.ensures.begins;
+  does = subst (λ (s : Said). MayBeginAsked (known_by g.F.Open g.F.Folders c.args.files.now) c.args.screen.now s (g.R.Read.remaining c.read_globs.new.input) (g.W.Sink.taken c.args.output.now) (g.W.Sink.taken c.mark_asked.new.output)) c.with_rules-ruled.ensures.ruled c.mark_asked.ensures.begins;
 })
 
 pub returns-then-by_rules-clause-told_marks : goal.returns-then-by_rules-clause-told_marks
