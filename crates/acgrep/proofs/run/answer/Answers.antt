@@ -1,7 +1,7 @@
 -- A text is written, or a search is made, and its status told.
-use Rattle.std.proofs.Common.{◌<◌, ◌∙◌, ◌≡◌, Bool, List, Some, arith, eqb-true, false, inl, inr, refl, subst, sym, true, ℕ}
+use Rattle.std.proofs.Common.{◌<◌, ◌≡◌, Bool, List, Some, arith, eqb-true, false, inl, inr, refl, subst, sym, true, ℕ}
 use Rattle.std.proofs.KnownBytes.{Keeps-refl}
-use Rattle.std.proofs.lemmas.Bool.{cases_Bool, true≢false}
+use Rattle.std.proofs.lemmas.Bool.{cases_Bool}
 use Rattle.std.specs.Prelude.{nat_eq}
 use Rattle.aho_devices.specs.declared.device.Sink.{Ghosts as SinkGhosts}
 use Rattle.tool_parts.specs.Telling.{TellsBytes}
@@ -55,12 +55,6 @@ returns-then-given-2-clause-told g c = λ by.
     status-weaker g.E.Sink (MayTell (names_said (Some given))) (MaySaid _ _ (Some given)) given.flags.no_messages (shown_by given.flags) c.write_text-then-given-2.result c.args.errors.now c.write_text-then-given-2.new.errors
     (λ line is. inl is) (c.write_text-then-given-2.ensures.told given.flags.no_messages (shown_by given.flags) (names_said (Some given)))
 
-pub returns-then-given-clause-searches : goal.returns-then-given-clause-searches
-returns-then-given-clause-searches g c = λ asks low. absurd (true≢false (sym c.if-given.true ∙ asks.asks.no_version))
-
-pub returns-then-given-2-clause-searches : goal.returns-then-given-2-clause-searches
-returns-then-given-2-clause-searches g c = λ asks low. absurd (true≢false (sym c.if-given-2.true ∙ asks.asks.no_help))
-
 pub returns-clause-searches : goal.returns-clause-searches
 returns-clause-searches g c = λ asks low.
     let found = c.search_ruled-status.result in
@@ -108,11 +102,6 @@ returns-clause-marks g c = λ asks low.
     )
 
 -- what is told of a call by rules
-pub returns-then-given-clause-told_marks : goal.returns-then-given-clause-told_marks
-returns-then-given-clause-told_marks g c = λ asks. absurd (true≢false (sym c.if-given.true ∙ asks.asks.no_version))
-
-pub returns-then-given-2-clause-told_marks : goal.returns-then-given-2-clause-told_marks
-returns-then-given-2-clause-told_marks g c = λ asks. absurd (true≢false (sym c.if-given-2.true ∙ asks.asks.no_help))
 
 pub returns-clause-told_marks : goal.returns-clause-told_marks
 returns-clause-told_marks g c = λ asks.

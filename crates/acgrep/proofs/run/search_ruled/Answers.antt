@@ -1,7 +1,5 @@
 -- The rules in files were read, and what was said was done by them.
-use Rattle.std.proofs.Common.{◌∙◌, ◌≡◌, List, Option, Some, [], ap, inl, inr, refl, subst, sym, ℕ}
-use Rattle.std.proofs.KnownBytes.{Keeps-refl}
-use Rattle.std.proofs.lemmas.Bool.{true≢false}
+use Rattle.std.proofs.Common.{◌≡◌, List, Option, Some, [], ap, inl, inr, refl, subst, ℕ}
 use Rattle.std.specs.List.{concat}
 use Rattle.tool_parts.proofs.Lines.{some-one, some-weaker}
 use Rattle.tool_parts.specs.Telling.{TellsSome}
@@ -45,24 +43,6 @@ read_so g c =
     (g.R.Read.remaining c.args.input.now) (g.R.Read.remaining c.read_globs.new.input)
     (ap rules_said c.as_slice-rules.ensures.value) (ap listed_bytes c.as_slice.ensures.value) c.in-Some.ensures.texts c.in-Ok.ensures.expanded
 
-pub returns-then-lacks_pattern-clause-begins : goal.returns-then-lacks_pattern-clause-begins
-returns-then-lacks_pattern-clause-begins g c = λ by. inl (Keeps-refl (g.W.Sink.taken c.args.output.now))
-
-pub returns-then-lacks_pattern-clause-begins_marks : goal.returns-then-lacks_pattern-clause-begins_marks
-returns-then-lacks_pattern-clause-begins_marks g c = λ by. inl (Keeps-refl (g.W.Sink.taken c.args.output.now))
-
-pub returns-in_default-clause-begins : goal.returns-in_default-clause-begins
-returns-in_default-clause-begins g c = λ by. inl (Keeps-refl (g.W.Sink.taken c.args.output.now))
-
-pub returns-in_default-clause-begins_marks : goal.returns-in_default-clause-begins_marks
-returns-in_default-clause-begins_marks g c = λ by. inl (Keeps-refl (g.W.Sink.taken c.args.output.now))
-
-pub returns-in_default-expanded-clause-begins : goal.returns-in_default-expanded-clause-begins
-returns-in_default-expanded-clause-begins g c = λ by. inl (Keeps-refl (g.W.Sink.taken c.args.output.now))
-
-pub returns-in_default-expanded-clause-begins_marks : goal.returns-in_default-expanded-clause-begins_marks
-returns-in_default-expanded-clause-begins_marks g c = λ by. inl (Keeps-refl (g.W.Sink.taken c.args.output.now))
-
 pub returns-then-lacks_pattern-clause-told : goal.returns-then-lacks_pattern-clause-told
 returns-then-lacks_pattern-clause-told g c = λ by.
     let given = said c.args.given in
@@ -87,9 +67,6 @@ returns-in_default-expanded-clause-told g c = λ by.
     subst (λ (e : Errors g.row.E.Denot). TellsStatus g.E.Sink May given.flags.no_messages (shown_by given.flags) 2 e c.tell_memory.new.errors) (c.in-Some.ensures.silent refl)
     (status-some g.E.Sink May given.flags.no_messages (shown_by given.flags) c.read_globs.new.errors c.tell_memory.new.errors
     (some-weaker g.E.Sink (IsMessage names) May c.read_globs.new.errors c.tell_memory.new.errors (λ line is. inl (inl is)) (c.tell_memory.ensures.told names)))
-
-pub returns-then-lacks_pattern-clause-told_marks : goal.returns-then-lacks_pattern-clause-told_marks
-returns-then-lacks_pattern-clause-told_marks g c = λ by. absurd (true≢false (sym by ∙ c.lacks_pattern.ensures.by c.if-lacks_pattern.true))
 
 pub returns-in_default-clause-told_marks : goal.returns-in_default-clause-told_marks
 returns-in_default-clause-told_marks g c = λ by.
@@ -123,38 +100,32 @@ returns-then-by_rules-clause-told_marks g c = λ by.
     subst (λ (e : Errors g.row.E.Denot). TellsStatus g.E.Sink IsMarkTold c.args.given.flags.no_messages Nothing c.mark_asked.result e c.mark_asked.new.errors) (c.in-Some.ensures.silent refl)
     (subst (λ (s : Said). TellsStatus g.E.Sink IsMarkTold s.flags.no_messages Nothing c.mark_asked.result c.read_globs.new.errors c.mark_asked.new.errors) c.with_rules-ruled.ensures.ruled c.mark_asked.ensures.told)
 
-pub returns : goal.returns
-returns g c =
+-- and else what was said is searched for
+pub returns-clause-searches : goal.returns-clause-searches
+returns-clause-searches g c = λ by low. record {
+  what = rules_said c.in-Ok.all.items;
+  between = g.R.Read.remaining c.read_globs.new.input;
+  read = read_so g (goal.at.returns-clause-searches g c).After-with_rules-ruled;
+  does = subst (λ (s : Said). SearchesSaid (known_by g.F.Open g.F.Folders c.args.files.now) c.args.screen.now s (g.R.Read.remaining c.read_globs.new.input) (g.R.Read.remaining c.search_asked.new.input) (g.W.Sink.taken c.args.output.now) (g.W.Sink.taken c.search_asked.new.output) c.search_asked.result)
+      c.with_rules-ruled.ensures.ruled (c.search_asked.ensures.searches low);
+}
+
+pub returns-clause-begins : goal.returns-clause-begins
+returns-clause-begins g c = λ by. inr (record {
+  what = rules_said c.in-Ok.all.items;
+  between = g.R.Read.remaining c.read_globs.new.input;
+  read = read_so g (goal.at.returns-clause-begins g c).After-with_rules-ruled;
+  does = subst (λ (s : Said). BeginsSaid (known_by g.F.Open g.F.Folders c.args.files.now) c.args.screen.now s (g.R.Read.remaining c.read_globs.new.input) (g.W.Sink.taken c.args.output.now) (g.W.Sink.taken c.search_asked.new.output))
+      c.with_rules-ruled.ensures.ruled c.search_asked.ensures.begins;
+})
+
+pub returns-clause-told : goal.returns-clause-told
+returns-clause-told g c = λ by.
     let given = said c.args.given in
-    let flags = given.flags in
     let known = known_by g.F.Open g.F.Folders c.args.files.now in
-    let screen = c.args.screen.now in
-    let left = g.R.Read.remaining c.args.input.now in
-    let between = g.R.Read.remaining c.read_globs.new.input in
-    let left' = g.R.Read.remaining c.search_asked.new.input in
-    let held = g.W.Sink.taken c.args.output.now in
-    let held' = g.W.Sink.taken c.search_asked.new.output in
-    let status = c.search_asked.result in
-    let mid = c.read_globs.new.errors in
-    let new = c.search_asked.new.errors in
     let rules = rules_said c.in-Ok.all.items in
-    let read = read_so g (goal.at.returns g c).After-with_rules-ruled in
-    let is = c.with_rules-ruled.ensures.ruled in
-    record {
-      bound = c.search_asked.ensures.bound;
-      patternless = λ by none. absurd (c.lacks_pattern.ensures.some c.if-lacks_pattern.false by none);
-      lacking = λ by none. absurd (c.lacks_pattern.ensures.some c.if-lacks_pattern.false by none);
-      searches = λ by low. record {
-        what = rules;
-        between = between;
-        read = read;
-        does = subst (λ (s : Said). SearchesSaid known screen s between left' held held' status) is (c.search_asked.ensures.searches low);
-      };
-      begins = λ by. inr (record { what = rules; between = between; read = read; does = subst (λ (s : Said). BeginsSaid known screen s between held held') is c.search_asked.ensures.begins });
-      told = λ by. subst (λ (e : Errors g.row.E.Denot). TellsStatus g.E.Sink (MaySaid known left (Some given)) flags.no_messages (shown_by flags) status e new) (c.in-Some.ensures.silent refl)
-          (status-weaker g.E.Sink (MaySay known.tree (ruled given rules) (sources_by given.sources given.operands) (names_by given.sources given.operands)) (MaySaid known left (Some given)) flags.no_messages (shown_by flags) status mid new
-          (may-ruled known left between given rules read) (subst (λ (s : Said). TellsOfSaid g.E.Sink known.tree s status mid new) is c.search_asked.ensures.told));
-      marks = λ by. absurd (true≢false (sym by ∙ c.if-by_rules.false));
-      begins_marks = λ by. absurd (true≢false (sym by ∙ c.if-by_rules.false));
-      told_marks = λ by. absurd (true≢false (sym by ∙ c.if-by_rules.false));
-    }
+    let may = may-ruled known (g.R.Read.remaining c.args.input.now) (g.R.Read.remaining c.read_globs.new.input) given rules (read_so g (goal.at.returns-clause-told g c).After-with_rules-ruled) in
+    subst (λ (e : Errors g.row.E.Denot). TellsStatus g.E.Sink (MaySaid known (g.R.Read.remaining c.args.input.now) (Some given)) given.flags.no_messages (shown_by given.flags) c.search_asked.result e c.search_asked.new.errors) (c.in-Some.ensures.silent refl)
+    (status-weaker g.E.Sink (MaySay known.tree (ruled given rules) (sources_by given.sources given.operands) (names_by given.sources given.operands)) (MaySaid known (g.R.Read.remaining c.args.input.now) (Some given)) given.flags.no_messages (shown_by given.flags)
+    c.search_asked.result c.read_globs.new.errors c.search_asked.new.errors may
+    (subst (λ (s : Said). TellsOfSaid g.E.Sink known.tree s c.search_asked.result c.read_globs.new.errors c.search_asked.new.errors) c.with_rules-ruled.ensures.ruled c.search_asked.ensures.told))
