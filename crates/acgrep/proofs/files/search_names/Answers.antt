@@ -20,9 +20,6 @@ returns-clause-searched g c = λ p is plain low.
     subst (AreSearchedOr p job holds names left left' held held') (sym c.status.ensures.seen)
     (status_seen (search_work p job holds) job.shown names left left' held held' c.search_each-seen.result (c.search_each-seen.ensures.seen p is plain) (subst (λ (n : ℕ). n < 2) c.status.ensures.seen low))
 
-pub returns-clause-begun : goal.returns-clause-begun
-returns-clause-begun g c = λ p is plain. (c.search_each-seen.ensures.seen p is plain).begun
-
 pub returns-in_default-clause-begun : goal.returns-in_default-clause-begun
 returns-in_default-clause-begun g c = λ p is plain.
     begun_none (search_work p c.args.job.now (g.F.Open.holds c.args.files.now)) c.args.job.now.shown false (listed_bytes c.args.names.now) (g.R.Read.remaining c.args.input.now) _ _ (Keeps-refl _)

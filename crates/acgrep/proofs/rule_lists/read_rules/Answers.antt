@@ -10,12 +10,6 @@ use Rattle.acgrep.specs.ToldByRules.{IsMarkTold}
 use Rattle.acgrep.proofs.Gathered.{all_given, next_given}
 use Rattle.acgrep.proofs.rule_lists.read_rules.Goals as goal
 
-pub loop-rest-init : goal.loop-rest-init
-loop-rest-init g c = record {
-  told = refl;
-  so_far = λ left' later read. subst (λ (l : List Rule). AreAllRules (g.F.Open.holds c.args.files.now) (name_bytes c.args.names.now) (g.R.Read.remaining c.args.input.now) left' (l ++ later)) (sym c.new-rules.ensures.items) read;
-}
-
 pub loop-rest-preserved : goal.loop-rest-preserved
 loop-rest-preserved g c =
     let holds = g.F.Open.holds c.args.files.now in
@@ -34,11 +28,3 @@ returns-in-Ok-clause-rules g c =
     let none : length c.loop-rest.rest.now ≡ 0 = grind (arith, common_steps, c.is_empty.ensures, c.loop-rest-test.false) in
     subst (λ (l : List Rule). AreAllRules holds (name_bytes c.args.names.now) (g.R.Read.remaining c.args.input.now) (g.R.Read.remaining c.loop-rest.input) l) (sym c.in-Ok.ensures.rules)
     (all_given (AreNamedRules holds) (name_bytes c.args.names.now) (g.R.Read.remaining c.args.input.now) (λ n. n.now) c.loop-rest.rest.now (g.R.Read.remaining c.loop-rest.input) c.loop-rest.rules.items none c.loop-rest.invariant.so_far)
-
-pub returns-then-not-add_rules-clause-told : goal.returns-then-not-add_rules-clause-told
-returns-then-not-add_rules-clause-told g c = λ none.
-    subst (λ (e : Errors g.row.E.Denot). TellsSome g.E.Sink IsMarkTold e c.add_rules.new.errors) c.loop-rest.invariant.told (c.add_rules.ensures.told c.if-not-add_rules.true)
-
-pub returns-in-Err-clause-told : goal.returns-in-Err-clause-told
-returns-in-Err-clause-told g c = λ none.
-    subst (λ (e : Errors g.row.E.Denot). TellsSome g.E.Sink IsMarkTold e c.tell_refused.new.errors) c.loop-rest.invariant.told c.tell_refused.ensures.told

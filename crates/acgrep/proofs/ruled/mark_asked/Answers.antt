@@ -9,7 +9,3 @@ use Rattle.acgrep.proofs.ruled.mark_asked.Goals as goal
 
 pub returns-in_default-clause-told : goal.returns-in_default-clause-told
 returns-in_default-clause-told g c = status-some g.E.Sink IsMarkTold c.args.given.now.flags.no_messages Nothing c.args.errors.now c.read_rules.new.errors (c.in_default.ensures.told refl)
-
-pub returns-clause-told : goal.returns-clause-told
-returns-clause-told g c =
-    subst (λ (e : Errors g.row.E.Denot). TellsStatus g.E.Sink IsMarkTold c.args.given.now.flags.no_messages Nothing c.search_by.result e c.search_by.new.errors) (c.in-Some.ensures.silent refl) c.search_by.ensures.told

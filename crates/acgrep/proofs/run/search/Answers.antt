@@ -80,12 +80,6 @@ free_plain : (flags : Flags) (kind : MatchKind) (ignore_case : Bool) (words : Li
 free_plain flags kind ignore_case words free number place low within = λ same.
     free number low place (omega arith) within (eq-eqb _ _ (fold_ending flags.null_data ignore_case _ same))
 
-pub search_or_count-requires : goal.search_or_count-requires
-search_or_count-requires g c =
-    let flags = c.args.given.now.flags in
-    let asked = patterns_by_kind (kind_sought flags) flags.ignore_case (pieces_of c.sought-words.result.now) in
-    record { of = (asked, rw c.kind_sought.ensures at c.in-Ok-searcher_of.ensures.of) }
-
 -- the patterns are read and searched for
 pub returns-in-Ok-searcher_of : goal.returns-in-Ok-searcher_of
 returns-in-Ok-searcher_of g c =

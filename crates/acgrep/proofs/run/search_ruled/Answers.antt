@@ -95,11 +95,6 @@ returns-then-by_rules-clause-begins_marks g c = λ by. inr (record {
   does = subst (λ (s : Said). MayBeginAsked (known_by g.F.Open g.F.Folders c.args.files.now) c.args.screen.now s (g.R.Read.remaining c.read_globs.new.input) (g.W.Sink.taken c.args.output.now) (g.W.Sink.taken c.mark_asked.new.output)) c.with_rules-ruled.ensures.ruled c.mark_asked.ensures.begins;
 })
 
-pub returns-then-by_rules-clause-told_marks : goal.returns-then-by_rules-clause-told_marks
-returns-then-by_rules-clause-told_marks g c = λ by.
-    subst (λ (e : Errors g.row.E.Denot). TellsStatus g.E.Sink IsMarkTold c.args.given.flags.no_messages Nothing c.mark_asked.result e c.mark_asked.new.errors) (c.in-Some.ensures.silent refl)
-    (subst (λ (s : Said). TellsStatus g.E.Sink IsMarkTold s.flags.no_messages Nothing c.mark_asked.result c.read_globs.new.errors c.mark_asked.new.errors) c.with_rules-ruled.ensures.ruled c.mark_asked.ensures.told)
-
 -- and else what was said is searched for
 pub returns-clause-searches : goal.returns-clause-searches
 returns-clause-searches g c = λ by low. record {
