@@ -1,7 +1,5 @@
 -- The rules were read, and what was said was done by them.
-use Rattle.std.proofs.Common.{refl, subst}
-use Rattle.tool_parts.specs.declared.errors.Errors.{Errors}
-use Rattle.acgrep.specs.Told.{TellsStatus}
+use Rattle.std.proofs.Common.{refl}
 use Rattle.acgrep.specs.ToldByRules.{IsMarkTold}
 use Rattle.acgrep.specs.declared.options.Shown.TheVariants.{Nothing}
 use Rattle.acgrep.proofs.Told.{status-some}
