@@ -1,7 +1,6 @@
 -- What is written of files whose lines rules mark.
 use Rattle.std.proofs.Common.{◌++◌, ◌==◌, ◌∙◌, ◌∷◌, ◌≡◌, ◌⊎◌, Bool, List, None, Option, Some, [], ap, append-nil, arith, false, inl, inr, refl, subst, sym, true, ℕ}
 use Rattle.std.proofs.KnownBytes.{Appends-trans, Consumes-whole}
-use Rattle.std.proofs.Math.Bool.{and-false, and-true}
 use Rattle.std.proofs.lemmas.Grind.{common_steps}
 use Rattle.std.specs.Io.{StartsWith}
 use Rattle.std.specs.Io.KnownBytes.{Consumes, IsAtEnd, Keeps}
@@ -23,7 +22,7 @@ use Rattle.tool_parts.specs.Names.{is_input}
 use Rattle.acgrep.specs.Files.{BeginsTotal, EndsFile, IsNamed, known_of, shown_name, total_if}
 use Rattle.acgrep.specs.InTurn.{IfBroken, IfSearched}
 use Rattle.acgrep.specs.Marked.{FileAsked, marked_line, marked_lines, marked_shown, pass_behind}
-use Rattle.acgrep.specs.MarkedFiles.{AreFirstGiven, BeginsInput, BeginsMarks, BeginsWalk, ComesInput, ComesMarked, ComesName, HasFirst, HasToldAll, MarksBy, MarksFile, MarksInput, MarksText, TellsAll, WalksGiven, WalksLines, file_asked, file_marked, file_selected, pass_from, seen_lines}
+use Rattle.acgrep.specs.MarkedFiles.{AreFirstGiven, BeginsInput, BeginsMarks, BeginsWalk, ComesName, HasFirst, HasToldAll, MarksBy, MarksFile, MarksInput, MarksText, TellsAll, WalksGiven, WalksLines, file_asked, file_marked, file_selected, pass_from, seen_lines}
 use Rattle.acgrep.specs.Written.{needs_one}
 use Rattle.acgrep.specs.declared.files.Outcome.{Outcome}
 use Rattle.acgrep.specs.declared.files.Outcome.TheVariants.{Unread}
@@ -32,9 +31,8 @@ use Rattle.acgrep.specs.declared.options.Shown.{Shown}
 use Rattle.acgrep.specs.declared.print.Place.{Place}
 use Rattle.acgrep.specs.declared.print.Style.{Style}
 use Rattle.acgrep.specs.declared.job.Job.{Job}
-use Rattle.acgrep.proofs.FilesBegun.{of_kept, total_none}
+use Rattle.acgrep.proofs.FilesBegun.{total_none}
 use Rattle.acgrep.proofs.InTurn.{if_broken, if_searched}
-use Rattle.acgrep.proofs.NamesSearched.{at_file, at_input}
 use Rattle.acgrep.proofs.Streams.{keeps_nil}
 
 -- a stream that has seen no end before is at its end where it sees one
@@ -83,10 +81,14 @@ lines_none asked needs pass _ _ = refl
 starts_nothing : (all part : List ℕ) → all ≡ [] → StartsWith all part → part ≡ []
 starts_nothing all part none starts = grind (arith, common_steps)
 
+-- where no more is known, what is read is too
+kept_read : (known left left' : Option (List ℕ)) (given : List ℕ) → Keeps known left → Consumes left left' given → Consumes known left' given
+kept_read known left left' given kept read = grind (arith, common_steps)
+
 module _ {R W : Type 0} (S : SourceGhosts R) (K : SinkGhosts W) (job : Job) (covering : Covering) (source source' : R) (output output' : W) (known : Option (List ℕ)) (pass' : Pass) (held' : Option (List ℕ))
-    (left : S.remaining source ≡ known) (none : S.empty_reads source ≡ 0) (ends : S.empty_reads source' ≢ 0 → IsAtEnd (S.remaining source')) where
+    (left : Keeps known (S.remaining source)) (none : S.empty_reads source ≡ 0) (ends : S.empty_reads source' ≢ 0 → IsAtEnd (S.remaining source')) where
   reads_given : (given : List ℕ) → Consumes (S.remaining source) (S.remaining source') given → Consumes known (S.remaining source') given
-  reads_given given read = subst (λ bytes. Consumes bytes (S.remaining source') given) left read
+  reads_given given read = kept_read known (S.remaining source) (S.remaining source') given left read
 
   -- a file that was read to its end
   pub file_whole : (asked : FileAsked) → asked ≡ file_asked job covering.rules → WalksGiven S K asked (pass_from job.first) pass' source source' output output' covering → (any : Bool)
@@ -178,97 +180,29 @@ marks_none job covering known held held' kept = record {
     nothing_of None = record { text = []; of = tt; first = (stream_lines [], refl); are = tt }
     nothing_of (Some all) = record { text = all; of = refl; first = (stream_lines all, refl); are = tt }
 
--- whatever more is known of its bytes
-has_known : (covering : Covering) (known left : Option (List ℕ)) (lines : List Line) (runs : List (List Occurrence)) → Keeps known left → HasFirst covering left lines runs → HasFirst covering known lines runs
-has_known covering known left lines runs kept has = grind (arith, common_steps)
-
-file_known : (job : Job) (covering : Covering) (known left held held' : Option (List ℕ)) → Keeps known left → (any : Bool) → MarksFile job covering left held held' any → MarksFile job covering known held held' any
-file_known job covering known left held held' kept any (inl whole) = inl (record {
-  text = whole.text;
-  of = of_kept known left whole.text kept whole.of;
-  runs = whole.runs;
-  are = whole.are;
-  any_is = whole.any_is;
-  written = whole.written;
-})
-file_known job covering known left held held' kept any (inr told) = inr (record {
-  needs = told.needs;
-  is_any = told.is_any;
-  lines = told.lines;
-  runs = told.runs;
-  has = has_known covering known left told.lines told.runs kept told.has;
-  selected = told.selected;
-  written = told.written;
-})
-
-part_known : (job : Job) (covering : Covering) (known left held held' : Option (List ℕ)) → Keeps known left → BeginsMarks job covering left held held' → BeginsMarks job covering known held held'
-part_known job covering known left held held' kept begun = record {
-  lines = begun.lines;
-  runs = begun.runs;
-  has = has_known covering known left begun.lines begun.runs kept begun.has;
-  part = begun.part;
-  begins = begun.begins;
-  count = begun.count;
-  tail = begun.tail;
-  ends = begun.ends;
-  written = begun.written;
-}
-
-pub comes_known : (job : Job) (covering : Covering) (known left held held' : Option (List ℕ)) (outcome : Outcome) → Keeps known left → ComesMarked job covering left held held' outcome → ComesMarked job covering known held held' outcome
-comes_known job covering known left held held' outcome kept comes = record {
-  searched = if_searched outcome _ _ (file_known job covering known left held held' kept) comes.searched;
-  begun = if_broken outcome (part_known job covering known left held held' kept) comes.begun;
-}
-
-pub comes_none : (job : Job) (covering : Covering) (known held held' : Option (List ℕ)) → Keeps held held' → ComesMarked job covering known held held' Unread
-comes_none job covering known held held' kept = record { searched = tt; begun = marks_none job covering known held held' kept }
-
--- the same of standard input
-pub input_none : (job : Job) (covering : Covering) (again : Bool) (known held held' : Option (List ℕ)) → Keeps held held' → ComesInput job covering again known held held' Unread
-input_none job covering true known held held' kept = record { searched = tt; begun = total_none job 0 held held' kept }
-input_none job covering false known held held' kept = record { searched = tt; begun = marks_none job covering known held held' kept }
-
-pub input_again : (job : Job) (covering : Covering) (again : Bool) (known held held' : Option (List ℕ)) (outcome : Outcome) → again ≡ true → IfSearched outcome (EndsFile job 0 held held') → IfBroken outcome (BeginsTotal job 0 held held')
-    → ComesInput job covering again known held held' outcome
-input_again job covering true known held held' outcome is ended begun = record { searched = ended; begun = begun }
-input_again job covering false known held held' outcome is ended begun = absurd (cc)
-
-pub input_first : (job : Job) (covering : Covering) (again : Bool) (known held held' : Option (List ℕ)) (outcome : Outcome) → again ≡ false → ComesMarked job covering known held held' outcome
-    → ComesInput job covering again known held held' outcome
-input_first job covering true known held held' outcome is comes = absurd (cc)
-input_first job covering false known held held' outcome is comes = record { searched = comes.searched; begun = comes.begun }
-
--- what comes of the file of a name: of standard input, or of another
-module _ (job named : Job) (covering : Covering) (holds : List ℕ → Option (List ℕ)) (left : Option (List ℕ)) (read : Bool) (name : List ℕ) (held held' : Option (List ℕ)) (outcome : Outcome)
+-- what comes of the file of a name
+module _ (job named : Job) (covering : Covering) (holds : List ℕ → Option (List ℕ)) (left : Option (List ℕ)) (read : Bool) (name : List ℕ) (held held' : Option (List ℕ))
     (is_named : IsNamed job (shown_name job.label.now name) false named) where
-  pub name_input : is_input name ≡ true → ComesInput named covering read left held held' outcome → ComesName job covering holds left read name held held' outcome
-  name_input is comes =
-      let again : (read && is_input name) ≡ read = ap (λ (b : Bool). read && b) is ∙ and-true read in
-      record {
-        searched = if_searched outcome _ _ (λ any file. record {
-          named = named;
-          is_named = is_named;
-          file = subst (λ (b : Bool). MarksInput named covering b (known_of holds name left) held held' any) (sym again) (at_input (λ k. MarksInput named covering read k held held' any) holds name left is file);
-        }) comes.searched;
-        begun = if_broken outcome (λ file. record {
-          named = named;
-          is_named = is_named;
-          file = subst (λ (b : Bool). BeginsInput named covering b (known_of holds name left) held held') (sym again) (at_input (λ k. BeginsInput named covering read k held held') holds name left is file);
-        }) comes.begun;
-      }
+  -- by whether it is standard input, which was read before
+  pub name_comes : (again : Bool) → (read && is_input name) ≡ again → (outcome : Outcome) → IfSearched outcome (MarksInput named covering again (known_of holds name left) held held')
+      → IfBroken outcome (BeginsInput named covering again (known_of holds name left) held held') → ComesName job covering holds left read name held held' outcome
+  name_comes again is outcome searched begun = record {
+    searched = if_searched outcome _ _ (λ any file. record {
+      named = named;
+      is_named = is_named;
+      file = subst (λ (b : Bool). MarksInput named covering b (known_of holds name left) held held' any) (sym is) file;
+    }) searched;
+    begun = if_broken outcome (λ file. record {
+      named = named;
+      is_named = is_named;
+      file = subst (λ (b : Bool). BeginsInput named covering b (known_of holds name left) held held') (sym is) file;
+    }) begun;
+  }
 
-  pub name_file : is_input name ≡ false → ComesMarked named covering (holds name) held held' outcome → ComesName job covering holds left read name held held' outcome
-  name_file is comes =
-      let again : (read && is_input name) ≡ false = ap (λ (b : Bool). read && b) is ∙ and-false read in
-      record {
-        searched = if_searched outcome _ _ (λ any file. record {
-          named = named;
-          is_named = is_named;
-          file = subst (λ (b : Bool). MarksInput named covering b (known_of holds name left) held held' any) (sym again) (at_file (λ k. MarksFile named covering k held held' any) holds name left is file);
-        }) comes.searched;
-        begun = if_broken outcome (λ file. record {
-          named = named;
-          is_named = is_named;
-          file = subst (λ (b : Bool). BeginsInput named covering b (known_of holds name left) held held') (sym again) (at_file (λ k. BeginsMarks named covering k held held') holds name left is file);
-        }) comes.begun;
-      }
+  -- of one that is not searched
+  pub name_none : Keeps held held' → ComesName job covering holds left read name held held' Unread
+  name_none kept = name_comes (read && is_input name) refl Unread tt (none (read && is_input name))
+    where
+      none : (again : Bool) → BeginsInput named covering again (known_of holds name left) held held'
+      none true = total_none named 0 held held' kept
+      none false = marks_none named covering (known_of holds name left) held held' kept

@@ -16,6 +16,7 @@ pub mod FolderTexts
 pub mod FormatTexts
 pub mod Formatted
 pub mod Fronts
+pub mod Gathered
 pub mod Globbed
 pub mod Grouped
 pub mod HeldLines

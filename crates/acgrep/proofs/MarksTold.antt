@@ -1,23 +1,20 @@
 -- What is told of files whose lines rules mark.
-use Rattle.std.proofs.Common.{◌<◌, ◌==◌, ◌∷◌, ◌≡◌, Bool, List, [], ap, arith, false, inl, inr, length, refl, subst, sym, true, ℕ}
+use Rattle.std.proofs.Common.{◌==◌, ◌∷◌, Bool, List, [], ap, false, inl, inr, refl, subst, true, ℕ}
 use Rattle.std.proofs.lemmas.List.Elements.{All-nil}
 use Rattle.std.specs.Prelude.{if◌then◌else◌}
 use Rattle.aho_devices.specs.declared.device.Sink.{Ghosts as SinkGhosts}
-use Rattle.tool_parts.proofs.Lines.{some-one, some-tells, some-then, some-weaker, tells-then, tells-weaker}
+use Rattle.tool_parts.proofs.Lines.{some-one, some-tells, some-then, some-weaker, tells-then}
 use Rattle.tool_parts.specs.Telling.{Tells, TellsBytes, TellsSome}
 use Rattle.tool_parts.specs.declared.errors.Errors.{Errors}
-use Rattle.acgrep.specs.Arguments.{shown_by}
-use Rattle.acgrep.specs.Reached.{TellsMissed}
-use Rattle.acgrep.specs.Runs.{status_reached}
+use Rattle.acgrep.specs.Files.{IsNamed}
 use Rattle.acgrep.specs.RunsByRules.{long_message, unwritten_line}
 use Rattle.acgrep.specs.Told.{IsMessage, TellsOfEnd, TellsOfOutcome, TellsOutcome, TellsStatus}
 use Rattle.acgrep.specs.ToldByRules.{IsMarkTold}
 use Rattle.acgrep.specs.declared.files.Outcome.{Outcome}
 use Rattle.acgrep.specs.declared.files.Outcome.TheVariants.{Stopped, Unread}
-use Rattle.acgrep.specs.declared.options.Flags.{Flags}
 use Rattle.acgrep.specs.declared.options.Shown.{Shown}
 use Rattle.acgrep.specs.declared.options.Shown.TheVariants.{Nothing}
-use Rattle.acgrep.proofs.Reaching.{reached-quiet, shown-quiet}
+use Rattle.acgrep.specs.declared.job.Job.{Job}
 
 module _ {E : Type 0} (K : SinkGhosts E) where
   -- a message is such a line
@@ -35,23 +32,10 @@ module _ {E : Type 0} (K : SinkGhosts E) where
   pub end-told : (hushed : Bool) (outcome : Outcome) (old new : Errors E) → TellsOfEnd K hushed outcome old new → TellsOutcome K IsMarkTold hushed outcome old new
   end-told hushed outcome old new told = outcome-by [] hushed outcome old new (told [])
 
-  -- what cannot be looked at was told before
-  pub missed-told : (flags : Flags) (unread : List (List ℕ)) (found : ℕ) (old mid new : Errors E) → TellsMissed K flags.no_messages unread old mid
-      → TellsStatus K IsMarkTold flags.no_messages (shown_by flags) found mid new → TellsStatus K IsMarkTold flags.no_messages (shown_by flags) (status_reached flags unread found) old new
-  missed-told flags unread found old mid new before after = by unread refl
-    where
-      first : Tells K IsMarkTold old mid
-      first = tells-weaker K (IsMessage unread) IsMarkTold old mid (λ line is. inl (unread, is)) before.tells
-
-      by : (missed : List (List ℕ)) → unread ≡ missed → TellsStatus K IsMarkTold flags.no_messages (shown_by flags) (status_reached flags missed found) old new
-      by [] none = subst (λ (e : Errors E). TellsStatus K IsMarkTold flags.no_messages (shown_by flags) found e new) (before.none (inr (ap length none))) after
-      by (name ∷ others) some = record {
-        tells = tells-then K IsMarkTold old mid new first after.tells;
-        silent = λ low loud. absurd (loud (shown-quiet flags (reached-quiet flags name others found low)));
-        some = λ asked two.
-            let full : 0 < length unread = subst (λ (l : List (List ℕ)). 0 < length l) (sym some) (omega arith) in
-            some-then K IsMarkTold old mid new (some-told unread old mid (before.some asked full)) after.tells;
-      }
+  -- of the file of a name
+  pub named-told : (job named : Job) (name : List ℕ) → IsNamed job name false named → (outcome : Outcome) (old new : Errors E) → TellsOutcome K IsMarkTold named.hushed outcome old new
+      → TellsOutcome K IsMarkTold job.hushed outcome old new
+  named-told job named name is outcome old new told = subst (λ (b : Bool). TellsOutcome K IsMarkTold b outcome old new) (ap (λ (j : Job). j.hushed) is.is) told
 
   long-tells : (most count : ℕ) (old new : Errors E) → TellsBytes K old new (long_message most count) → Tells K IsMarkTold old new
   long-tells most count old new told = by (count == 0) told

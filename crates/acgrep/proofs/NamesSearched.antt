@@ -1,9 +1,12 @@
 -- What the file of a name has that was searched.
-use Rattle.std.proofs.Common.{◌≡◌, Bool, List, Option, ap, false, refl, subst, sym, true, ℕ}
+use Rattle.std.proofs.Common.{◌≡◌, Bool, List, Option, [], ap, false, refl, subst, sym, true, ℕ}
+use Rattle.std.proofs.KnownBytes.{Consumes-nil}
+use Rattle.std.specs.Prelude.{MatchBool}
 use Rattle.aho_core.specs.Patterns.{Patterns}
 use Rattle.tool_parts.specs.Names.{is_input}
 use Rattle.acgrep.specs.Binary.{is_guarded, lines_sought}
-use Rattle.acgrep.specs.Files.{HasSelected, SearchesName, known_of}
+use Rattle.acgrep.specs.Files.{HasSelected, LeavesInput, SearchesName, known_of}
+use Rattle.acgrep.specs.Filled.{ReadsOn}
 use Rattle.acgrep.specs.Written.{IsSelected, SomeLine}
 use Rattle.acgrep.specs.declared.options.Fit.{Fit}
 use Rattle.acgrep.specs.declared.job.Job.{Job}
@@ -28,3 +31,11 @@ module _ (P : Option (List ℕ) → Type 0) (holds : List ℕ → Option (List �
 
   pub at_file : is_input name ≡ false → P (holds name) → P (known_of holds name left)
   at_file other is = let known : known_of holds name left ≡ holds name = rw other refl in subst P (sym known) is
+
+-- where nothing is read, the input is left as it was
+pub leaves_none : (name : List ℕ) (left : Option (List ℕ)) → LeavesInput name left left
+leaves_none name left = by (is_input name)
+  where
+    by : (input : Bool) → MatchBool input (ReadsOn left left) (left ≡ left)
+    by true = ([], Consumes-nil left)
+    by false = refl

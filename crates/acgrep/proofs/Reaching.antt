@@ -47,11 +47,34 @@ pub reached-bound : (flags : Flags) (unread : List (List ℕ)) (found : ℕ) →
 reached-bound flags unread found bound = grind (arith, common_steps)
 
 -- where something cannot be read it is one under `-q` alone
-pub reached-quiet : (flags : Flags) (name : List ℕ) (names : List (List ℕ)) (found : ℕ) → status_reached flags (name ∷ names) found < 2 → flags.quiet ≡ true
+reached-quiet : (flags : Flags) (name : List ℕ) (names : List (List ℕ)) (found : ℕ) → status_reached flags (name ∷ names) found < 2 → flags.quiet ≡ true
 reached-quiet flags name names found low = grind (arith, common_steps)
 
-pub shown-quiet : (flags : Flags) → flags.quiet ≡ true → shown_by flags ≡ Nothing
+shown-quiet : (flags : Flags) → flags.quiet ≡ true → shown_by flags ≡ Nothing
 shown-quiet flags quiet = rw quiet refl
+
+-- what cannot be read is told, where that may be, and then what a search tells
+module _ {E : Type 0} (K : SinkGhosts E) (P : List ℕ → Type 0) (flags : Flags) (unread : List (List ℕ)) (may : flags.no_messages ≡ false → (line : List ℕ) → IsMessage unread line → P line)
+    (found : ℕ) (old mid new : Errors E) where
+  pub missed-told : TellsMissed K flags.no_messages unread old mid → TellsStatus K P flags.no_messages (shown_by flags) found mid new
+      → TellsStatus K P flags.no_messages (shown_by flags) (status_reached flags unread found) old new
+  missed-told before after = by unread refl
+    where
+      first : Tells K P old mid
+      first = elim (cases_Bool flags.no_messages) [
+        | inl hushed ↦ subst (Tells K P old) (sym (before.none (inl hushed))) (tells-none K P old)
+        | inr asked ↦ tells-weaker K (IsMessage unread) P old mid (may asked) before.tells
+      ]
+
+      by : (missed : List (List ℕ)) → unread ≡ missed → TellsStatus K P flags.no_messages (shown_by flags) (status_reached flags missed found) old new
+      by [] none = subst (λ (e : Errors E). TellsStatus K P flags.no_messages (shown_by flags) found e new) (before.none (inr (ap length none))) after
+      by (name ∷ others) some = record {
+        tells = tells-then K P old mid new first after.tells;
+        silent = λ low loud. absurd (loud (shown-quiet flags (reached-quiet flags name others found low)));
+        some = λ asked two.
+            let full : 0 < length unread = subst (λ (l : List (List ℕ)). 0 < length l) (sym some) (omega arith) in
+            some-then K P old mid new (some-weaker K (IsMessage unread) P old mid (may asked) (before.some asked full)) after.tells;
+      }
 
 module _ (tree : Tree) (given : Said) (names files unread : List (List ℕ)) (reached : AreReached tree given names files unread) where
   more-file : (hushed : Bool) (line : List ℕ) → IsMessage (files_told hushed given.label files) line → IsMessage (if hushed then [] else (shown_names given.label files ++ unread)) line
@@ -69,32 +92,12 @@ module _ (tree : Tree) (given : Said) (names files unread : List (List ℕ)) (re
   may-missed : given.flags.no_messages ≡ false → (line : List ℕ) → IsMessage unread line → MaySay tree given [] names line
   may-missed asked line message = inr (record { files = files; unread = unread; reached = reached; message = more-missed given.flags.no_messages line asked message })
 
-  module _ {E : Type 0} (K : SinkGhosts E) (old mid new : Errors E) (found : ℕ) where
-    -- what cannot be read is told, and then what a search tells
-    pub reached-told : TellsMissed K given.flags.no_messages unread old mid → TellsStatus K (IsMessage (files_told given.flags.no_messages given.label files)) given.flags.no_messages (shown_by given.flags) found mid new
-        → TellsStatus K (MaySay tree given [] names) given.flags.no_messages (shown_by given.flags) (status_reached given.flags unread found) old new
-    reached-told before after = by unread refl
-      where
-        later : Tells K (MaySay tree given [] names) mid new
-        later = tells-weaker K (IsMessage (files_told given.flags.no_messages given.label files)) (MaySay tree given [] names) mid new may-file after.tells
-
-        first : Tells K (MaySay tree given [] names) old mid
-        first = elim (cases_Bool given.flags.no_messages) [
-          | inl hushed ↦ subst (Tells K (MaySay tree given [] names) old) (sym (before.none (inl hushed))) (tells-none K (MaySay tree given [] names) old)
-          | inr asked ↦ tells-weaker K (IsMessage unread) (MaySay tree given [] names) old mid (may-missed asked) before.tells
-        ]
-
-        by : (missed : List (List ℕ)) → unread ≡ missed → TellsStatus K (MaySay tree given [] names) given.flags.no_messages (shown_by given.flags) (status_reached given.flags missed found) old new
-        by [] none =
-            subst (λ (e : Errors E). TellsStatus K (MaySay tree given [] names) given.flags.no_messages (shown_by given.flags) found e new) (before.none (inr (ap length none)))
-            (status-weaker K (IsMessage (files_told given.flags.no_messages given.label files)) (MaySay tree given [] names) given.flags.no_messages (shown_by given.flags) found mid new may-file after)
-        by (name ∷ others) some = record {
-          tells = tells-then K (MaySay tree given [] names) old mid new first later;
-          silent = λ low loud. absurd (loud (shown-quiet given.flags (reached-quiet given.flags name others found low)));
-          some = λ asked two.
-              let full : 0 < length unread = subst (λ (l : List (List ℕ)). 0 < length l) (sym some) (omega arith) in
-              some-then K (MaySay tree given [] names) old mid new (some-weaker K (IsMessage unread) (MaySay tree given [] names) old mid (may-missed asked) (before.some asked full)) later;
-        }
+  -- and then what a search tells of those that were reached
+  pub reached-told : {E : Type 0} (K : SinkGhosts E) (old mid new : Errors E) (found : ℕ) → TellsMissed K given.flags.no_messages unread old mid
+      → TellsStatus K (IsMessage (files_told given.flags.no_messages given.label files)) given.flags.no_messages (shown_by given.flags) found mid new
+      → TellsStatus K (MaySay tree given [] names) given.flags.no_messages (shown_by given.flags) (status_reached given.flags unread found) old new
+  reached-told K old mid new found before after = missed-told K (MaySay tree given [] names) given.flags unread may-missed found old mid new before
+      (status-weaker K (IsMessage (files_told given.flags.no_messages given.label files)) (MaySay tree given [] names) given.flags.no_messages (shown_by given.flags) found mid new may-file after)
 
 -- what was told of some names, of which these are left
 pub record IsTold {E : Type 0} (K : SinkGhosts E) (all rest : List (List ℕ)) (old new : Errors E) : Type 0 where

@@ -1,5 +1,5 @@
 -- The texts of the files of rules, one after another, and the rules that they hold.
-use Rattle.std.proofs.Common.{◌++◌, ◌-◌, ◌<◌, ◌∙◌, ◌∷◌, ◌≡◌, ◌≤◌, Bool, List, Option, [], ap, append-nil, append_assoc, arith, drop, false, inl, inr, length, refl, subst, sym, take, true, ℕ}
+use Rattle.std.proofs.Common.{◌++◌, ◌-◌, ◌<◌, ◌∙◌, ◌∷◌, ◌≡◌, Bool, List, Option, [], ap, arith, drop, false, inl, inr, length, refl, subst, sym, take, true, ℕ}
 use Rattle.std.proofs.Math.ListN.{get_or}
 use Rattle.std.proofs.lemmas.Bool.{cases_Bool}
 use Rattle.std.proofs.lemmas.List.{take_all}
@@ -26,37 +26,13 @@ module _ (holds : List ℕ → Option (List ℕ)) where
   -- and of all
   rules_of_texts : (rules : List RuleSaid) (left left' : Option (List ℕ)) (texts : List (List ℕ)) → AreTexts holds rules left left' texts → AreRules holds rules left left' (expanded rules texts)
   rules_of_texts [] left left' texts are = (are.0, refl)
-  rules_of_texts (rule ∷ rules) left left' texts (between, text, others, cut, is, are) =
-      rw cut (between, rules_by rule text, expanded rules others, refl, rules_of_text rule left between text is, rules_of_texts rules between left' others are)
+  rules_of_texts (rule ∷ rules) left left' texts (between, first, others, cut, (text, alone, is), are) =
+      rw (cut ∙ ap (λ (l : List (List ℕ)). l ++ others) alone) (between, rules_by rule text, expanded rules others, refl, rules_of_text rule left between text is, rules_of_texts rules between left' others are)
 
   -- texts that were read, and what was put together of them
   pub rules_read : (given slice all : List RuleSaid) (texts found : List (List ℕ)) (left left' : Option (List ℕ)) → slice ≡ given → found ≡ texts → AreTexts holds slice left left' texts
       → all ≡ expanded slice found → AreRules holds given left left' all
   rules_read given slice all texts found left left' same alike are is = rw same at (rw (ap (expanded slice) (sym alike) ∙ sym is) at (rules_of_texts _ _ _ _ are))
-
-  module _ (all : List RuleSaid) (begin : Option (List ℕ)) where
-    -- the texts of the rules so far, and those that are to be read of the others, are those of all
-    abbrev pub AreTextsWith : List RuleSaid → Option (List ℕ) → List (List ℕ) → Type 0
-    AreTextsWith rest left texts = (left' : Option (List ℕ)) (more : List (List ℕ)) → AreTexts holds rest left left' more → AreTexts holds all begin left' (texts ++ more)
-
-    texts_more : (rule : RuleSaid) (rest : List RuleSaid) (left left' : Option (List ℕ)) (old new : List (List ℕ)) → AreTextsWith (rule ∷ rest) left old
-        → (text : List ℕ) × (new ≡ old ++ (text ∷ [])) × IsTextOfRule holds rule left left' text → AreTextsWith rest left' new
-    texts_more rule rest left left' old new before (text, grown, is) end more are =
-        subst (AreTexts holds all begin end) (sym (append_assoc old (text ∷ []) more) ∙ ap (λ (l : List (List ℕ)). l ++ more) (sym grown))
-        (before end (text ∷ more) (left', text, more, refl, is, are))
-
-    -- the first of some rules, and then the others
-    pub texts_next : (rules : List Rule) (other : Rule) (left left' : Option (List ℕ)) (old new : List (List ℕ)) → 1 ≤ length rules → AreTextsWith (rules_said rules) left old
-        → (text : List ℕ) × (new ≡ old ++ (text ∷ [])) × IsTextOfRule holds (rule_said (get_or rules 0 other)) left left' text
-        → AreTextsWith (rules_said (take (length rules - 1) (drop 1 rules))) left' new
-    texts_next [] other left left' old new some before added = absurd (omega (arith, some))
-    texts_next (rule ∷ []) other left left' old new some before added = texts_more (rule_said rule) [] left left' old new before added
-    texts_next (rule ∷ next ∷ rules) other left left' old new some before added =
-        rw (take_all (length (rule ∷ next ∷ rules) - 1) (next ∷ rules) (omega arith)) (texts_more (rule_said rule) (rules_said (next ∷ rules)) left left' old new before added)
-
-    pub texts_end : (rules : List Rule) (left : Option (List ℕ)) (texts : List (List ℕ)) → length rules ≡ 0 → AreTextsWith (rules_said rules) left texts → AreTexts holds all begin left texts
-    texts_end [] left texts none before = subst (AreTexts holds all begin left) (append-nil texts) (before left [] (refl, refl))
-    texts_end (rule ∷ rules) left texts none before = absurd (omega (arith, none))
 
 -- the file of the first rule is one of all, and so are those of the others
 files_cut : (rule : RuleSaid) (rules : List RuleSaid) (all : List (List ℕ)) → AreWithin (rule_files (rule ∷ rules)) all

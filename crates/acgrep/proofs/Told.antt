@@ -5,20 +5,18 @@ use Rattle.std.proofs.lemmas.Bool.{cases_Bool, cases_lt}
 use Rattle.std.proofs.lemmas.Grind.{common_steps}
 use Rattle.std.proofs.lemmas.List.{take_all}
 use Rattle.std.specs.Prelude.{IfSome, MatchBool, if◌then◌else◌, map, nat_lt, slice_index_or}
-use Rattle.std.specs.Str.{is_utf8}
 use Rattle.aho_devices.specs.declared.device.Sink.{Ghosts as SinkGhosts}
 use Rattle.tool_parts.proofs.Lines.{some-one, some-tells, some-then, some-weaker, tells-none, tells-weaker, then-some}
-use Rattle.tool_parts.specs.Messages.{message_of, reason_text}
+use Rattle.tool_parts.specs.Messages.{message_of}
 use Rattle.tool_parts.specs.Names.{IsOneOf}
 use Rattle.tool_parts.specs.Telling.{Tells, TellsBytes, TellsSome}
 use Rattle.tool_parts.specs.declared.errors.Errors.{Errors}
-use Rattle.tool_parts.specs.declared.reason.Reason.{Reason}
 use Rattle.acgrep.specs.Arguments.{Said, origin_of}
 use Rattle.acgrep.specs.Files.{IsNamed, shown_name}
 use Rattle.acgrep.specs.Folders.{Known}
 use Rattle.acgrep.specs.InTurn.{is_enough, seen_after, status_by}
 use Rattle.acgrep.specs.Runs.{origins_of}
-use Rattle.acgrep.specs.Told.{IsMessage, IsToldCause, IsUnopened, MayName, MaySaid, MayTell, TellsIf, TellsOfOutcome, TellsOutcome, TellsStatus, files_told, names_said, no_text_text, shown_names, source_names, unopened_line}
+use Rattle.acgrep.specs.Told.{IsMessage, IsToldCause, IsUnopened, MayName, MaySaid, MayTell, TellsIf, TellsOfOutcome, TellsOutcome, TellsStatus, files_told, names_said, shown_names, source_names}
 use Rattle.acgrep.specs.declared.arguments.Source.{Source}
 use Rattle.acgrep.specs.declared.arguments.Source.TheVariants.{File}
 use Rattle.acgrep.specs.declared.files.Outcome.{Outcome}
@@ -63,15 +61,6 @@ module _ {E : Type 0} (K : SinkGhosts E) (names : List (List ℕ)) where
       → TellsBytes K old new (message_of (codes "acgrep") name line cause) → TellsSome K (IsMessage names) old new
   tells-cause old new name line cause named caused told =
       some-one K (IsMessage names) old new (message_of (codes "acgrep") name line cause) (record { message = record { name = name; line = line; cause = cause }; name = named; cause = caused; is = refl }) told
-
-  -- one of a file that cannot be opened: its name is why where it is not UTF-8
-  pub tells-unopened : (old new : Errors E) (name : List ℕ) (reason : Reason) → MayName names name → TellsBytes K old new (unopened_line name reason) → TellsSome K (IsMessage names) old new
-  tells-unopened old new name reason may told =
-      let Line : Bool → Type 0 = λ (b : Bool). TellsBytes K old new (message_of (codes "acgrep") (Some name) None (if b then reason_text reason else no_text_text)) in
-      elim (cases_Bool (is_utf8 name)) [
-        | inl is ↦ tells-cause old new (Some name) None (reason_text reason) may (inl (inl (reason, refl))) (subst Line is told)
-        | inr other ↦ tells-cause old new (Some name) None no_text_text may (inr (other, refl)) (subst Line other told)
-      ]
 
 -- an element of a list is among the names of all
 pub among-at : {X : Type 0} (f : X → List ℕ) (xs : List X) (i : ℕ) (d : X) → i < length xs → IsOneOf (f (get_or xs i d)) (map f xs)

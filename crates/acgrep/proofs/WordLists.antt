@@ -1,20 +1,17 @@
 -- The patterns of sources, one after another, as the lines of one text.
-use Rattle.std.proofs.Common.{◌++◌, ◌-◌, ◌<◌, ◌==◌, ◌∙◌, ◌∷◌, ◌≡◌, ◌≤◌, List, Option, [], ap, append-nil, append_assoc, arith, codes, drop, false, inl, inr, length, refl, subst, suc, sym, take, true, ℕ}
+use Rattle.std.proofs.Common.{◌++◌, ◌-◌, ◌<◌, ◌==◌, ◌∙◌, ◌∷◌, ◌≡◌, List, Option, [], ap, arith, codes, drop, false, inl, inr, length, refl, subst, suc, sym, true, ℕ}
 use Rattle.std.proofs.KnownBytes.{starts_with_rest}
-use Rattle.std.proofs.Math.ListN.{get_or}
 use Rattle.std.proofs.lemmas.Bool.{cases_Bool}
 use Rattle.std.proofs.lemmas.Grind.{common_steps}
-use Rattle.std.proofs.lemmas.List.{take_all}
 use Rattle.std.specs.Io.{StartsWith}
 use Rattle.std.specs.Io.KnownBytes.{Consumes, IsAtEnd, Keeps}
 use Rattle.std.specs.Prelude.{IfSome}
 use Rattle.memchr.specs.Find.{Nowhere}
 use Rattle.tool_parts.specs.Names.{is_input}
-use Rattle.acgrep.specs.Arguments.{Origin, origin_of}
 use Rattle.acgrep.specs.Lines.{EndsLine, IsEnding, joined_to, lines}
-use Rattle.acgrep.specs.Loading.{AddsText, AddsWords}
-use Rattle.acgrep.specs.Runs.{AreWords, origins_of}
-use Rattle.acgrep.specs.declared.arguments.Source.{Source}
+use Rattle.acgrep.specs.Gathered.{Adds}
+use Rattle.acgrep.specs.Loading.{AddsText}
+use Rattle.acgrep.specs.Runs.{AreOf}
 use Rattle.acgrep.proofs.FirstLines.{lines_joined}
 use Rattle.acgrep.proofs.LineLists.{lines_append}
 
@@ -66,7 +63,7 @@ module _ (holds : List ℕ → Option (List ℕ)) where
 
   -- the text of a file adds its lines
   pub file_words : (name : List ℕ) (left left' : Option (List ℕ)) (old between new : List ℕ) → EndsLine 10 old → AddsText holds name left left' old between → lines 10 new ≡ lines 10 between
-      → AddsWords holds (record { is_file = true; bytes = name }) left left' (lines 10 old) (lines 10 new)
+      → Adds (AreOf holds (record { is_file = true; bytes = name }) left left') (lines 10 old) (lines 10 new)
   file_words name left left' old between new ends added same = record {
     more = lines 10 added.text;
     grown = same ∙ ap (lines 10) added.grown ∙ lines_append 10 old added.text ends;
@@ -75,32 +72,9 @@ module _ (holds : List ℕ → Option (List ℕ)) where
 
   -- a text adds its lines
   pub text_words : (text old new : List ℕ) (left : Option (List ℕ)) → EndsLine 10 old → new ≡ old ++ (text ++ codes "\n")
-      → AddsWords holds (record { is_file = false; bytes = text }) left left (lines 10 old) (lines 10 new)
+      → Adds (AreOf holds (record { is_file = false; bytes = text }) left left) (lines 10 old) (lines 10 new)
   text_words text old new left ends added = record {
     more = lines 10 (text ++ codes "\n");
     grown = ap (lines 10) added ∙ lines_append 10 old (text ++ codes "\n") ends;
     of = (refl, refl);
   }
-
-  module _ (all : List Origin) (begin : Option (List ℕ)) where
-    -- what the sources so far gave, and what the others are to give, is what all give
-    abbrev pub AreWordsWith : List Origin → Option (List ℕ) → List (List ℕ) → Type 0
-    AreWordsWith rest left words = (left' : Option (List ℕ)) (more : List (List ℕ)) → AreWords holds rest left left' more → AreWords holds all begin left' (words ++ more)
-
-    words_more : (source : Origin) (rest : List Origin) (left left' : Option (List ℕ)) (old new : List (List ℕ)) → AreWordsWith (source ∷ rest) left old
-        → AddsWords holds source left left' old new → AreWordsWith rest left' new
-    words_more source rest left left' old new before added end more are =
-        subst (AreWords holds all begin end) (sym (append_assoc old added.more more) ∙ ap (λ (l : List (List ℕ)). l ++ more) (sym added.grown))
-        (before end (added.more ++ more) (left', added.more, more, refl, added.of, are))
-
-    -- the first of some sources, and then the others
-    pub words_next : (sources : List Source) (other : Source) (left left' : Option (List ℕ)) (old new : List (List ℕ)) → 1 ≤ length sources → AreWordsWith (origins_of sources) left old
-        → AddsWords holds (origin_of (get_or sources 0 other)) left left' old new → AreWordsWith (origins_of (take (length sources - 1) (drop 1 sources))) left' new
-    words_next [] other left left' old new some before added = absurd (omega (arith, some))
-    words_next (source ∷ []) other left left' old new some before added = words_more (origin_of source) [] left left' old new before added
-    words_next (source ∷ next ∷ sources) other left left' old new some before added =
-        rw (take_all (length (source ∷ next ∷ sources) - 1) (next ∷ sources) (omega arith)) (words_more (origin_of source) (origins_of (next ∷ sources)) left left' old new before added)
-
-    pub words_end : (sources : List Source) (left : Option (List ℕ)) (words : List (List ℕ)) → length sources ≡ 0 → AreWordsWith (origins_of sources) left words → AreWords holds all begin left words
-    words_end [] left words none before = subst (AreWords holds all begin left) (append-nil words) (before left [] (refl, refl))
-    words_end (source ∷ sources) left words none before = absurd (omega (arith, none))

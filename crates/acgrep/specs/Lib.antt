@@ -11,6 +11,7 @@ pub mod Files
 pub mod Filled
 pub mod Folders
 pub mod Formats
+pub mod Gathered
 pub mod Globs
 pub mod Guarded
 pub mod InTurn

@@ -2,6 +2,7 @@
 use Rattle.std.specs.Prelude.{◌++◌, ◌∷◌, ◌≡◌, List, MatchBool, Option, Vec, [], true, ℕ}
 use Rattle.std.specs.declared.io.traits.Read.{Ghosts as Readers}
 use Rattle.acgrep.specs.Arguments.{Origin}
+use Rattle.acgrep.specs.Gathered.{Adds, AllGive}
 use Rattle.acgrep.specs.Lines.{lines}
 use Rattle.acgrep.specs.Listed.{listed_bytes}
 use Rattle.acgrep.specs.Rules.{RuleSaid, is_from_file, rule_said, rules_said}
@@ -17,12 +18,6 @@ pub record AddsText (holds : List ℕ → Option (List ℕ)) (name : List ℕ) (
   pub grown : new ≡ old ++ text
   pub is : IsTextOf holds name left left' text
 
--- the patterns of a source are added to others
-pub record AddsWords (holds : List ℕ → Option (List ℕ)) (source : Origin) (left left' : Option (List ℕ)) (old new : List (List ℕ)) : Type 0 where
-  pub more : List (List ℕ)
-  pub grown : new ≡ old ++ more
-  pub of : AreOf holds source left left' more
-
 -- a source that is the file of this name
 abbrev pub file_origin : List ℕ → Origin
 file_origin name = record { is_file = true; bytes = name }
@@ -31,11 +26,12 @@ file_origin name = record { is_file = true; bytes = name }
 abbrev pub IsTextOfRule : (List ℕ → Option (List ℕ)) → RuleSaid → (left left' : Option (List ℕ)) → List ℕ → Type 0
 IsTextOfRule holds rule left left' text = MatchBool (is_from_file rule.sense) (IsTextOf holds rule.glob left left' text) ((left' ≡ left) × (text ≡ []))
 
+abbrev pub GivesText : (List ℕ → Option (List ℕ)) → RuleSaid → (left left' : Option (List ℕ)) → List (List ℕ) → Type 0
+GivesText holds rule left left' texts = (text : List ℕ) × (texts ≡ text ∷ []) × IsTextOfRule holds rule left left' text
+
 -- those of rules, one after another
 abbrev pub AreTexts : (List ℕ → Option (List ℕ)) → List RuleSaid → (left left' : Option (List ℕ)) → (texts : List (List ℕ)) → Type 0
-AreTexts holds [] left left' texts = (left' ≡ left) × (texts ≡ [])
-AreTexts holds (rule ∷ rules) left left' texts = (between : Option (List ℕ)) × (text : List ℕ) × (others : List (List ℕ))
-    × (texts ≡ text ∷ others) × IsTextOfRule holds rule left between text × AreTexts holds rules between left' others
+AreTexts holds rules left left' texts = AllGive (GivesText holds) rules left left' texts
 
 -- files are opened by one value, and standard input is read from another
 module _ {F X R : Type 0} (openers : Openers F X) (readers : Readers R) (files : F) where
@@ -47,7 +43,7 @@ module _ {F X R : Type 0} (openers : Openers F X) (readers : Readers R) (files :
   -- those of a source are added to others
   abbrev pub AddsSource : Origin → R → R → Keys → Keys → Type 0
   AddsSource source input input' old new =
-      AddsWords (openers.holds files) source (readers.remaining input) (readers.remaining input') (lines 10 old.text.items) (lines 10 new.text.items)
+      Adds (AreOf (openers.holds files) source (readers.remaining input) (readers.remaining input')) (lines 10 old.text.items) (lines 10 new.text.items)
 
   -- the text of a file is added to bytes
   abbrev pub AddsFile : List ℕ → R → R → List ℕ → List ℕ → Type 0

@@ -6,12 +6,19 @@ use Rattle.tool_parts.specs.declared.options.found.Found.{Found}
 use Rattle.tool_parts.specs.declared.options.found.Found.TheVariants.{Begun, Several, Unknown, Whole}
 use Rattle.acgrep.specs.declared.long.Long.{Long}
 use Rattle.acgrep.specs.declared.long.Long.TheVariants.{Plain, Takes, When}
+use Rattle.acgrep.specs.declared.long.Row.{Row}
+use Rattle.acgrep.specs.declared.long.Row.TheVariants.{Either, One}
 use Rattle.acgrep.specs.declared.all_options.Valued.TheVariants.{After, Around, Before, BinaryFiles, Devices, Excluded, ExcludedFolder, ExcludedFrom, FirstLine, Folders, Format, Included, Kind, Label, LineLimit, MaxCount, Offset, PatternFile, Regexp, RuleFile, Separator}
 use Rattle.acgrep.specs.declared.all_options.Switch.TheVariants.{Counts, Follow, Help, IgnoreCase, InitialTab, Invert, Json, MatchCase, NoMatchOk, NoMessages, NoName, NoSeparator, NullData, NullNames, Numbers, Offsets, OnlyLacking, OnlyMatching, OnlyNames, Quiet, Recursive, Same, Tallies, Text, Version, WholeLines, WholeWords, WithName}
 
--- the options that grep has too: those that say what is searched for
-abbrev pub pattern_options : List (Named Long)
-pattern_options = named (codes "regexp") (Takes Regexp)
+-- an option with its long names
+abbrev pub named_by : Row → Named Long
+named_by (One name means) = named name.now means
+named_by (Either one other means) = named_either one.now other.now means
+
+-- the options that grep has too
+abbrev pub shared_options : List (Named Long)
+shared_options = named (codes "regexp") (Takes Regexp)
     ∷ named (codes "file") (Takes PatternFile)
     ∷ named (codes "ignore-case") (Plain IgnoreCase)
     ∷ named (codes "no-ignore-case") (Plain MatchCase)
@@ -22,11 +29,7 @@ pattern_options = named (codes "regexp") (Takes Regexp)
     ∷ named (codes "text") (Plain Text)
     ∷ named (codes "binary") (Plain Same)
     ∷ named (codes "binary-files") (Takes BinaryFiles)
-    ∷ []
-
--- those that say what is written
-abbrev pub output_options : List (Named Long)
-output_options = named (codes "count") (Plain Counts)
+    ∷ named (codes "count") (Plain Counts)
     ∷ named (codes "files-with-matches") (Plain OnlyNames)
     ∷ named (codes "files-without-match") (Plain OnlyLacking)
     ∷ named (codes "null") (Plain NullNames)
@@ -41,30 +44,18 @@ output_options = named (codes "count") (Plain Counts)
     ∷ named (codes "with-filename") (Plain WithName)
     ∷ named (codes "no-filename") (Plain NoName)
     ∷ named (codes "max-count") (Takes MaxCount)
-    ∷ []
-
--- those that say which lines are written around selected ones
-abbrev pub context_options : List (Named Long)
-context_options = named (codes "after-context") (Takes After)
+    ∷ named (codes "after-context") (Takes After)
     ∷ named (codes "before-context") (Takes Before)
     ∷ named (codes "context") (Takes Around)
     ∷ named (codes "no-group-separator") (Plain NoSeparator)
     ∷ named (codes "group-separator") (Takes Separator)
-    ∷ []
-
--- those that say which files are searched
-abbrev pub file_options : List (Named Long)
-file_options = named (codes "include") (Takes Included)
+    ∷ named (codes "include") (Takes Included)
     ∷ named (codes "exclude") (Takes Excluded)
     ∷ named (codes "exclude-from") (Takes ExcludedFrom)
     ∷ named (codes "exclude-dir") (Takes ExcludedFolder)
     ∷ named (codes "directories") (Takes Folders)
     ∷ named (codes "devices") (Takes Devices)
-    ∷ []
-
--- and all others
-abbrev pub other_options : List (Named Long)
-other_options = named_either (codes "color") (codes "colour") When
+    ∷ named_either (codes "color") (codes "colour") When
     ∷ named (codes "recursive") (Plain Recursive)
     ∷ named (codes "dereference-recursive") (Plain Follow)
     ∷ named (codes "no-messages") (Plain NoMessages)
@@ -89,7 +80,7 @@ own_options = named (codes "kind") (Takes Kind)
 
 -- what a name means among those that grep has too
 unfoldable pub shared_by : List ℕ → Found Long
-shared_by asked = found_among other_options asked (found_among file_options asked (found_among context_options asked (found_among output_options asked (found_among pattern_options asked Unknown))))
+shared_by asked = found_among shared_options asked Unknown
 
 -- where none of them has a name that begins so, it is one of the others, or begins it
 abbrev pub or_own : Found Long → List ℕ → Found Long

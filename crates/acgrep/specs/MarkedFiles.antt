@@ -117,10 +117,6 @@ MarksInput job covering again known held held' any = MatchBool again (EndsFile j
 abbrev pub BeginsInput : Job → Covering → (again : Bool) → (known held held' : Option (List ℕ)) → Type 0
 BeginsInput job covering again known held held' = MatchBool again (BeginsTotal job 0 held held') (BeginsMarks job covering known held held')
 
-pub record ComesInput (job : Job) (covering : Covering) (again : Bool) (known held held' : Option (List ℕ)) (outcome : Outcome) : Type 0 where
-  pub searched : IfSearched outcome (MarksInput job covering again known held held')
-  pub begun : IfBroken outcome (BeginsInput job covering again known held held')
-
 -- what is written of the file of a name; `left` is what the input has left at first, and `read` says whether it was read before
 pub record MarksName (job : Job) (covering : Covering) (holds : List ℕ → Option (List ℕ)) (left : Option (List ℕ)) (read : Bool) (name : List ℕ) (held held' : Option (List ℕ)) (any : Bool) : Type 0 where
   pub named : Job
@@ -204,10 +200,5 @@ abbrev pub IfMarks : {A : Type 0} → Automata A → LineCover A → (Covering �
 IfMarks G cover Holds = (covering : Covering) → MarksBy G cover covering → Holds covering
 
 -- what comes of a file of these bytes, whatever it marks by
-module _ {W A : Type 0} (G : Automata A) (K : SinkGhosts W) (marking : Marking A) (job : Job) where
-  abbrev pub MarksBytes : Option (List ℕ) → W → W → Outcome → Type 0
-  MarksBytes known output output' outcome = IfMarks G marking.cover (λ covering. ComesMarked job covering known (K.taken output) (K.taken output') outcome)
-
-  -- and of standard input
-  abbrev pub MarksAgain : (again : Bool) → Option (List ℕ) → W → W → Outcome → Type 0
-  MarksAgain again known output output' outcome = IfMarks G marking.cover (λ covering. ComesInput job covering again known (K.taken output) (K.taken output') outcome)
+abbrev pub MarksBytes : {W A : Type 0} → Automata A → SinkGhosts W → Marking A → Job → Option (List ℕ) → W → W → Outcome → Type 0
+MarksBytes G K marking job known output output' outcome = IfMarks G marking.cover (λ covering. ComesMarked job covering known (K.taken output) (K.taken output') outcome)

@@ -14,6 +14,7 @@ use Rattle.acgrep.specs.Binary.{is_guarded, takes_text, writes_lines}
 use Rattle.acgrep.specs.Colors.{colors_by, palette_of}
 use Rattle.acgrep.specs.Files.{AreFilesBegun, AreSearchedOr}
 use Rattle.acgrep.specs.Folders.{AreBelow, AreChosen, Known, Tree, passes}
+use Rattle.acgrep.specs.Gathered.{AllGive}
 use Rattle.acgrep.specs.Lines.{lines}
 use Rattle.acgrep.specs.Listed.{listed_bytes}
 use Rattle.acgrep.specs.Rules.{RuleSaid, is_from_file, rules_in}
@@ -101,9 +102,7 @@ AreOf holds source left left' words =
 
 -- the patterns of all sources, one after another
 abbrev pub AreWords : (List ℕ → Option (List ℕ)) → List Origin → (left left' : Option (List ℕ)) → List (List ℕ) → Type 0
-AreWords holds [] left left' words = (left' ≡ left) × (words ≡ [])
-AreWords holds (source ∷ sources) left left' words = (between : Option (List ℕ)) × (first : List (List ℕ)) × (rest : List (List ℕ))
-    × (words ≡ first ++ rest) × AreOf holds source left between first × AreWords holds sources between left' rest
+AreWords holds sources left left' words = AllGive (AreOf holds) sources left left' words
 
 -- the rules of the file of this name: each line of it is a glob of files that are not searched
 pub record AreRulesOfFile (holds : List ℕ → Option (List ℕ)) (name : List ℕ) (left left' : Option (List ℕ)) (rules : List RuleSaid) : Type 0 where
@@ -118,9 +117,7 @@ AreRulesOf holds rule left left' rules =
 
 -- the rules of which files are searched: those that were said, with those of files in their places
 abbrev pub AreRules : (List ℕ → Option (List ℕ)) → List RuleSaid → (left left' : Option (List ℕ)) → List RuleSaid → Type 0
-AreRules holds [] left left' rules = (left' ≡ left) × (rules ≡ [])
-AreRules holds (said ∷ others) left left' rules = (between : Option (List ℕ)) × (first : List RuleSaid) × (rest : List RuleSaid)
-    × (rules ≡ first ++ rest) × AreRulesOf holds said left between first × AreRules holds others between left' rest
+AreRules holds said left left' rules = AllGive (AreRulesOf holds) said left left' rules
 
 -- what was said, by these rules
 abbrev pub ruled : Said → List RuleSaid → Said

@@ -1,7 +1,7 @@
 -- What a call does by rules, by what its arguments say.
 use Rattle.std.specs.Borrow.{Bor}
 use Rattle.std.specs.Io.KnownBytes.{Keeps}
-use Rattle.std.specs.Prelude.{◌++◌, ◌<◌, ◌==◌, ◌∷◌, ◌≡◌, ◌⊎◌, Bool, List, MatchBool, Option, [], codes, decimal, false, if◌then◌else◌, unwrap_or, ℕ}
+use Rattle.std.specs.Prelude.{◌++◌, ◌<◌, ◌==◌, ◌≡◌, ◌⊎◌, Bool, List, MatchBool, Option, [], codes, decimal, false, if◌then◌else◌, unwrap_or, ℕ}
 use Rattle.std.specs.Str.{bytes_eq}
 use Rattle.std.specs.declared.io.traits.Read.{Ghosts as Readers}
 use Rattle.aho_automaton.specs.declared.automaton.Automaton.{Ghosts as Automata}
@@ -15,6 +15,7 @@ use Rattle.secret_rules.specs.declared.rule.Rule.{Rule}
 use Rattle.tool_parts.specs.Names.{name_bytes}
 use Rattle.acgrep.specs.Arguments.{Said}
 use Rattle.acgrep.specs.Folders.{Known, known_by}
+use Rattle.acgrep.specs.Gathered.{AllGive}
 use Rattle.acgrep.specs.MarkedFiles.{AreMarkedOr, AreMarksBegun, IfMarks}
 use Rattle.acgrep.specs.Runs.{After, AfterRules, IsTextOf, Reached, ReachesAll, status_told}
 use Rattle.acgrep.specs.declared.colors.Screen.{Screen}
@@ -42,15 +43,7 @@ AreNamedRules holds name left left' rules = MatchBool (is_own name) (AreOwnRules
 
 -- those of these names, one after another
 abbrev pub AreAllRules : (List ℕ → Option (List ℕ)) → List (List ℕ) → (left left' : Option (List ℕ)) → List Rule → Type 0
-AreAllRules holds [] left left' rules = (left' ≡ left) × (rules ≡ [])
-AreAllRules holds (name ∷ names) left left' rules = (between : Option (List ℕ)) × (first : List Rule) × (rest : List Rule)
-    × (rules ≡ first ++ rest) × AreNamedRules holds name left between first × AreAllRules holds names between left' rest
-
--- rules are added to others
-pub record AddsRules (Gives : List Rule → Type 0) (old new : List Rule) : Type 0 where
-  pub more : List Rule
-  pub grown : new ≡ old ++ more
-  pub of : Gives more
+AreAllRules holds names left left' rules = AllGive (AreNamedRules holds) names left left' rules
 
 -- how many bytes a line may have
 abbrev pub most_said : Flags → ℕ

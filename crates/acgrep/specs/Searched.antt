@@ -8,7 +8,7 @@ use Rattle.aho_core.specs.Patterns.{Patterns}
 use Rattle.aho_devices.specs.declared.device.Sink.{Ghosts as SinkGhosts}
 use Rattle.chromesquid.specs.Searcher.{IsBuiltFrom, Searcher}
 use Rattle.acgrep.specs.Contexts.{BeginsLines, BeginsSearched, IsChosenBy, SearchesText, ShowsEach, ShowsGroup, WalksBegun, WalksLines, WalksText, walk_of}
-use Rattle.acgrep.specs.Files.{BeginsFile, SearchesFile, SearchesReader}
+use Rattle.acgrep.specs.Files.{BeginsFile, SearchesReader}
 use Rattle.acgrep.specs.Filled.{bytes_buffered}
 use Rattle.acgrep.specs.Guarded.{FindsSelected}
 use Rattle.acgrep.specs.InTurn.{IfBroken, IfSearched}
@@ -99,13 +99,10 @@ module _ {W : Type 0} (sinks : SinkGhosts W) (searcher : Searcher) (job : Job) (
   BeginsOthersBy text result = (p : Patterns) → IsBuiltFrom searcher p → EachLine (HasNone p) (lines job.style.ending text)
       → OnErr result (BeginsLines p job before after.selected (sinks.taken old) (sinks.taken new) (lines job.style.ending text))
 
--- a file was searched, or a beginning of what is asked of it is written
-module _ {W : Type 0} (sinks : SinkGhosts W) (searcher : Searcher) (job : Job) (known : Option (List ℕ)) (old new : W) (outcome : Outcome) where
-  abbrev pub SearchesFileBy : Type 0
-  SearchesFileBy = ForLines job.style.ending (IsBuiltFrom searcher) (λ p. IfSearched outcome (SearchesFile p job known (sinks.taken old) (sinks.taken new)))
-
-  abbrev pub BeginsFileBy : Type 0
-  BeginsFileBy = ForLines job.style.ending (IsBuiltFrom searcher) (λ p. IfBroken outcome (BeginsFile p job known (sinks.taken old) (sinks.taken new)))
+-- a beginning of what is asked of a file is written
+abbrev pub BeginsFileBy : {W : Type 0} → SinkGhosts W → Searcher → Job → (known : Option (List ℕ)) → W → W → Outcome → Type 0
+BeginsFileBy sinks searcher job known old new outcome =
+    ForLines job.style.ending (IsBuiltFrom searcher) (λ p. IfBroken outcome (BeginsFile p job known (sinks.taken old) (sinks.taken new)))
 
 -- all that a reader has left was searched
 abbrev pub SearchesReaderBy : {R W : Type 0} → Readers R → SinkGhosts W → Searcher → Job → R → R → W → W → Outcome → Type 0

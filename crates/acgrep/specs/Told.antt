@@ -54,13 +54,6 @@ zero_text = codes "the pattern holds a zero byte, which ends a line under -z"
 abbrev pub no_text_text : List ℕ
 no_text_text = codes "its name is not UTF-8, so it cannot be opened"
 
--- why a file of this name cannot be opened
-abbrev pub unopened_by : List ℕ → Reason → List ℕ
-unopened_by name reason = if is_utf8 name then reason_text reason else no_text_text
-
-abbrev pub unopened_line : List ℕ → Reason → List ℕ
-unopened_line name reason = message_by (codes "acgrep") (record { name = Some name; line = None; cause = unopened_by name reason })
-
 -- its name is why, and it is told only where that is so
 abbrev pub IsUnopened : Option (List ℕ) → List ℕ → Type 0
 IsUnopened None cause = ⊥

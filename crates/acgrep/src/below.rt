@@ -20,7 +20,7 @@ use crate::folders::Folders;
 use crate::job::job_of;
 use crate::open::Open;
 use crate::options::Flags;
-use crate::tell::{tell_memory, tell_missed};
+use crate::tell::{tell_file, tell_memory};
 use crate::walk::{Found, Unread, walk};
 use chromesquid::{AhoCorasick, Sink};
 use std::alloc::Global;
@@ -125,7 +125,7 @@ fn tell_each<E: Sink>(hushed: bool, unread: &[Unread], errors: &mut Errors<'_, E
     }
     let mut rest = unread;
     while let Some((first, behind)) = rest.split_first() {
-        tell_missed(first.name.as_slice(), first.reason, errors);
+        tell_file(first.name.as_slice(), first.why, errors);
         rest = behind;
     }
 }

@@ -21,22 +21,28 @@ pub enum Stop {
 /// The system's number for a descriptor that is closed, or not open for what is asked of it.
 const NO_DESCRIPTOR: i32 = 9;
 
-/// Why standard input cannot be read at all.
+/// Why a file is not searched, or not to its end.
 #[derive(Clone, Copy)]
-pub enum Unusable {
-    /// It is closed, or open for writing alone.
-    Closed,
+pub enum Obstacle {
+    /// The output goes to it.
+    Output,
+    /// It is a folder that stands in itself.
+    Loop,
+    /// It is standard input, which is closed, or open for writing alone.
+    NoInput,
+    /// It cannot be opened or looked at, for this reason.
+    Closed(Reason),
     /// It cannot be read, for this reason.
     Fault(Reason),
 }
 
-impl Unusable {
-    /// What an error of a read tells.
-    pub fn of(error: &io::Error) -> Unusable {
+impl Obstacle {
+    /// What an error of a read of standard input tells.
+    pub fn of_input(error: &io::Error) -> Obstacle {
         if error.raw_os_error() == Some(NO_DESCRIPTOR) {
-            return Unusable::Closed;
+            return Obstacle::NoInput;
         }
-        Unusable::Fault(Reason::of(error))
+        Obstacle::Fault(Reason::of(error))
     }
 }
 

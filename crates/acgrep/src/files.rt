@@ -10,26 +10,25 @@ ghost use Rattle.acgrep.specs.Told.{IsMessage, TellsIf, TellsOfEnd, TellsOfFiles
 ghost use Rattle.acgrep.specs.Files.{AreFilesBegun, AreSearchedOr, BeginsName, BeginsTotal, EndsFile, IsNamed, LeavesInput, SearchesName, search_work, shown_name, total_if};
 ghost use Rattle.acgrep.specs.InTurn.{AreSeen, IfBroken, IfSearched, is_enough, nothing_seen, seen_after, status_by};
 ghost use Rattle.acgrep.specs.Printed.{Puts};
-ghost use Rattle.acgrep.specs.Searched.{BeginsFileBy, SearchesFileBy, SearchesReaderBy};
+ghost use Rattle.acgrep.specs.Searched.{BeginsFileBy, SearchesReaderBy};
 ghost use Rattle.acgrep.specs.Selected.{ForJob};
 
 use crate::buffer::Buffer;
 use crate::failure::Stop;
 use crate::guarded::search_guarded;
 use crate::job::{Job, State};
-use crate::keys::open_named;
 use crate::open::{Open, is_input};
+use crate::opening::{input_obstacle, open_other, pass_over};
 use crate::options::Shown;
 use crate::print::{put_count, put_name};
 use crate::stream::search_front;
 use crate::tell::tell_memory;
-use crate::unread::{tell_closed, tell_same, tell_stop, tell_total, tell_unreadable};
+use crate::unread::{tell_stop, tell_total};
 use chromesquid::{AhoCorasick, Sink, write_whole};
 use std::alloc::Global;
+use std::io;
 use std::io::{Read, Write};
-use std::{io, str};
 use tool_parts::errors::Errors;
-use tool_parts::reason::Reason;
 
 /// The files of a call.
 #[derive(Clone, Copy)]
@@ -101,7 +100,8 @@ impl Seen {
 
     /// The status of a call: an error goes before all but a selected line under `-q`.
     pub fn status(self, shown: Shown) -> u8
-        ensures { result ≡ status_by shown self }
+        ensures seen { result ≡ status_by shown self }
+        ensures bound { result ≤ 2 }
     {
         if is_enough(shown, self.selected) {
             0
@@ -251,110 +251,25 @@ fn search_name<F: Open, R: Read, W: Sink, E: Sink>(
         errors.old errors.new }
 {
     let named = job_for(job, shown_name(job, name), follows);
-    if is_input(name) {
-        return search_input(
-            searcher, &named, files, buffer, input, state, page, output, errors,
-        );
-    }
-    search_named(
-        searcher, &named, files, name, buffer, state, page, output, errors,
-    )
-}
-
-/// Opens the file of a name and searches it.
-fn search_named<F: Open, W: Sink, E: Sink>(
-    searcher: &AhoCorasick,
-    job: &Job<'_>,
-    files: &F,
-    name: &[u8],
-    buffer: &mut Buffer,
-    state: &mut State,
-    page: &mut Vec<u8>,
-    output: &mut W,
-    errors: &mut Errors<'_, E>,
-) -> Outcome
-    requires of { IsBuiltFromSome searcher.now }
-    ensures searched { SearchesFileBy W.Sink searcher.now job.now
-        (F.holds files.now name.now) output.old output.new result }
-    ensures begun { BeginsFileBy W.Sink searcher.now job.now
-        (F.holds files.now name.now) output.old output.new result }
-    ensures told { TellsOfOutcome E.Sink job.now.hushed job.now.style.name.now result
-        errors.old errors.new }
-{
-    if writes_into(job, files, name) {
-        let _ = output.flush();
-        tell_same(job, errors);
-        return Outcome::Unread;
-    }
-    match open_named(files, name) {
-        Ok(mut file) => search_one(
-            searcher, job, buffer, &mut file, state, page, output, errors,
-        ),
-        Err(error) => {
-            let _ = output.flush();
-            tell_closed(job, Reason::of(&error), errors);
-            Outcome::Unread
+    let why = if is_input(name) {
+        match input_obstacle(&named, files) {
+            Some(why) => why,
+            None => {
+                return search_one(searcher, &named, buffer, input, state, page, output, errors);
+            }
         }
-    }
-}
-
-/// Searches standard input, unless the output goes to it.
-fn search_input<F: Open, R: Read, W: Sink, E: Sink>(
-    searcher: &AhoCorasick,
-    job: &Job<'_>,
-    files: &F,
-    buffer: &mut Buffer,
-    input: &mut R,
-    state: &mut State,
-    page: &mut Vec<u8>,
-    output: &mut W,
-    errors: &mut Errors<'_, E>,
-) -> Outcome
-    requires of { IsBuiltFromSome searcher.now }
-    ensures searched { SearchesReaderBy R.Read W.Sink searcher.now job.now
-        input.old input.new output.old output.new result }
-    ensures begun { BeginsFileBy W.Sink searcher.now job.now
-        (R.remaining input.old) output.old output.new result }
-    ensures reads { ReadsOn (R.remaining input.old) (R.remaining input.new) }
-    ensures told { TellsOfOutcome E.Sink job.now.hushed job.now.style.name.now result
-        errors.old errors.new }
-{
-    if writes_into(job, files, b"/dev/stdin") {
-        let _ = output.flush();
-        tell_same(job, errors);
-        return Outcome::Unread;
-    }
-    // Where it cannot be read at all, nothing is told of its lines.
-    if let Some(why) = files.unusable_input() {
-        let _ = output.flush();
-        tell_unreadable(job, why, errors);
-        return Outcome::Unread;
-    }
-    search_one(searcher, job, buffer, input, state, page, output, errors)
-}
-
-/// Whether several lines of the file of this name may be written to it.
-pub fn writes_into<F: Open>(job: &Job<'_>, files: &F, name: &[u8]) -> bool {
-    match job.most {
-        Some(most) if most < 2 => false,
-        _ => !job.late && writes_lines(job.shown) && is_output(files, name),
-    }
-}
-
-/// Whether lines are written, and not what is told of a file as a whole.
-fn writes_lines(shown: Shown) -> bool {
-    match shown {
-        Shown::Lines | Shown::Matches | Shown::Objects => true,
-        Shown::Count | Shown::Names | Shown::Lacking | Shown::Nothing => false,
-    }
-}
-
-/// Whether the output goes to the file of a name.
-fn is_output<F: Open>(files: &F, name: &[u8]) -> bool {
-    match str::from_utf8(name) {
-        Ok(text) => files.is_output(text),
-        Err(_) => false,
-    }
+    } else {
+        match open_other(&named, files, name) {
+            Err(why) => why,
+            Ok(mut file) => {
+                return search_one(
+                    searcher, &named, buffer, &mut file, state, page, output, errors,
+                );
+            }
+        }
+    };
+    pass_over(&named, why, output, errors);
+    Outcome::Unread
 }
 
 /// Searches what a reader gives, and writes what is asked of it.

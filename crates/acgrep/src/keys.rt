@@ -11,10 +11,10 @@ ghost use Rattle.acgrep.specs.Runs.{origins_of};
 ghost use Rattle.acgrep.specs.Told.{MayName, TellsOfFile, TellsOfSources, source_names};
 
 use crate::arguments::Source;
-use crate::failure::Unusable;
+use crate::failure::Obstacle;
 use crate::open::{Open, is_input};
 use crate::patterns::Keys;
-use crate::tell::{tell_build, tell_input, tell_memory, tell_unopened, tell_zero};
+use crate::tell::{tell_build, tell_file, tell_memory, tell_zero};
 use chromesquid::{BuildError, Sink};
 use memchr::memchr_iter;
 use std::alloc::Global;
@@ -58,8 +58,8 @@ pub fn tell_source<E: Sink>(source: Source<'_>, error: &io::Error, errors: &mut 
 {
     match source {
         Source::Text(_) => tell_memory(errors),
-        Source::File(name) if is_input(name) => tell_input(name, Unusable::of(error), errors),
-        Source::File(name) => tell_unopened(name, Reason::of(error), errors),
+        Source::File(name) if is_input(name) => tell_file(name, Obstacle::of_input(error), errors),
+        Source::File(name) => tell_file(name, Obstacle::Closed(Reason::of(error)), errors),
     }
 }
 

@@ -38,6 +38,7 @@ mod marking;
 mod matches;
 mod noting;
 mod open;
+mod opening;
 mod options;
 mod patterns;
 mod print;
@@ -58,13 +59,14 @@ mod wrong;
 use bytes::{arguments, variable};
 use chromesquid::FromWrite;
 use colors::Screen;
+use failure::Obstacle;
 use open::System;
 use run::{refuse, run};
 use std::cell::Cell;
 use std::env;
 use std::io::{BufWriter, IsTerminal};
 use std::process::ExitCode;
-use tell::tell_fault;
+use tell::tell_file;
 use tool_parts::closed::{Noted, Quiet};
 use tool_parts::errors::Errors;
 use tool_parts::reason::Reason;
@@ -81,7 +83,7 @@ fn main(rt: HostRuntime) -> ExitCode {
     let reason = Cell::new(None);
     let mut errors = Errors::new(FromWrite::new(Quiet::new(rt.stderr(), &reason)), &reason);
     if let Err(reason) = filled {
-        tell_fault(DEVICE.as_bytes(), reason, &mut errors);
+        tell_file(DEVICE.as_bytes(), Obstacle::Fault(reason), &mut errors);
         return ExitCode::from(2);
     }
     let Ok(given) = arguments(&rt) else {

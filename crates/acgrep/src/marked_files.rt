@@ -1,24 +1,24 @@
 //! Searching the files of a call by rules, one after another.
 
-ghost use Rattle.std.specs.Prelude.{◌≡◌, ◌<◌, ◌≤◌, ◌||◌, false};
+ghost use Rattle.std.specs.Prelude.{◌≡◌, ◌||◌, List, Option, false, ℕ};
+ghost use Rattle.std.specs.Io.KnownBytes.{Keeps};
 ghost use Rattle.tool_parts.specs.Names.{is_input};
 ghost use Rattle.tool_parts.specs.Telling.{TellsSome};
 ghost use Rattle.acgrep.specs.InTurn.{AreSeen};
 ghost use Rattle.acgrep.specs.Listed.{listed_bytes};
-ghost use Rattle.acgrep.specs.MarkedFiles.{AreMarkedOr, AreMarksBegun, ComesName, IfMarks, IsMarking, MarksAgain, MarksBytes, SameMarking, mark_work};
-ghost use Rattle.acgrep.specs.Told.{TellsIf, TellsOfEnd, TellsOfOutcome, TellsOutcome, TellsStatus};
+ghost use Rattle.acgrep.specs.MarkedFiles.{ComesName, IfMarks, IsMarking, MarksBytes, SameMarking, mark_work};
+ghost use Rattle.acgrep.specs.Told.{TellsIf, TellsOutcome};
 ghost use Rattle.acgrep.specs.ToldByRules.{IsMarkTold};
 
 use crate::failure::Stop;
-use crate::files::{Outcome, Seen, break_off, end_file, goes_on, job_for, shown_name, writes_into};
+use crate::files::{Outcome, Seen, break_off, end_file, goes_on, job_for, shown_name};
 use crate::job::Job;
-use crate::keys::open_named;
 use crate::marked::Task;
 use crate::marked_lines::{End, end_of, mark_source};
 use crate::noting::Noting;
 use crate::open::{Open, is_input};
+use crate::opening::{input_obstacle, open_other, pass_over};
 use crate::tell::{PROGRAM, tell_memory};
-use crate::unread::{tell_closed, tell_same, tell_unreadable};
 use chromesquid::{Automaton, FromRead, Sink};
 use rule_files::{RuleFlaw, bad_rule, tell_rule};
 use secret_rules::{LineCover, Rule};
@@ -26,7 +26,6 @@ use std::alloc::Global;
 use std::cell::Cell;
 use std::io::Read;
 use tool_parts::errors::Errors;
-use tool_parts::reason::Reason;
 
 /// What stands for a file in messages about a rule that cannot be used.
 const RULES: &[u8] = b"--rules";
@@ -44,33 +43,9 @@ pub struct Marking<'r, 'a, A> {
     pub long: u64,
 }
 
-/// Searches the files of these names, one after another, and answers the status. A file that cannot be read does not stop the others.
-pub fn mark_names<A: Automaton, F: Open, R: Read, W: Sink, E: Sink>(
-    marking: &mut Marking<'_, '_, A>,
-    job: &Job<'_>,
-    files: &F,
-    names: &[Vec<u8>],
-    input: &mut R,
-    output: &mut W,
-    errors: &mut Errors<'_, E>,
-) -> u8
-    requires ready { IsMarking A.Automaton marking.old }
-    requires unread { marking.old.input_read ≡ false }
-    ensures bound { result ≤ 2 }
-    ensures searched { IfMarks A.Automaton marking.old.cover (λ covering. result < 2
-        → AreMarkedOr job.now covering (F.holds files.now) (R.remaining input.old)
-        (listed_bytes names.now) (W.taken output.old) (W.taken output.new) result) }
-    ensures begun { IfMarks A.Automaton marking.old.cover (λ covering.
-        AreMarksBegun job.now covering (F.holds files.now) (R.remaining input.old)
-        (listed_bytes names.now) (W.taken output.old) (W.taken output.new)) }
-    ensures told { TellsStatus E.Sink IsMarkTold job.now.hushed job.now.shown result errors.old errors.new }
-{
-    let seen = mark_each(marking, job, files, names, input, output, errors);
-    seen.status(job.shown)
-}
-
-/// Searches the files of these names, one after another, and answers what was seen.
-fn mark_each<A: Automaton, F: Open, R: Read, W: Sink, E: Sink>(
+/// Searches the files of these names, one after another, and answers what was seen. A file that cannot be read does not
+/// stop the others.
+pub fn mark_each<A: Automaton, F: Open, R: Read, W: Sink, E: Sink>(
     marking: &mut Marking<'_, '_, A>,
     job: &Job<'_>,
     files: &F,
@@ -105,7 +80,7 @@ fn mark_each<A: Automaton, F: Open, R: Read, W: Sink, E: Sink>(
     seen
 }
 
-/// Searches the file of a name.
+/// Searches the file of a name. Standard input has nothing more where it was read before.
 fn mark_name<A: Automaton, F: Open, R: Read, W: Sink, E: Sink>(
     marking: &mut Marking<'_, '_, A>,
     job: &Job<'_>,
@@ -116,8 +91,10 @@ fn mark_name<A: Automaton, F: Open, R: Read, W: Sink, E: Sink>(
     errors: &mut Errors<'_, E>,
 ) -> Outcome
     requires ready { IsMarking A.Automaton marking.old }
-    ensures comes { IfMarks A.Automaton marking.old.cover (λ covering.
-        ComesName job.now covering (F.holds files.now) (R.remaining input.old) marking.old.input_read name.now
+    // Of standard input it is known what it has left at first, where it was not read before.
+    ensures comes { IfMarks A.Automaton marking.old.cover (λ covering. (left : Option (List ℕ))
+        → (marking.old.input_read ≡ false → R.remaining input.old ≡ left)
+        → ComesName job.now covering (F.holds files.now) left marking.old.input_read name.now
         (W.taken output.old) (W.taken output.new) result) }
     ensures read { marking.new.input_read ≡ (marking.old.input_read || is_input name.now) }
     ensures leaves { is_input name.now ≡ false → input.new ≡ input.old }
@@ -126,78 +103,27 @@ fn mark_name<A: Automaton, F: Open, R: Read, W: Sink, E: Sink>(
     ensures ready { IsMarking A.Automaton marking.new }
 {
     let named = job_for(job, shown_name(job, name), false);
-    if is_input(name) {
-        let again = marking.input_read;
-        marking.input_read = true;
-        return mark_input(marking, &named, files, again, input, output, errors);
-    }
-    mark_named(marking, &named, files, name, output, errors)
-}
-
-/// Opens the file of a name and searches it.
-fn mark_named<A: Automaton, F: Open, W: Sink, E: Sink>(
-    marking: &mut Marking<'_, '_, A>,
-    job: &Job<'_>,
-    files: &F,
-    name: &[u8],
-    output: &mut W,
-    errors: &mut Errors<'_, E>,
-) -> Outcome
-    requires ready { IsMarking A.Automaton marking.old }
-    ensures comes { MarksBytes A.Automaton W.Sink marking.old job.now (F.holds files.now name.now)
-        output.old output.new result }
-    ensures read { marking.new.input_read ≡ marking.old.input_read }
-    ensures told { TellsOutcome E.Sink IsMarkTold job.now.hushed result errors.old errors.new }
-    ensures same { SameMarking marking.old marking.new }
-    ensures ready { IsMarking A.Automaton marking.new }
-{
-    if writes_into(job, files, name) {
-        let _ = output.flush();
-        tell_same(job, errors);
-        return Outcome::Unread;
-    }
-    match open_named(files, name) {
-        Ok(file) => mark_reader(marking, job, file, output, errors),
-        Err(error) => {
-            let _ = output.flush();
-            tell_closed(job, Reason::of(&error), errors);
-            Outcome::Unread
+    let again = marking.input_read;
+    let from_input = is_input(name);
+    marking.input_read |= from_input;
+    let why = if from_input {
+        match input_obstacle(&named, files) {
+            Some(why) => why,
+            None => {
+                if again {
+                    return end_file(&named, 0, output, errors);
+                }
+                return mark_reader(marking, &named, input, output, errors);
+            }
         }
-    }
-}
-
-/// Searches standard input, unless the output goes to it. Where it was read before, it has nothing more.
-fn mark_input<A: Automaton, F: Open, R: Read, W: Sink, E: Sink>(
-    marking: &mut Marking<'_, '_, A>,
-    job: &Job<'_>,
-    files: &F,
-    again: bool,
-    input: &mut R,
-    output: &mut W,
-    errors: &mut Errors<'_, E>,
-) -> Outcome
-    requires ready { IsMarking A.Automaton marking.old }
-    ensures comes { MarksAgain A.Automaton W.Sink marking.old job.now again (R.remaining input.old)
-        output.old output.new result }
-    ensures read { marking.new.input_read ≡ marking.old.input_read }
-    ensures told { TellsOutcome E.Sink IsMarkTold job.now.hushed result errors.old errors.new }
-    ensures same { SameMarking marking.old marking.new }
-    ensures ready { IsMarking A.Automaton marking.new }
-{
-    if writes_into(job, files, b"/dev/stdin") {
-        let _ = output.flush();
-        tell_same(job, errors);
-        return Outcome::Unread;
-    }
-    if let Some(why) = files.unusable_input() {
-        let _ = output.flush();
-        tell_unreadable(job, why, errors);
-        return Outcome::Unread;
-    }
-    if again {
-        return end_file(job, 0, output, errors);
-    }
-    mark_reader(marking, job, input, output, errors)
+    } else {
+        match open_other(&named, files, name) {
+            Err(why) => why,
+            Ok(file) => return mark_reader(marking, &named, file, output, errors),
+        }
+    };
+    pass_over(&named, why, output, errors);
+    Outcome::Unread
 }
 
 /// Searches what a reader gives, and writes what is asked of it.
@@ -209,8 +135,8 @@ fn mark_reader<A: Automaton, R: Read + Drop, W: Sink, E: Sink>(
     errors: &mut Errors<'_, E>,
 ) -> Outcome
     requires ready { IsMarking A.Automaton marking.old }
-    ensures comes { MarksBytes A.Automaton W.Sink marking.old job.now (R.remaining reader)
-        output.old output.new result }
+    ensures comes { (known : Option (List ℕ)) → Keeps known (R.remaining reader)
+        → MarksBytes A.Automaton W.Sink marking.old job.now known output.old output.new result }
     ensures read { marking.new.input_read ≡ marking.old.input_read }
     ensures told { TellsOutcome E.Sink IsMarkTold job.now.hushed result errors.old errors.new }
     ensures same { SameMarking marking.old marking.new }

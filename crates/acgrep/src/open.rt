@@ -4,7 +4,7 @@ ghost use Rattle.std.specs.Prelude.{◌≡◌, ℕ, List, Option, None, IfOk};
 ghost use Rattle.std.specs.Io.KnownBytes.{Keeps};
 ghost use Rattle.tool_parts.specs.Names.{is_input};
 
-use crate::failure::Unusable;
+use crate::failure::Obstacle;
 use std::fs::Files;
 use std::io::Read;
 use std::os::unix::fs::MetadataExt;
@@ -30,7 +30,7 @@ pub trait Open {
     fn is_output(&self, name: &str) -> bool;
 
     /// Why standard input cannot be read at all, if it cannot.
-    fn unusable_input(&self) -> Option<Unusable>;
+    fn unusable_input(&self) -> Option<Obstacle>;
 }
 
 /// Whether this is the name of standard input.
@@ -57,7 +57,7 @@ pub struct System<'a, R> {
     /// The file to which the output goes, if it is one.
     output: Option<Identity>,
     /// Why standard input cannot be read, if it cannot.
-    unusable: Option<Unusable>,
+    unusable: Option<Obstacle>,
 }
 
 impl<'a, R: Files> System<'a, R> {
@@ -72,10 +72,10 @@ impl<'a, R: Files> System<'a, R> {
 }
 
 /// Why it cannot be read at all, if it cannot.
-fn unusable_of<I: Read>(input: &mut I) -> Option<Unusable> {
+fn unusable_of<I: Read>(input: &mut I) -> Option<Obstacle> {
     match input.read(&mut []) {
         Ok(_) => None,
-        Err(error) => Some(Unusable::of(&error)),
+        Err(error) => Some(Obstacle::of_input(&error)),
     }
 }
 
@@ -104,7 +104,7 @@ impl<'a, R: Files> Open for System<'a, R> {
         }
     }
 
-    fn unusable_input(&self) -> Option<Unusable> {
+    fn unusable_input(&self) -> Option<Obstacle> {
         self.unusable
     }
 }

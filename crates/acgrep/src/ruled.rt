@@ -1,6 +1,6 @@
 //! A call by rules: the lines are selected in which they mark something.
 
-ghost use Rattle.std.specs.Prelude.{◌≡◌, ◌<◌, ◌≤◌, IfOk, false, true};
+ghost use Rattle.std.specs.Prelude.{◌≡◌, ◌<◌, ◌≤◌, IfOk, false};
 ghost use Rattle.tool_parts.specs.Telling.{TellsBytes};
 ghost use Rattle.secret_rules.specs.Covering.{covering_by};
 ghost use Rattle.secret_rules.specs.Ready.{CanCoverLines, rules_of};
@@ -10,20 +10,19 @@ ghost use Rattle.acgrep.specs.MarkedFiles.{IsMarking, MarksBy};
 ghost use Rattle.acgrep.specs.Told.{TellsStatus};
 ghost use Rattle.acgrep.specs.ToldByRules.{IsMarkTold};
 ghost use Rattle.acgrep.specs.declared.options.Shown.TheVariants.{Nothing};
-ghost use Rattle.acgrep.specs.RunsByRules.{BeginsByRules, BeginsMarking, MarksAsked, MarksReached, MarksRuled, MayBeginAsked, MayBeginMarks, SearchesMarking, unwritten_line, long_message, most_said, no_patterns};
+ghost use Rattle.acgrep.specs.RunsByRules.{BeginsMarking, MarksAsked, MarksReached, MayBeginAsked, MayBeginMarks, SearchesMarking, unwritten_line, long_message, most_said, no_patterns};
 
-use crate::arguments::{Given, with_rules};
+use crate::arguments::Given;
 use crate::below::{are_several, reach, status_below};
 use crate::colors::Screen;
-use crate::excluded::{expanded, read_globs};
 use crate::files::Files;
 use crate::folders::Folders;
 use crate::job::job_of;
-use crate::marked_files::{Marking, mark_names};
+use crate::marked_files::{Marking, mark_each};
 use crate::open::Open;
 use crate::options::Flags;
 use crate::rule_lists::{read_rules, tell_all};
-use crate::tell::{PROGRAM, tell_memory};
+use crate::tell::PROGRAM;
 use chromesquid::{AhoCorasick, Automaton, BuildError, Sink};
 use rule_files::{MAX_DIGITS, digits_of};
 use secret_rules::{LineCover, Rules};
@@ -37,37 +36,8 @@ const USUAL_MOST: u64 = 1024 * 1024;
 /// How many rules there may be at most.
 const MOST_RULES: usize = 2_147_483_646;
 
-/// Does what right arguments with rules ask for.
-pub fn mark_said<F: Open + Folders, R: Read, W: Sink, E: Sink>(
-    alloc: Global,
-    given: Given<'_>,
-    screen: &Screen<'_>,
-    files: &F,
-    input: &mut R,
-    output: &mut W,
-    errors: &mut Errors<'_, E>,
-) -> u8
-    ensures bound { result ≤ 2 }
-    ensures searches { result < 2 → MarksRuled (known_by F.Open F.Folders files.now) screen.now (said given.entry)
-        (R.remaining input.old) (W.taken output.old) (W.taken output.new) result }
-    ensures begins { BeginsByRules (known_by F.Open F.Folders files.now) screen.now (said given.entry)
-        (R.remaining input.old) (W.taken output.old) (W.taken output.new) }
-    ensures told { TellsStatus E.Sink IsMarkTold given.entry.flags.no_messages Nothing result errors.old errors.new }
-{
-    let rules = given.rules.as_slice();
-    let Some(texts) = read_globs(alloc, rules, files, input, errors) else {
-        return 2;
-    };
-    let Ok(all) = expanded(alloc, rules, texts.as_slice()) else {
-        tell_memory(errors);
-        return 2;
-    };
-    let ruled = with_rules(given, all);
-    mark_asked(alloc, &ruled, screen, files, input, output, errors)
-}
-
 /// Reads the rules, and searches by them.
-fn mark_asked<F: Open + Folders, R: Read, W: Sink, E: Sink>(
+pub fn mark_asked<F: Open + Folders, R: Read, W: Sink, E: Sink>(
     alloc: Global,
     given: &Given<'_>,
     screen: &Screen<'_>,
@@ -198,7 +168,8 @@ fn mark_operands<A: Automaton, F: Open + Folders, R: Read, W: Sink, E: Sink>(
     let several = are_several(&given.flags, operands.names, names);
     let job = job_of(operands.alloc, given, screen, several);
     let files = operands.files;
-    let status = mark_names(marking, &job, files, names, input, output, errors);
+    let seen = mark_each(marking, &job, files, names, input, output, errors);
+    let status = seen.status(job.shown);
     status_below(&given.flags, found.unread.as_slice(), status)
 }
 

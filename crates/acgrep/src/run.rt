@@ -14,7 +14,7 @@ ghost use Rattle.acgrep.specs.ToldByRules.{IsMarkTold, TellsByRules};
 ghost use Rattle.acgrep.specs.Mistakes.{TellsLacking, TellsMistake, TellsNoPattern, TellsRefused, TellsUnfit};
 ghost use Rattle.acgrep.specs.Folders.{known_by, tree_of};
 ghost use Rattle.acgrep.specs.Runs.{AsksAny, AsksByRules, AsksToSearch, BeginsNoMatch, BeginsSaid, BeginsSearch, BeginsFor, GivesNone, IfSaid, IsByPatterns, Searches, SearchesFor, SearchesRuled, SearchesSaid, WritesNoMatch, are_empty, kind_sought, knows_none, lists_finds, origins_of, selects_none, status_told, takes_any, words_sought};
-ghost use Rattle.acgrep.specs.RunsByRules.{BeginsByRules, SearchesByRules};
+ghost use Rattle.acgrep.specs.RunsByRules.{BeginsByRules, MarksRuled, SearchesByRules};
 
 use crate::arguments::{Given, Source, parse, with_rules};
 use crate::beside::{tell_unfit, unfit_of};
@@ -29,7 +29,7 @@ use crate::keys::{read_keys, tell_ending, tell_refusal};
 use crate::open::Open;
 use crate::options::{Fit, Flags, Shown};
 use crate::patterns::{first_holding, lines_of};
-use crate::ruled::mark_said;
+use crate::ruled::mark_asked;
 use crate::tell::{tell_memory, tell_write, tell_wrong};
 use crate::wrong::{Refusal, Wrong};
 use chromesquid::{MatchKind, Sink, write_whole};
@@ -211,15 +211,11 @@ fn answer<F: Open + Folders, R: Read, W: Sink, E: Sink>(
         return 2;
     }
     let no_match_ok = given.flags.no_match_ok;
-    if given.flags.by_rules {
-        let marked = mark_said(alloc, given, screen, files, input, output, errors);
-        return status_told(no_match_ok, marked);
-    }
     let status = search_ruled(alloc, given, screen, files, input, output, errors);
     status_told(no_match_ok, status)
 }
 
-/// Searches as the arguments say, by rules of which those in files are read first.
+/// Does what right arguments ask for, by patterns or by rules. The globs of files that are not searched are read first.
 fn search_ruled<F: Open + Folders, R: Read, W: Sink, E: Sink>(
     alloc: Global,
     given: Given<'_>,
@@ -230,18 +226,29 @@ fn search_ruled<F: Open + Folders, R: Read, W: Sink, E: Sink>(
     errors: &mut Errors<'_, E>,
 ) -> u8
     ensures bound { result ≤ 2 }
-    ensures patternless { GivesNone (said given.entry) → result ≡ 2 }
-    ensures lacking { GivesNone (said given.entry)
+    ensures patternless { given.entry.flags.by_rules ≡ false → GivesNone (said given.entry) → result ≡ 2 }
+    ensures lacking { given.entry.flags.by_rules ≡ false → GivesNone (said given.entry)
         → TellsNoPattern E.Sink errors.old errors.new }
-    ensures searches { result < 2 → SearchesRuled (known_by F.Open F.Folders files.now) screen.now (said given.entry)
+    ensures searches { given.entry.flags.by_rules ≡ false → result < 2
+        → SearchesRuled (known_by F.Open F.Folders files.now) screen.now (said given.entry)
         (R.remaining input.old) (R.remaining input.new)
         (W.taken output.old) (W.taken output.new) result }
-    ensures begins { BeginsSearch (known_by F.Open F.Folders files.now) screen.now (said given.entry)
+    ensures begins { given.entry.flags.by_rules ≡ false
+        → BeginsSearch (known_by F.Open F.Folders files.now) screen.now (said given.entry)
         (R.remaining input.old) (W.taken output.old) (W.taken output.new) }
-    ensures told { TellsOfCall E.Sink (known_by F.Open F.Folders files.now) (R.remaining input.old)
+    ensures told { given.entry.flags.by_rules ≡ false
+        → TellsOfCall E.Sink (known_by F.Open F.Folders files.now) (R.remaining input.old)
         (said given.entry) result errors.old errors.new }
+    ensures marks { given.entry.flags.by_rules ≡ true → result < 2
+        → MarksRuled (known_by F.Open F.Folders files.now) screen.now (said given.entry)
+        (R.remaining input.old) (W.taken output.old) (W.taken output.new) result }
+    ensures begins_marks { given.entry.flags.by_rules ≡ true
+        → BeginsByRules (known_by F.Open F.Folders files.now) screen.now (said given.entry)
+        (R.remaining input.old) (W.taken output.old) (W.taken output.new) }
+    ensures told_marks { given.entry.flags.by_rules ≡ true
+        → TellsByRules E.Sink (said given.entry) result errors.old errors.new }
 {
-    if gives_none(&given) {
+    if lacks_pattern(&given) {
         tell_wrong(errors, Wrong::NoPattern);
         return 2;
     }
@@ -253,16 +260,20 @@ fn search_ruled<F: Open + Folders, R: Read, W: Sink, E: Sink>(
         tell_memory(errors);
         return 2;
     };
+    let by_rules = given.flags.by_rules;
     let ruled = with_rules(given, all);
+    if by_rules {
+        return mark_asked(alloc, &ruled, screen, files, input, output, errors);
+    }
     search_asked(alloc, &ruled, screen, files, input, output, errors)
 }
 
-/// Whether neither an option nor an operand gives a pattern.
-fn gives_none(given: &Given<'_>) -> bool
-    ensures none { IsTrue result → GivesNone (said given.now) }
-    ensures some { result ≡ false → GivesNone (said given.now) → ⊥ }
+/// Whether neither an option nor an operand gives a pattern, and lines are not selected by rules.
+fn lacks_pattern(given: &Given<'_>) -> bool
+    ensures by { IsTrue result → given.now.flags.by_rules ≡ false }
+    ensures some { result ≡ false → given.now.flags.by_rules ≡ false → GivesNone (said given.now) → ⊥ }
 {
-    given.sources.is_empty() && given.operands.is_empty()
+    !given.flags.by_rules && given.sources.is_empty() && given.operands.is_empty()
 }
 
 /// The status of a search, by whether finding nothing is no failure.

@@ -1,13 +1,13 @@
 //! What is told on standard error: why something was not done.
 
 ghost use Rattle.acgrep.specs.Mistakes.{memory_line};
-ghost use Rattle.acgrep.specs.Told.{TellsCause, TellsOfFile, TellsOfNamed, TellsWrong, misuse_parts, named_parts, number_parts, unopened_by, unopened_line, valued_name};
+ghost use Rattle.acgrep.specs.Told.{IsToldCause, IsUnopened, TellsCause, TellsOfFile, TellsOfNamed, TellsWrong, misuse_parts, named_parts, number_parts, valued_name};
 ghost use Rattle.std.specs.List.{concat};
 ghost use Rattle.tool_parts.specs.Telling.{TellsBytes};
-ghost use Rattle.std.specs.Prelude.{◌≡◌};
+ghost use Rattle.std.specs.Prelude.{◌≡◌, ◌⊎◌, Some};
 
 use crate::all_options::Valued;
-use crate::failure::Unusable;
+use crate::failure::Obstacle;
 use crate::help::USAGE;
 use crate::json::is_text;
 use crate::wrong::Wrong;
@@ -42,64 +42,29 @@ pub fn tell_memory<E: Sink>(errors: &mut Errors<'_, E>)
     errors.tell(PROGRAM, None, None, Reason::OutOfMemory.text().as_bytes());
 }
 
-/// Tells why what is called so cannot be read.
-pub fn tell_fault<E: Sink>(name: &[u8], reason: Reason, errors: &mut Errors<'_, E>)
+/// Tells why a file of this name is not searched, or not to its end.
+pub fn tell_file<E: Sink>(name: &[u8], why: Obstacle, errors: &mut Errors<'_, E>)
     ensures told { TellsOfFile E.Sink name.now errors.old errors.new }
 {
-    errors.tell(PROGRAM, Some(name), None, reason.text().as_bytes());
+    errors.tell(PROGRAM, Some(name), None, cause_of(name, why));
 }
 
-/// Tells why a file of this name cannot be opened, read or looked at. A name that is not UTF-8 is a reason of its own.
-pub fn tell_unopened<E: Sink>(name: &[u8], reason: Reason, errors: &mut Errors<'_, E>)
-    ensures told { TellsOfFile E.Sink name.now errors.old errors.new }
-    ensures exact { TellsBytes E.Sink errors.old errors.new (unopened_line name.now reason) }
-{
-    errors.tell(PROGRAM, Some(name), None, cause_of(name, reason));
-}
-
-/// Why a file of this name cannot be opened.
-fn cause_of(name: &[u8], reason: Reason) -> &'static [u8]
-    ensures cause { result.now ≡ unopened_by name.now reason }
-{
-    if is_text(name) {
-        reason.text().as_bytes()
-    } else {
-        NO_TEXT
-    }
-}
-
-/// Tells why a name below a folder was passed over. No reason means that it is a folder in which it stands itself.
-pub fn tell_missed<E: Sink>(name: &[u8], reason: Option<Reason>, errors: &mut Errors<'_, E>)
-    ensures told { TellsOfFile E.Sink name.now errors.old errors.new }
-{
-    match reason {
-        Some(reason) => tell_unopened(name, reason, errors),
-        None => errors.tell(PROGRAM, Some(name), None, LOOP),
-    }
-}
-
-/// Tells that the output goes to a file of this name.
-pub fn tell_output<E: Sink>(name: &[u8], errors: &mut Errors<'_, E>)
-    ensures told { TellsOfFile E.Sink name.now errors.old errors.new }
-{
-    errors.tell(PROGRAM, Some(name), None, SAME);
-}
-
-/// Tells why standard input cannot be read, by what it is called.
-pub fn tell_input<E: Sink>(name: &[u8], why: Unusable, errors: &mut Errors<'_, E>)
-    ensures told { TellsOfFile E.Sink name.now errors.old errors.new }
+/// Why it is not. A name that is not UTF-8 is a reason of its own.
+fn cause_of(name: &[u8], why: Obstacle) -> &'static [u8]
+    ensures cause { IsToldCause result.now ⊎ IsUnopened (Some name.now) result.now }
 {
     match why {
-        Unusable::Closed => tell_unusable(name, errors),
-        Unusable::Fault(reason) => tell_fault(name, reason, errors),
+        Obstacle::Output => SAME,
+        Obstacle::Loop => LOOP,
+        Obstacle::NoInput => UNUSABLE,
+        Obstacle::Closed(reason) => {
+            if is_text(name) {
+                return reason.text().as_bytes();
+            }
+            NO_TEXT
+        }
+        Obstacle::Fault(reason) => reason.text().as_bytes(),
     }
-}
-
-/// Tells that what is called so is closed, or is open for writing alone.
-fn tell_unusable<E: Sink>(name: &[u8], errors: &mut Errors<'_, E>)
-    ensures told { TellsOfFile E.Sink name.now errors.old errors.new }
-{
-    errors.tell(PROGRAM, Some(name), None, UNUSABLE);
 }
 
 /// Tells why the output cannot be written.

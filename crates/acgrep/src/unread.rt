@@ -3,58 +3,22 @@
 ghost use Rattle.std.specs.Prelude.{false};
 ghost use Rattle.acgrep.specs.Told.{TellsCause, TellsOfOutcome, stopped_if};
 
-use crate::failure::{Stop, Unusable};
+use crate::failure::{Obstacle, Stop};
 use crate::job::Job;
-use crate::tell::{
-    tell_fault, tell_input, tell_memory, tell_output, tell_search, tell_unopened, tell_write,
-};
+use crate::tell::{tell_file, tell_memory, tell_search, tell_write};
 use chromesquid::Sink;
 use tool_parts::errors::Errors;
 use tool_parts::reason::Reason;
 
-/// Tells why a file cannot be read, if that is asked for.
-pub fn tell_unread<E: Sink>(job: &Job<'_>, reason: Reason, errors: &mut Errors<'_, E>)
+/// Tells why a file is not searched, or not to its end, if that is asked for.
+pub fn tell_unread<E: Sink>(job: &Job<'_>, why: Obstacle, errors: &mut Errors<'_, E>)
     ensures told { TellsOfOutcome E.Sink job.now.hushed job.now.style.name.now (stopped_if false)
         errors.old errors.new }
 {
     if job.hushed {
         return;
     }
-    tell_fault(job.style.name, reason, errors);
-}
-
-/// Tells why a file cannot be opened, if that is asked for.
-pub fn tell_closed<E: Sink>(job: &Job<'_>, reason: Reason, errors: &mut Errors<'_, E>)
-    ensures told { TellsOfOutcome E.Sink job.now.hushed job.now.style.name.now (stopped_if false)
-        errors.old errors.new }
-{
-    if job.hushed {
-        return;
-    }
-    tell_unopened(job.style.name, reason, errors);
-}
-
-/// Tells why standard input cannot be read at all, if that is asked for.
-pub fn tell_unreadable<E: Sink>(job: &Job<'_>, why: Unusable, errors: &mut Errors<'_, E>)
-    ensures told { TellsOfOutcome E.Sink job.now.hushed job.now.style.name.now (stopped_if false)
-        errors.old errors.new }
-{
-    if job.hushed {
-        return;
-    }
-    tell_input(job.style.name, why, errors);
-}
-
-/// Tells that the output goes to a file, if that is asked for.
-pub fn tell_same<E: Sink>(job: &Job<'_>, errors: &mut Errors<'_, E>)
-    ensures told { TellsOfOutcome E.Sink job.now.hushed job.now.style.name.now (stopped_if false)
-        errors.old errors.new }
-{
-    let hushed = job.hushed;
-    if hushed {
-        return;
-    }
-    tell_output(job.style.name, errors);
+    tell_file(job.style.name, why, errors);
 }
 
 /// Tells why a search stopped, and answers whether that ends the call.
@@ -64,7 +28,7 @@ pub fn tell_stop<E: Sink>(job: &Job<'_>, stop: &Stop, errors: &mut Errors<'_, E>
 {
     match stop {
         Stop::Read(reason) => {
-            tell_unread(job, *reason, errors);
+            tell_unread(job, Obstacle::Fault(*reason), errors);
             false
         }
         Stop::Write => {
@@ -77,7 +41,7 @@ pub fn tell_stop<E: Sink>(job: &Job<'_>, stop: &Stop, errors: &mut Errors<'_, E>
         }
         // A line is too long: the other files are searched.
         Stop::OutOfMemory => {
-            tell_unread(job, Reason::OutOfMemory, errors);
+            tell_unread(job, Obstacle::Fault(Reason::OutOfMemory), errors);
             false
         }
     }

@@ -7,7 +7,7 @@ ghost use Rattle.acgrep.specs.Folders.{AreBelow, Begins, Enters, FindsFiles, IsK
 ghost use Rattle.acgrep.specs.Listed.{listed_bytes};
 ghost use Rattle.acgrep.specs.Rules.{RuleSaid, rules_said};
 
-use crate::failure::Stop;
+use crate::failure::{Obstacle, Stop};
 use crate::folders::{Folders, Kind};
 use crate::open::{Identity, is_input};
 use crate::rules::{Rule, is_left_out, without_slashes};
@@ -59,8 +59,8 @@ pub struct Found {
 pub struct Unread {
     /// Its name.
     pub name: Vec<u8>,
-    /// Why: no reason means that it is a folder in which it stands itself.
-    pub reason: Option<Reason>,
+    /// Why.
+    pub why: Obstacle,
 }
 
 /// A name that is still to be looked at.
@@ -97,12 +97,12 @@ impl Found {
     }
 
     /// Something more that cannot be read.
-    fn miss(&mut self, name: Vec<u8>, reason: Option<Reason>) -> Result<(), AllocError>
+    fn miss(&mut self, name: Vec<u8>, why: Obstacle) -> Result<(), AllocError>
         ensures names { self.new.names ≡ self.old.names }
         ensures unread { OnOk result
             (missed_of self.new.unread.items ≡ missed_of self.old.unread.items ++ (name.items ∷ [])) }
     {
-        self.unread.push(Unread { name, reason })?;
+        self.unread.push(Unread { name, why })?;
         Ok(())
     }
 }
@@ -155,7 +155,10 @@ fn begin<F: Folders>(
             let above = around_here(alloc, files, ways)?;
             put_first(alloc, names, b"", above.as_slice(), pending)
         }
-        Err(error) => found.miss(Vec::from_slice(alloc, HERE)?, Some(Reason::of(&error))),
+        Err(error) => found.miss(
+            Vec::from_slice(alloc, HERE)?,
+            Obstacle::Closed(Reason::of(&error)),
+        ),
     }
 }
 
@@ -232,7 +235,7 @@ fn lose(
     if is_lost_left(rules, &spot) {
         return Ok(());
     }
-    found.miss(spot.name, Some(reason))
+    found.miss(spot.name, Obstacle::Closed(reason))
 }
 
 /// Whether rules leave out what cannot be looked at: not where it is an operand.
@@ -336,13 +339,13 @@ fn enter<F: Folders>(
     match identity_of(files, spot.name.as_slice()) {
         Ok(identity) => {
             if stands_in(identity, spot.above.as_slice()) {
-                return found.miss(spot.name, None);
+                return found.miss(spot.name, Obstacle::Loop);
             }
             let mut above = Vec::from_slice(alloc, spot.above.as_slice())?;
             above.push(identity)?;
             open_folder(alloc, files, spot.name, above.as_slice(), pending, found)
         }
-        Err(error) => found.miss(spot.name, Some(Reason::of(&error))),
+        Err(error) => found.miss(spot.name, Obstacle::Closed(Reason::of(&error))),
     }
 }
 
@@ -360,7 +363,7 @@ fn open_folder<F: Folders>(
 {
     match list_named(alloc, files, name.as_slice()) {
         Ok(names) => put_first(alloc, names, name.as_slice(), above, pending),
-        Err(error) => found.miss(name, Some(Reason::of(&error))),
+        Err(error) => found.miss(name, Obstacle::Closed(Reason::of(&error))),
     }
 }
 

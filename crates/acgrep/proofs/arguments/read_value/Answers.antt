@@ -13,12 +13,6 @@ number_case : (valued : Valued) (argument : List ℕ) (s : Said) (number : ℕ) 
 number_case Regexp argument s number a b c d e f g h i j k l m n is = absurd (a refl)
 number_case PatternFile argument s number a b c d e f g h i j k l m n is = absurd (b refl)
 number_case Kind argument s number a b c d e f g h i j k l m n is = absurd (c refl)
-number_case Offset argument s number a b c d e f g h i j k l m n is = rw is refl
-number_case FirstLine argument s number a b c d e f g h i j k l m n is = rw is refl
-number_case MaxCount argument s number a b c d e f g h i j k l m n is = rw is refl
-number_case After argument s number a b c d e f g h i j k l m n is = rw is refl
-number_case Before argument s number a b c d e f g h i j k l m n is = rw is refl
-number_case Around argument s number a b c d e f g h i j k l m n is = rw is refl
 number_case Separator argument s number a b c d e f g h i j k l m n is = absurd (d refl)
 number_case Label argument s number a b c d e f g h i j k l m n is = absurd (e refl)
 number_case Format argument s number a b c d e f g h i j k l m n is = absurd (f refl)
@@ -30,7 +24,7 @@ number_case Folders argument s number a b c d e f g h i j k l m n is = absurd (k
 number_case Devices argument s number a b c d e f g h i j k l m n is = absurd (l refl)
 number_case BinaryFiles argument s number a b c d e f g h i j k l m n is = absurd (m refl)
 number_case RuleFile argument s number a b c d e f g h i j k l m n is = absurd (n refl)
-number_case LineLimit argument s number a b c d e f g h i j k l m n is = rw is refl
+number_case _ argument s number a b c d e f g h i j k l m n is = rw is refl
 
 pub returns-clause-read : goal.returns-clause-read
 returns-clause-read c =

@@ -16,9 +16,9 @@ loop-first-preserved g c =
     let first = c.in-Some.first.now in
     let behind = missed_of c.in-Some.behind.now in
     let cut : missed_of c.loop-first.rest.now ≡ first.name.items ∷ behind = ap missed_of c.in-Some.ensures.cases.0 in
-    told-more g.E.Sink all first.name.items behind c.args.errors.now c.loop-first.errors c.tell_missed.new.errors
+    told-more g.E.Sink all first.name.items behind c.args.errors.now c.loop-first.errors c.tell_file.new.errors
     (subst (λ (rest : List (List ℕ)). IsTold g.E.Sink all rest c.args.errors.now c.loop-first.errors) cut c.loop-first.invariant)
-    (subst (λ (name : List ℕ). TellsOfFile g.E.Sink name c.loop-first.errors c.tell_missed.new.errors) c.as_slice.ensures.value c.tell_missed.ensures.told)
+    (subst (λ (name : List ℕ). TellsOfFile g.E.Sink name c.loop-first.errors c.tell_file.new.errors) c.as_slice.ensures.value c.tell_file.ensures.told)
 
 pub returns-then-hushed : goal.returns-then-hushed
 returns-then-hushed g c =

@@ -19,16 +19,6 @@ returns-in-Err-clause-begun g c =
     total_kept c.args.job.now c.args.selected (g.W.Sink.taken c.args.output.now) (g.W.Sink.taken c.flush.new.self) (g.W.Sink.taken c.put_total.new.output)
     c.flush.ensures.kept c.put_total.ensures.begun
 
-pub returns-then-tell_stop-clause-told : goal.returns-then-tell_stop-clause-told
-returns-then-tell_stop-clause-told g c = λ names is.
-    subst (λ (stops : Bool). TellsOutcome g.E.Sink (IsMessage names) c.args.job.now.hushed (stopped_if stops) c.args.errors.now c.tell_stop.new.errors) c.if-tell_stop.true
-    (c.tell_stop.ensures.told names is)
-
-pub returns-in-Ok-clause-told : goal.returns-in-Ok-clause-told
-returns-in-Ok-clause-told g c = λ names is.
-    subst (λ (stops : Bool). TellsOutcome g.E.Sink (IsMessage names) c.args.job.now.hushed (stopped_if stops) c.args.errors.now c.tell_stop.new.errors) c.if-tell_stop.false
-    (c.tell_stop.ensures.told names is)
-
 pub returns-in-Err-clause-told : goal.returns-in-Err-clause-told
 returns-in-Err-clause-told g c = λ names is.
     unread-then g.E.Sink (IsMessage names) c.args.job.now.hushed c.args.errors.now c.tell_stop.new.errors c.tell_total.new.errors

@@ -17,11 +17,8 @@ returns-clause-searched g c = λ p is plain low.
     let left' = g.R.Read.remaining c.search_each-seen.new.input in
     let held = g.W.Sink.taken c.args.output.now in
     let held' = g.W.Sink.taken c.search_each-seen.new.output in
-    subst (AreSearchedOr p job holds names left left' held held') (sym c.status.ensures)
-    (status_seen (search_work p job holds) job.shown names left left' held held' c.search_each-seen.result (c.search_each-seen.ensures.seen p is plain) (subst (λ (n : ℕ). n < 2) c.status.ensures low))
-
-pub returns-clause-begun : goal.returns-clause-begun
-returns-clause-begun g c = λ p is plain. (c.search_each-seen.ensures.seen p is plain).begun
+    subst (AreSearchedOr p job holds names left left' held held') (sym c.status.ensures.seen)
+    (status_seen (search_work p job holds) job.shown names left left' held held' c.search_each-seen.result (c.search_each-seen.ensures.seen p is plain) (subst (λ (n : ℕ). n < 2) c.status.ensures.seen low))
 
 pub returns-in_default-clause-begun : goal.returns-in_default-clause-begun
 returns-in_default-clause-begun g c = λ p is plain.
@@ -35,5 +32,5 @@ returns-in_default-clause-told g c =
 pub returns-clause-told : goal.returns-clause-told
 returns-clause-told g c =
     let names = files_told c.args.job.now.hushed c.args.job.now.label.now (listed_bytes c.args.names.now) in
-    subst (λ (status : ℕ). TellsStatus g.E.Sink (IsMessage names) c.args.job.now.hushed c.args.job.now.shown status c.args.errors.now c.search_each-seen.new.errors) (sym c.status.ensures)
+    subst (λ (status : ℕ). TellsStatus g.E.Sink (IsMessage names) c.args.job.now.hushed c.args.job.now.shown status c.args.errors.now c.search_each-seen.new.errors) (sym c.status.ensures.seen)
     (status-seen g.E.Sink (IsMessage names) c.args.job.now.hushed c.args.job.now.shown c.search_each-seen.result c.args.errors.now c.search_each-seen.new.errors c.search_each-seen.ensures.told)

@@ -7,9 +7,6 @@ use Rattle.acgrep.proofs.Beginnings.{on_err}
 use Rattle.acgrep.proofs.BinaryTold.{begins_sought, finds_sought, past_all}
 use Rattle.acgrep.proofs.guarded.finds.Goals as goal
 
-pub search_behind-requires-clause-text : goal.search_behind-requires-clause-text
-search_behind-requires-clause-text g c = λ asked. absurd (cc)
-
 pub returns-clause-found : goal.returns-clause-found
 returns-clause-found g c = λ p is plain.
     finds_sought p _ c.seeking-seeking.result c.seeking-seeking.ensures.seeking c.begin.new.self c.search_behind.new.state _ _ _ _ _ c.begin.ensures.begin

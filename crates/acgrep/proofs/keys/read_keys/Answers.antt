@@ -3,12 +3,13 @@ use Rattle.std.proofs.Common.{◌<◌, ◌≡◌, [], arith, length, rules, subs
 use Rattle.std.proofs.lemmas.Grind.{common_steps}
 use Rattle.tool_parts.specs.Telling.{TellsSome}
 use Rattle.tool_parts.specs.declared.errors.Errors.{Errors}
-use Rattle.acgrep.specs.Runs.{origins_of}
+use Rattle.acgrep.specs.Arguments.{origin_of}
+use Rattle.acgrep.specs.Runs.{AreOf, origins_of}
 use Rattle.acgrep.specs.Told.{IsMessage, source_names}
 use Rattle.acgrep.specs.declared.arguments.Source.{Source}
 use Rattle.acgrep.specs.declared.arguments.Source.TheVariants.{Text}
+use Rattle.acgrep.proofs.Gathered.{all_given, next_given}
 use Rattle.acgrep.proofs.Told.{sources-cut}
-use Rattle.acgrep.proofs.WordLists.{words_end, words_next}
 use Rattle.acgrep.proofs.keys.read_keys.Goals as goal
 
 -- any source
@@ -21,8 +22,8 @@ loop-rest-preserved g c =
     let some : 0 < length rest = grind (arith, common_steps, c.is_empty.ensures, c.loop-rest-test.true) in
     record {
       ends = c.in-Ok.ensures.ends;
-      words = words_next (g.F.Open.holds c.args.files.now) _ (g.R.Read.remaining c.args.input.now) rest other (g.R.Read.remaining c.loop-rest.input) (g.R.Read.remaining c.read_source.new.input) _ _ (omega (arith, some))
-          c.loop-rest.invariant.words c.in-Ok.ensures.added;
+      words = next_given (AreOf (g.F.Open.holds c.args.files.now)) (origins_of c.args.sources.now) (g.R.Read.remaining c.args.input.now) origin_of rest other
+          (g.R.Read.remaining c.loop-rest.input) (g.R.Read.remaining c.read_source.new.input) _ _ some c.loop-rest.invariant.words c.in-Ok.ensures.added;
       told = c.loop-rest.invariant.told;
       within = (sources-cut rest other (source_names (origins_of c.args.sources.now)) some c.loop-rest.invariant.within).1;
     }
@@ -39,7 +40,7 @@ pub returns : goal.returns
 returns g c =
     let none : length c.loop-rest.rest.now ≡ 0 = search rules in
     record {
-      words = words_end (g.F.Open.holds c.args.files.now) _ (g.R.Read.remaining c.args.input.now) c.loop-rest.rest.now (g.R.Read.remaining c.loop-rest.input) _ none c.loop-rest.invariant.words;
+      words = all_given (AreOf (g.F.Open.holds c.args.files.now)) (origins_of c.args.sources.now) (g.R.Read.remaining c.args.input.now) origin_of c.loop-rest.rest.now (g.R.Read.remaining c.loop-rest.input) _ none c.loop-rest.invariant.words;
       silent = λ is. c.loop-rest.invariant.told;
       told = λ not. absurd (cc);
     }

@@ -1,50 +1,21 @@
 -- A file more was searched.
 use Rattle.std.proofs.Common.{◌-◌, ◌∙◌, ◌∷◌, ◌≡◌, Bool, List, Option, [], ap, append-nil, drop, false, inl, inr, length, refl, subst, sym, take, true, ℕ}
 use Rattle.std.proofs.lemmas.Bool.{or_parts}
-use Rattle.std.specs.Prelude.{◌&&◌, MatchBool, if◌then◌else◌}
+use Rattle.std.specs.Prelude.{◌&&◌}
 use Rattle.secret_rules.specs.Covering.{Covering}
 use Rattle.secret_rules.specs.Lines.{stream_lines}
 use Rattle.tool_parts.specs.Names.{is_input}
-use Rattle.acgrep.specs.Files.{BeginsTotal, EndsFile, known_of}
+use Rattle.acgrep.specs.Files.{known_of}
 use Rattle.acgrep.specs.Listed.{listed_bytes}
-use Rattle.acgrep.specs.MarkedFiles.{BeginsInput, BeginsMarks, ComesName, HasMarkedLine, MarksFile, MarksInput, MarksName, mark_work}
+use Rattle.acgrep.specs.MarkedFiles.{HasMarkedLine, MarksFile, MarksInput, MarksName, mark_work}
 use Rattle.acgrep.specs.Told.{TellsIf}
 use Rattle.acgrep.specs.ToldByRules.{IsMarkTold}
-use Rattle.acgrep.specs.declared.files.Outcome.{Outcome}
 use Rattle.acgrep.specs.declared.files.Seen.{Seen}
 use Rattle.acgrep.specs.declared.job.Job.{Job}
 use Rattle.acgrep.proofs.FilesMarked.{still_marks}
-use Rattle.acgrep.proofs.InTurn.{SoFar, ends_by, if_broken, if_searched, names_cut, so_far_end, so_far_start, so_far_step}
+use Rattle.acgrep.proofs.InTurn.{SoFar, ends_by, if_searched, names_cut, so_far_end, so_far_start, so_far_step}
 use Rattle.acgrep.proofs.Told.{if-more}
 use Rattle.acgrep.proofs.marked_files.mark_each.Goals as goal
-
--- where standard input was read before, what it has left is of no matter
-module _ (job : Job) (covering : Covering) (holds : List ℕ → Option (List ℕ)) (left now : Option (List ℕ)) (name : List ℕ) (held held' : Option (List ℕ)) where
-  marks_by : (input : Bool) (named : Job) (any : Bool) → MatchBool input (EndsFile named 0 held held' any) (MarksFile named covering (if input then now else holds name) held held' any)
-      → MatchBool input (EndsFile named 0 held held' any) (MarksFile named covering (if input then left else holds name) held held' any)
-  marks_by true named any file = file
-  marks_by false named any file = file
-
-  begins_by : (input : Bool) (named : Job) → MatchBool input (BeginsTotal named 0 held held') (BeginsMarks named covering (if input then now else holds name) held held')
-      → MatchBool input (BeginsTotal named 0 held held') (BeginsMarks named covering (if input then left else holds name) held held')
-  begins_by true named file = file
-  begins_by false named file = file
-
-  marks_left : (read : Bool) (named : Job) (any : Bool) → (read ≡ false → now ≡ left) → MarksInput named covering (read && is_input name) (known_of holds name now) held held' any
-      → MarksInput named covering (read && is_input name) (known_of holds name left) held held' any
-  marks_left false named any same file = subst (λ (l : Option (List ℕ)). MarksFile named covering (known_of holds name l) held held' any) (same refl) file
-  marks_left true named any same file = marks_by (is_input name) named any file
-
-  begins_left : (read : Bool) (named : Job) → (read ≡ false → now ≡ left) → BeginsInput named covering (read && is_input name) (known_of holds name now) held held'
-      → BeginsInput named covering (read && is_input name) (known_of holds name left) held held'
-  begins_left false named same file = subst (λ (l : Option (List ℕ)). BeginsMarks named covering (known_of holds name l) held held') (same refl) file
-  begins_left true named same file = begins_by (is_input name) named file
-
-  comes_left : (read : Bool) (outcome : Outcome) → (read ≡ false → now ≡ left) → ComesName job covering holds now read name held held' outcome → ComesName job covering holds left read name held held' outcome
-  comes_left read outcome same comes = record {
-    searched = if_searched outcome _ _ (λ any marks. record { named = marks.named; is_named = marks.is_named; file = marks_left read marks.named any same marks.file }) comes.searched;
-    begun = if_broken outcome (λ begins. record { named = begins.named; is_named = begins.is_named; file = begins_left read begins.named same begins.file }) comes.begun;
-  }
 
 -- a file of which a line is selected has one
 has_one : (job : Job) (covering : Covering) (known held held' : Option (List ℕ)) → MarksFile job covering known held held' true → HasMarkedLine job covering known
@@ -107,7 +78,7 @@ loop-rest-preserved g c =
           let work = mark_work job covering _ _ in
           let before = c.loop-rest.invariant.so_far covering by in
           let so_far = subst (λ (l : List (List ℕ)). SoFar work job.shown names false first l read held seen) cut before.1 in
-          let comes = comes_left job covering _ _ _ name held held' read _ c.loop-rest.invariant.unread (c.mark_name-outcome.ensures.comes covering before.0) in
+          let comes = c.mark_name-outcome.ensures.comes covering before.0 _ c.loop-rest.invariant.unread in
           let does = if_searched _ _ (work.Does seen.selected name read read' held held') (λ any marks. (c.mark_name-outcome.ensures.read, marks)) comes.searched in (
             still_marks g.A.Automaton c.loop-rest.marking.cover c.mark_name-outcome.new.marking.cover covering c.mark_name-outcome.ensures.ready.can c.mark_name-outcome.ensures.same.cover before.0,
             subst (SoFar work job.shown names false first more read' held') (sym c.after-seen.ensures)

@@ -1,26 +1,61 @@
 -- The name is that of standard input, or of a file.
-use Rattle.std.proofs.Common.{◌∙◌, Bool, List, ap, false, subst, sym, ℕ}
-use Rattle.acgrep.specs.Files.{IsNamed}
-use Rattle.acgrep.specs.Told.{TellsOutcome}
-use Rattle.acgrep.specs.ToldByRules.{IsMarkTold}
-use Rattle.acgrep.specs.declared.job.Job.{Job}
-use Rattle.acgrep.proofs.FilesMarked.{name_file, name_input}
+use Rattle.std.proofs.Common.{◌∙◌, ◌≡◌, Bool, List, Option, ap, false, subst, sym, true, ℕ}
+use Rattle.std.proofs.KnownBytes.{Keeps-refl}
+use Rattle.std.proofs.Math.Bool.{and-false}
+use Rattle.std.specs.Io.KnownBytes.{Keeps}
+use Rattle.std.specs.Prelude.{◌&&◌}
+use Rattle.tool_parts.specs.Names.{is_input}
+use Rattle.acgrep.specs.Files.{IsNamed, known_of, shown_name}
+use Rattle.acgrep.specs.declared.files.Outcome.TheVariants.{Unread}
+use Rattle.acgrep.proofs.FilesMarked.{name_comes, name_none}
+use Rattle.acgrep.proofs.MarksTold.{end-told, named-told, outcome-told}
+use Rattle.acgrep.proofs.NamesSearched.{at_file, at_input}
+use Rattle.acgrep.proofs.marked_files.mark_name.Given.{Over}
+use Rattle.acgrep.proofs.marked_files.mark_name.Goals.{After-job_for-named}
 use Rattle.acgrep.proofs.marked_files.mark_name.Goals as goal
 
-pub returns-then-is_input-clause-comes : goal.returns-then-is_input-clause-comes
-returns-then-is_input-clause-comes g c = λ covering by.
-    name_input c.args.job.now c.job_for-named.result covering (g.F.Open.holds c.args.files.now) (g.R.Read.remaining c.args.input.now) c.args.marking.now.input_read c.args.name.now (g.W.Sink.taken c.args.output.now) (g.W.Sink.taken c.mark_input.new.output) c.mark_input.result
-    (subst (λ (n : List ℕ). IsNamed c.args.job.now n false c.job_for-named.result) c.shown_name.ensures c.job_for-named.ensures.named) (sym c.is_input.ensures ∙ c.if-is_input.true) (c.mark_input.ensures.comes covering by)
+named_so : (g : Over) (c : After-job_for-named g) → IsNamed c.args.job.now (shown_name c.args.job.now.label.now c.args.name.now) false c.job_for-named.result
+named_so g c = rw c.shown_name.ensures at c.job_for-named.ensures.named
+
+pub returns-then-again-clause-comes : goal.returns-then-again-clause-comes
+returns-then-again-clause-comes g c = λ covering by left same.
+    name_comes c.args.job.now c.job_for-named.result covering (g.F.Open.holds c.args.files.now) left c.args.marking.now.input_read c.args.name.now _ _ (named_so g (goal.at.returns-then-again-clause-comes g c).After-job_for-named)
+    true (ap (λ (b : Bool). b && is_input c.args.name.now) c.if-again.true ∙ sym c.is_input-from_input.ensures ∙ c.if-from_input.true) c.end_file.result c.end_file.ensures.ended c.end_file.ensures.begun
+
+pub returns-in-None-clause-comes : goal.returns-in-None-clause-comes
+returns-in-None-clause-comes g c = λ covering by left same.
+    let holds = g.F.Open.holds c.args.files.now in
+    let name = c.args.name.now in
+    let input : is_input name ≡ true = sym c.is_input-from_input.ensures ∙ c.if-from_input.true in
+    let kept : Keeps left (g.R.Read.remaining c.args.input.now) = subst (Keeps left) (sym (same c.if-again.false)) (Keeps-refl left) in
+    let comes = c.mark_reader.ensures.comes (known_of holds name left) (at_input (λ (k : Option (List ℕ)). Keeps k (g.R.Read.remaining c.args.input.now)) holds name left input kept) covering by in
+    name_comes c.args.job.now c.job_for-named.result covering holds left c.args.marking.now.input_read name _ _ (named_so g (goal.at.returns-in-None-clause-comes g c).After-job_for-named)
+    false (ap (λ (b : Bool). b && is_input name) c.if-again.false) c.mark_reader.result comes.searched comes.begun
+
+pub returns-in-Ok-clause-comes : goal.returns-in-Ok-clause-comes
+returns-in-Ok-clause-comes g c = λ covering by left same.
+    let holds = g.F.Open.holds c.args.files.now in
+    let name = c.args.name.now in
+    let other : is_input name ≡ false = sym c.is_input-from_input.ensures ∙ c.if-from_input.false in
+    let comes = c.mark_reader-in-Ok.ensures.comes (known_of holds name left) (at_file (λ (k : Option (List ℕ)). Keeps k (g.F.File.Read.remaining c.in-Ok.file)) holds name left other c.in-Ok.ensures.held) covering by in
+    name_comes c.args.job.now c.job_for-named.result covering holds left c.args.marking.now.input_read name _ _ (named_so g (goal.at.returns-in-Ok-clause-comes g c).After-job_for-named)
+    false (ap (λ (b : Bool). c.args.marking.now.input_read && b) other ∙ and-false c.args.marking.now.input_read) c.mark_reader-in-Ok.result comes.searched comes.begun
 
 pub returns-clause-comes : goal.returns-clause-comes
-returns-clause-comes g c = λ covering by.
-    name_file c.args.job.now c.job_for-named.result covering (g.F.Open.holds c.args.files.now) (g.R.Read.remaining c.args.input.now) c.args.marking.now.input_read c.args.name.now (g.W.Sink.taken c.args.output.now) (g.W.Sink.taken c.mark_named.new.output) c.mark_named.result
-    (subst (λ (n : List ℕ). IsNamed c.args.job.now n false c.job_for-named.result) c.shown_name.ensures c.job_for-named.ensures.named) (sym c.is_input.ensures ∙ c.if-is_input.false) (c.mark_named.ensures.comes covering by)
+returns-clause-comes g c = λ covering by left same.
+    name_none c.args.job.now c.job_for-named.result covering (g.F.Open.holds c.args.files.now) left c.args.marking.now.input_read c.args.name.now _ _ (named_so g (goal.at.returns-clause-comes g c).After-job_for-named) c.pass_over.ensures.kept
 
-pub returns-then-is_input-clause-told : goal.returns-then-is_input-clause-told
-returns-then-is_input-clause-told g c =
-    subst (λ (b : Bool). TellsOutcome g.E.Sink IsMarkTold b c.mark_input.result c.args.errors.now c.mark_input.new.errors) (ap (λ (j : Job). j.hushed) c.job_for-named.ensures.named.is) c.mark_input.ensures.told
+pub returns-then-again-clause-told : goal.returns-then-again-clause-told
+returns-then-again-clause-told g c =
+    named-told g.E.Sink _ _ _ c.job_for-named.ensures.named c.end_file.result _ _ (end-told g.E.Sink c.job_for-named.result.hushed c.end_file.result c.args.errors.now c.end_file.new.errors c.end_file.ensures.told)
+
+pub returns-in-None-clause-told : goal.returns-in-None-clause-told
+returns-in-None-clause-told g c = named-told g.E.Sink _ _ _ c.job_for-named.ensures.named c.mark_reader.result _ _ c.mark_reader.ensures.told
+
+pub returns-in-Ok-clause-told : goal.returns-in-Ok-clause-told
+returns-in-Ok-clause-told g c = named-told g.E.Sink _ _ _ c.job_for-named.ensures.named c.mark_reader-in-Ok.result _ _ c.mark_reader-in-Ok.ensures.told
 
 pub returns-clause-told : goal.returns-clause-told
 returns-clause-told g c =
-    subst (λ (b : Bool). TellsOutcome g.E.Sink IsMarkTold b c.mark_named.result c.args.errors.now c.mark_named.new.errors) (ap (λ (j : Job). j.hushed) c.job_for-named.ensures.named.is) c.mark_named.ensures.told
+    let named = c.job_for-named.result in
+    named-told g.E.Sink _ _ _ c.job_for-named.ensures.named Unread _ _ (outcome-told g.E.Sink named.hushed named.style.name.now Unread c.args.errors.now c.pass_over.new.errors c.pass_over.ensures.told)

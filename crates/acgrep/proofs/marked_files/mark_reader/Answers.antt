@@ -1,5 +1,6 @@
 -- What comes of the lines, and then what is asked of the file as a whole.
-use Rattle.std.proofs.Common.{◌∙◌, List, Option, ap, refl, sym, ℕ}
+use Rattle.std.proofs.Common.{◌∙◌, List, Option, ap, refl, subst, sym, ℕ}
+use Rattle.std.specs.Io.KnownBytes.{Keeps}
 use Rattle.std.specs.Prelude.{◌≢◌}
 use Rattle.secret_rules.specs.Covering.{Covering}
 use Rattle.tool_parts.proofs.Ends.{at_end}
@@ -14,39 +15,39 @@ use Rattle.acgrep.proofs.marked_files.mark_reader.Goals.{After-mark_source-came}
 use Rattle.acgrep.proofs.marked_files.mark_reader.Goals as goal
 
 -- what was written of the lines, and of the file as a whole
-part_of : (g : Over) (c : After-mark_source-came g) (covering : Covering) → MarksBy g.A.Automaton c.args.marking.now.cover covering → (held' : Option (List ℕ))
+part_of : (g : Over) (c : After-mark_source-came g) (known : Option (List ℕ)) → Keeps known (g.R.Read.remaining c.args.reader) → (covering : Covering) → MarksBy g.A.Automaton c.args.marking.now.cover covering → (held' : Option (List ℕ))
     → BeginsTotal c.args.job.now c.mark_source-came.result.pass.selected (g.W.Sink.taken c.mark_source-came.new.sink) held'
-    → BeginsMarks c.args.job.now covering (g.R.Read.remaining c.args.reader) (g.W.Sink.taken c.args.output.now) held'
-part_of g c covering by held' total =
+    → BeginsMarks c.args.job.now covering known (g.W.Sink.taken c.args.output.now) held'
+part_of g c known kept covering by held' total =
     let came = c.mark_source-came.result in
     let asked = ap (file_asked c.args.job.now) (sym (covering_rules g.A.Automaton c.args.marking.now.cover covering c.args.marking.now.rules.now by c.requires.ready.rules)) in
-    let left = c.new-source.ensures.remaining ∙ ap g.R.Read.remaining c.new.ensures.reader in
+    let left = subst (Keeps known) (sym (c.new-source.ensures.remaining ∙ ap g.R.Read.remaining c.new.ensures.reader)) kept in
     let ends = λ (some : c.mark_source-came.new.source.empty_reads ≢ 0). at_end _ (λ bytes known. c.mark_source-came.new.source.ended bytes some known) in
     file_part _ g.W.Sink c.args.job.now covering _ _ _ _ _ came.pass _ left c.new-source.ensures.empty_reads ends _ asked (c.mark_source-came.ensures.walks covering by).begun came.pass.selected total
 
 pub returns-in-None-clause-comes : goal.returns-in-None-clause-comes
-returns-in-None-clause-comes g c = λ covering by.
+returns-in-None-clause-comes g c = λ known kept covering by.
     let came = c.mark_source-came.result in
     let walks = c.mark_source-came.ensures.walks covering by in
     let asked = ap (file_asked c.args.job.now) (sym (covering_rules g.A.Automaton c.args.marking.now.cover covering c.args.marking.now.rules.now by c.requires.ready.rules)) in
-    let left = c.new-source.ensures.remaining ∙ ap g.R.Read.remaining c.new.ensures.reader in
+    let left = subst (Keeps known) (sym (c.new-source.ensures.remaining ∙ ap g.R.Read.remaining c.new.ensures.reader)) kept in
     let ends = λ (some : c.mark_source-came.new.source.empty_reads ≢ 0). at_end _ (λ bytes known. c.mark_source-came.new.source.ended bytes some known) in
     record {
       searched = if_searched c.end_file.result _ _ (λ any is. file_searched _ g.W.Sink c.args.job.now covering _ _ _ _ _ came.pass _ left c.new-source.ensures.empty_reads ends _ asked came.done walks (c.in-None.ensures.none refl) any is)
           c.end_file.ensures.ended;
-      begun = if_broken c.end_file.result (part_of g (goal.at.returns-in-None-clause-comes g c).After-mark_source-came covering by _) c.end_file.ensures.begun;
+      begun = if_broken c.end_file.result (part_of g (goal.at.returns-in-None-clause-comes g c).After-mark_source-came known kept covering by _) c.end_file.ensures.begun;
     }
 
 pub returns-in-Some-Rule-clause-comes : goal.returns-in-Some-Rule-clause-comes
-returns-in-Some-Rule-clause-comes g c = λ covering by. record {
+returns-in-Some-Rule-clause-comes g c = λ known kept covering by. record {
   searched = tt;
-  begun = part_of g (goal.at.returns-in-Some-Rule-clause-comes g c).After-mark_source-came covering by _ (total_none _ _ _ _ c.flush.ensures.kept);
+  begun = part_of g (goal.at.returns-in-Some-Rule-clause-comes g c).After-mark_source-came known kept covering by _ (total_none _ _ _ _ c.flush.ensures.kept);
 }
 
 pub returns-clause-comes : goal.returns-clause-comes
-returns-clause-comes g c = λ covering by. record {
+returns-clause-comes g c = λ known kept covering by. record {
   searched = if_searched c.break_off.result _ _ (λ any none. absurd none) c.break_off.ensures.unsearched;
-  begun = on_broken c.break_off.result (part_of g (goal.at.returns-clause-comes g c).After-mark_source-came covering by _ c.break_off.ensures.begun);
+  begun = on_broken c.break_off.result (part_of g (goal.at.returns-clause-comes g c).After-mark_source-came known kept covering by _ c.break_off.ensures.begun);
 }
 
 pub returns-in-None-clause-told : goal.returns-in-None-clause-told

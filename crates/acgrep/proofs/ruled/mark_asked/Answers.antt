@@ -1,19 +1,9 @@
 -- The rules were read, and what was said was done by them.
-use Rattle.std.proofs.Common.{inl, refl, subst}
-use Rattle.std.proofs.KnownBytes.{Keeps-refl}
-use Rattle.tool_parts.specs.declared.errors.Errors.{Errors}
-use Rattle.acgrep.specs.Told.{TellsStatus}
+use Rattle.std.proofs.Common.{refl}
 use Rattle.acgrep.specs.ToldByRules.{IsMarkTold}
 use Rattle.acgrep.specs.declared.options.Shown.TheVariants.{Nothing}
 use Rattle.acgrep.proofs.Told.{status-some}
 use Rattle.acgrep.proofs.ruled.mark_asked.Goals as goal
 
-pub returns-in_default-clause-begins : goal.returns-in_default-clause-begins
-returns-in_default-clause-begins g c = inl (Keeps-refl (g.W.Sink.taken c.args.output.now))
-
 pub returns-in_default-clause-told : goal.returns-in_default-clause-told
 returns-in_default-clause-told g c = status-some g.E.Sink IsMarkTold c.args.given.now.flags.no_messages Nothing c.args.errors.now c.read_rules.new.errors (c.in_default.ensures.told refl)
-
-pub returns-clause-told : goal.returns-clause-told
-returns-clause-told g c =
-    subst (λ (e : Errors g.row.E.Denot). TellsStatus g.E.Sink IsMarkTold c.args.given.now.flags.no_messages Nothing c.search_by.result e c.search_by.new.errors) (c.in-Some.ensures.silent refl) c.search_by.ensures.told

@@ -1,14 +1,19 @@
 -- What was found was searched, and what cannot be read was told before.
-use Rattle.std.proofs.Common.{◌∙◌, ◌≡◌, [], ap, inr, refl}
+use Rattle.std.proofs.Common.{◌<◌, ◌∙◌, ◌≡◌, [], ap, false, inl, inr, refl, subst, sym, ℕ}
+use Rattle.secret_rules.specs.Covering.{Covering}
 use Rattle.tool_parts.specs.Names.{name_bytes}
 use Rattle.acgrep.specs.Arguments.{shown_by}
 use Rattle.acgrep.specs.Folders.{missed_of}
+use Rattle.acgrep.specs.InTurn.{AreDoneOr}
 use Rattle.acgrep.specs.Listed.{listed_bytes}
+use Rattle.acgrep.specs.MarkedFiles.{mark_work}
 use Rattle.acgrep.specs.Runs.{are_several, status_reached}
+use Rattle.acgrep.specs.Told.{TellsStatus}
 use Rattle.acgrep.specs.ToldByRules.{IsMarkTold}
-use Rattle.acgrep.proofs.MarksTold.{missed-told, some-told}
-use Rattle.acgrep.proofs.Reaching.{reached-bound, reached-low}
-use Rattle.acgrep.proofs.Told.{status-some}
+use Rattle.acgrep.proofs.InTurn.{status_seen}
+use Rattle.acgrep.proofs.MarksTold.{some-told}
+use Rattle.acgrep.proofs.Reaching.{missed-told, reached-bound, reached-low}
+use Rattle.acgrep.proofs.Told.{status-seen, status-some}
 use Rattle.acgrep.proofs.ruled.mark_operands.Goals as goal
 
 pub returns-in_default-clause-told : goal.returns-in_default-clause-told
@@ -22,21 +27,37 @@ returns g c =
     let files = listed_bytes c.in-Some.found.names.items in
     let unread = missed_of c.in-Some.found.unread.items in
     let job = c.job_of-job.result in
-    let found = c.mark_names-status.result in
+    let left = g.R.Read.remaining c.args.input.now in
+    let held = g.W.Sink.taken c.args.output.now in
+    let held' = g.W.Sink.taken c.mark_each-seen.new.output in
+    let read = c.mark_each-seen.new.marking.input_read in
+    let seen = c.mark_each-seen.result in
+    let found = c.status-status.result in
+    let is = c.status-status.ensures.seen in
+    let Work = λ (covering : Covering). mark_work job covering (g.F.Open.holds c.args.operands.now.files.now) left in
     let listed : listed_bytes c.as_slice-names.result.now ≡ files = ap listed_bytes c.as_slice-names.ensures.value in
     let several : c.are_several-several.result ≡ are_several flags (name_bytes c.args.operands.now.names.now) files = c.are_several-several.ensures.several ∙ ap (are_several flags _) listed in
     let is_job = rw several at c.job_of-job.ensures.job in
     let status : c.status_below.result ≡ status_reached flags unread found = c.status_below.ensures.status ∙ ap (λ l. status_reached flags (missed_of l) found) c.as_slice.ensures.value in
-    let told = rw (is_job.hushed, is_job.shown) at c.mark_names-status.ensures.told in
+    let told = subst (λ (n : ℕ). TellsStatus g.E.Sink IsMarkTold job.hushed job.shown n c.reach.new.errors c.mark_each-seen.new.errors) (sym is)
+    (status-seen g.E.Sink IsMarkTold job.hushed job.shown seen c.reach.new.errors c.mark_each-seen.new.errors c.mark_each-seen.ensures.told) in
     record {
-      bound = rw status (reached-bound flags unread found c.mark_names-status.ensures.bound);
+      bound = rw status (reached-bound flags unread found c.status-status.ensures.bound);
       searched = λ covering by low. record {
         files = files;
         unread = unread;
         reached = c.in-Some.ensures.reached;
         job = job;
         is_job = is_job;
-        does = (found, rw listed at c.mark_names-status.ensures.searched covering by (reached-low flags unread found (rw status at low)), status);
+        does = (
+          found,
+          (
+            read,
+            subst (AreDoneOr (Work covering) job.shown files false read held held') (sym is) (status_seen (Work covering) job.shown files false read held held' seen
+                (rw listed at c.mark_each-seen.ensures.seen covering by) (subst (λ (n : ℕ). n < 2) is (reached-low flags unread found (rw status at low)))),
+          ),
+          status,
+        );
       };
       begun = λ covering by. inr (record {
         files = files;
@@ -44,7 +65,7 @@ returns g c =
         reached = c.in-Some.ensures.reached;
         job = job;
         is_job = is_job;
-        does = rw listed at c.mark_names-status.ensures.begun covering by;
+        does = (rw listed at c.mark_each-seen.ensures.seen covering by).begun;
       });
-      told = rw status (missed-told g.E.Sink flags unread found _ _ _ c.in-Some.ensures.told told);
+      told = rw status (missed-told g.E.Sink IsMarkTold flags unread (λ asked line is. inl (unread, is)) found _ _ _ c.in-Some.ensures.told (rw (is_job.hushed, is_job.shown) at told));
     }

@@ -1,7 +1,7 @@
 -- A text is written, or a search is made, and its status told.
-use Rattle.std.proofs.Common.{◌<◌, ◌∙◌, ◌≡◌, Bool, List, Some, arith, eqb-true, false, inl, inr, refl, subst, sym, true, ℕ}
+use Rattle.std.proofs.Common.{◌<◌, ◌≡◌, Bool, List, Some, arith, eqb-true, false, inl, inr, refl, subst, sym, true, ℕ}
 use Rattle.std.proofs.KnownBytes.{Keeps-refl}
-use Rattle.std.proofs.lemmas.Bool.{cases_Bool, true≢false}
+use Rattle.std.proofs.lemmas.Bool.{cases_Bool}
 use Rattle.std.specs.Prelude.{nat_eq}
 use Rattle.aho_devices.specs.declared.device.Sink.{Ghosts as SinkGhosts}
 use Rattle.tool_parts.specs.Telling.{TellsBytes}
@@ -55,19 +55,13 @@ returns-then-given-2-clause-told g c = λ by.
     status-weaker g.E.Sink (MayTell (names_said (Some given))) (MaySaid _ _ (Some given)) given.flags.no_messages (shown_by given.flags) c.write_text-then-given-2.result c.args.errors.now c.write_text-then-given-2.new.errors
     (λ line is. inl is) (c.write_text-then-given-2.ensures.told given.flags.no_messages (shown_by given.flags) (names_said (Some given)))
 
-pub returns-then-given-clause-searches : goal.returns-then-given-clause-searches
-returns-then-given-clause-searches g c = λ asks low. absurd (true≢false (sym c.if-given.true ∙ asks.asks.no_version))
-
-pub returns-then-given-2-clause-searches : goal.returns-then-given-2-clause-searches
-returns-then-given-2-clause-searches g c = λ asks low. absurd (true≢false (sym c.if-given-2.true ∙ asks.asks.no_help))
-
 pub returns-clause-searches : goal.returns-clause-searches
 returns-clause-searches g c = λ asks low.
     let found = c.search_ruled-status.result in
     let ok = c.args.given.flags.no_match_ok in (
       found,
-      c.search_ruled-status.ensures.searches (told-low ok found (subst (λ (n : ℕ). n < 2) c.status_told-2.ensures.told low)),
-      c.status_told-2.ensures.told,
+      c.search_ruled-status.ensures.searches asks.by_patterns (told-low ok found (subst (λ (n : ℕ). n < 2) c.status_told.ensures.told low)),
+      c.status_told.ensures.told,
     )
 
 pub returns-clause-told : goal.returns-clause-told
@@ -75,9 +69,9 @@ returns-clause-told g c = λ by.
     let given = said c.args.given in
     let known = known_by g.F.Open g.F.Folders c.args.files.now in
     let left = g.R.Read.remaining c.args.input.now in
-    subst (λ (n : ℕ). TellsOfCall g.E.Sink known left given n c.args.errors.now c.search_ruled-status.new.errors) (sym c.status_told-2.ensures.told)
+    subst (λ (n : ℕ). TellsOfCall g.E.Sink known left given n c.args.errors.now c.search_ruled-status.new.errors) (sym c.status_told.ensures.told)
     (told-status g.E.Sink (MaySaid known left (Some given)) given.flags.no_messages (shown_by given.flags) given.flags.no_match_ok c.search_ruled-status.result
-    c.args.errors.now c.search_ruled-status.new.errors c.search_ruled-status.ensures.told)
+    c.args.errors.now c.search_ruled-status.new.errors (c.search_ruled-status.ensures.told by.0))
 
 -- options that do not go together are told
 pub returns-in-Some : goal.returns-in-Some
@@ -98,36 +92,19 @@ returns-in-Some g c =
     }
 
 -- by rules files are searched so
-pub returns-then-given-3-clause-marks : goal.returns-then-given-3-clause-marks
-returns-then-given-3-clause-marks g c = λ asks low.
-    let found = c.mark_said-marked.result in
+pub returns-clause-marks : goal.returns-clause-marks
+returns-clause-marks g c = λ asks low.
+    let found = c.search_ruled-status.result in
     let ok = c.args.given.flags.no_match_ok in (
       found,
-      c.mark_said-marked.ensures.searches (told-low ok found (subst (λ (n : ℕ). n < 2) c.status_told.ensures.told low)),
+      c.search_ruled-status.ensures.marks asks.by_rules (told-low ok found (subst (λ (n : ℕ). n < 2) c.status_told.ensures.told low)),
       c.status_told.ensures.told,
     )
 
-pub returns-then-given-3-clause-begins_marks : goal.returns-then-given-3-clause-begins_marks
-returns-then-given-3-clause-begins_marks g c = λ asks. c.mark_said-marked.ensures.begins
-
-pub returns-then-given-3-clause-searches : goal.returns-then-given-3-clause-searches
-returns-then-given-3-clause-searches g c = λ asks low. absurd (true≢false (sym c.if-given-3.true ∙ asks.by_patterns))
-
-pub returns-then-given-3-clause-told : goal.returns-then-given-3-clause-told
-returns-then-given-3-clause-told g c = λ by. absurd (true≢false (sym c.if-given-3.true ∙ by.0))
-
 -- what is told of a call by rules
-pub returns-then-given-clause-told_marks : goal.returns-then-given-clause-told_marks
-returns-then-given-clause-told_marks g c = λ asks. absurd (true≢false (sym c.if-given.true ∙ asks.asks.no_version))
-
-pub returns-then-given-2-clause-told_marks : goal.returns-then-given-2-clause-told_marks
-returns-then-given-2-clause-told_marks g c = λ asks. absurd (true≢false (sym c.if-given-2.true ∙ asks.asks.no_help))
-
-pub returns-then-given-3-clause-told_marks : goal.returns-then-given-3-clause-told_marks
-returns-then-given-3-clause-told_marks g c = λ asks.
-    let flags = c.args.given.flags in
-    subst (λ (n : ℕ). TellsStatus g.E.Sink IsMarkTold flags.no_messages Nothing n c.args.errors.now c.mark_said-marked.new.errors) (sym c.status_told.ensures.told)
-    (told-status g.E.Sink IsMarkTold flags.no_messages Nothing flags.no_match_ok c.mark_said-marked.result c.args.errors.now c.mark_said-marked.new.errors c.mark_said-marked.ensures.told)
 
 pub returns-clause-told_marks : goal.returns-clause-told_marks
-returns-clause-told_marks g c = λ asks. absurd (true≢false (sym asks.by_rules ∙ c.if-given-3.false))
+returns-clause-told_marks g c = λ asks.
+    let flags = c.args.given.flags in
+    subst (λ (n : ℕ). TellsStatus g.E.Sink IsMarkTold flags.no_messages Nothing n c.args.errors.now c.search_ruled-status.new.errors) (sym c.status_told.ensures.told)
+    (told-status g.E.Sink IsMarkTold flags.no_messages Nothing flags.no_match_ok c.search_ruled-status.result c.args.errors.now c.search_ruled-status.new.errors (c.search_ruled-status.ensures.told_marks asks.by_rules))

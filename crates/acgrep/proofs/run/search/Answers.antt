@@ -1,6 +1,5 @@
 -- The searcher was built from the lines that were read.
 use Rattle.std.proofs.Common.{◌+◌, ◌<◌, ◌∙◌, ◌∷◌, ◌≡◌, Bool, List, [], ap, arith, drop, false, inl, inr, length, refl, subst, sym, true, ℕ}
-use Rattle.std.proofs.KnownBytes.{Keeps-refl}
 use Rattle.std.proofs.lemmas.Bool.{and_parts, eq-eqb, leb-true}
 use Rattle.std.specs.Prelude.{◌&&◌, if◌then◌else◌, nat_le, slice_index_or, slice_range}
 use Rattle.aho_core.specs.Bytes.{IsSameWord, folded_by}
@@ -80,12 +79,6 @@ fold_ending false ignore_case byte same = fold_low ignore_case byte 10 (omega ar
 free_plain : (flags : Flags) (kind : MatchKind) (ignore_case : Bool) (words : List (List ℕ)) → AreFreeOf (ending_by flags) words → HoldNoEnding (ending_by flags) (patterns_by_kind kind ignore_case words)
 free_plain flags kind ignore_case words free number place low within = λ same.
     free number low place (omega arith) within (eq-eqb _ _ (fold_ending flags.null_data ignore_case _ same))
-
-pub search_or_count-requires : goal.search_or_count-requires
-search_or_count-requires g c =
-    let flags = c.args.given.now.flags in
-    let asked = patterns_by_kind (kind_sought flags) flags.ignore_case (pieces_of c.sought-words.result.now) in
-    record { of = (asked, rw c.kind_sought.ensures at c.in-Ok-searcher_of.ensures.of) }
 
 -- the patterns are read and searched for
 pub returns-in-Ok-searcher_of : goal.returns-in-Ok-searcher_of
@@ -173,35 +166,19 @@ returns-then-knows_none g c =
     }
 
 -- or a pattern cannot be read or searched for
-pub returns-in_default : goal.returns-in_default
-returns-in_default g c = record {
-  bound = omega arith;
-  searches = λ low. absurd (omega (arith, low));
-  begins = inl (Keeps-refl _);
-  told = sources-told g.E.Sink (tree_of g.F.Folders c.args.files.now) (said c.args.given.now) (origins_of c.args.sources.now) (name_bytes c.args.names.now) _ _ _ refl (c.in_default.ensures.told refl);
-}
+pub returns-in_default-clause-told : goal.returns-in_default-clause-told
+returns-in_default-clause-told g c =
+    sources-told g.E.Sink (tree_of g.F.Folders c.args.files.now) (said c.args.given.now) (origins_of c.args.sources.now) (name_bytes c.args.names.now) _ _ _ refl (c.in_default.ensures.told refl)
 
-pub returns-in_default-lines_of : goal.returns-in_default-lines_of
-returns-in_default-lines_of g c = record {
-  bound = omega arith;
-  searches = λ low. absurd (omega (arith, low));
-  begins = inl (Keeps-refl _);
-  told = sources-told g.E.Sink (tree_of g.F.Folders c.args.files.now) (said c.args.given.now) (origins_of c.args.sources.now) (name_bytes c.args.names.now) _ _ _ (c.in-Some.ensures.silent refl)
-      (c.tell_memory.ensures.told (source_names (origins_of c.args.sources.now)));
-}
+pub returns-in_default-lines_of-clause-told : goal.returns-in_default-lines_of-clause-told
+returns-in_default-lines_of-clause-told g c =
+    sources-told g.E.Sink (tree_of g.F.Folders c.args.files.now) (said c.args.given.now) (origins_of c.args.sources.now) (name_bytes c.args.names.now) _ _ _ (c.in-Some.ensures.silent refl)
+    (c.tell_memory.ensures.told (source_names (origins_of c.args.sources.now)))
 
-pub returns-in-Some-first_holding : goal.returns-in-Some-first_holding
-returns-in-Some-first_holding g c = record {
-  bound = omega arith;
-  searches = λ low. absurd (omega (arith, low));
-  begins = inl (Keeps-refl _);
-  told = sources-told g.E.Sink (tree_of g.F.Folders c.args.files.now) (said c.args.given.now) (origins_of c.args.sources.now) (name_bytes c.args.names.now) _ _ _ (c.in-Some.ensures.silent refl) c.tell_ending.ensures.told;
-}
+pub returns-in-Some-first_holding-clause-told : goal.returns-in-Some-first_holding-clause-told
+returns-in-Some-first_holding-clause-told g c =
+    sources-told g.E.Sink (tree_of g.F.Folders c.args.files.now) (said c.args.given.now) (origins_of c.args.sources.now) (name_bytes c.args.names.now) _ _ _ (c.in-Some.ensures.silent refl) c.tell_ending.ensures.told
 
-pub returns : goal.returns
-returns g c = record {
-  bound = omega arith;
-  searches = λ low. absurd (omega (arith, low));
-  begins = inl (Keeps-refl _);
-  told = sources-told g.E.Sink (tree_of g.F.Folders c.args.files.now) (said c.args.given.now) (origins_of c.args.sources.now) (name_bytes c.args.names.now) _ _ _ (c.in-Some.ensures.silent refl) c.tell_refusal.ensures.told;
-}
+pub returns-clause-told : goal.returns-clause-told
+returns-clause-told g c =
+    sources-told g.E.Sink (tree_of g.F.Folders c.args.files.now) (said c.args.given.now) (origins_of c.args.sources.now) (name_bytes c.args.names.now) _ _ _ (c.in-Some.ensures.silent refl) c.tell_refusal.ensures.told

@@ -1,6 +1,5 @@
 -- Without a pattern nothing is written.
 use Rattle.std.proofs.Common.{◌<◌, ◌∙◌, ◌∷◌, ◌≡◌, Bor, List, [], arith, false, inl, inr, length, refl, sym, ℕ}
-use Rattle.std.proofs.KnownBytes.{Keeps-refl}
 use Rattle.std.proofs.lemmas.Grind.{common_steps}
 use Rattle.std.proofs.lemmas.List.{nil_from_length}
 use Rattle.std.specs.List.{concat}
@@ -16,9 +15,6 @@ use Rattle.acgrep.proofs.Told.{status-some}
 use Rattle.acgrep.proofs.run.search_asked.Given.{Over}
 use Rattle.acgrep.proofs.run.search_asked.Goals.{After-search}
 use Rattle.acgrep.proofs.run.search_asked.Goals as goal
-
-pub returns-in-None-clause-begins : goal.returns-in-None-clause-begins
-returns-in-None-clause-begins g c = inl (Keeps-refl (g.W.Sink.taken c.args.output.now))
 
 pub returns-in-None-clause-told : goal.returns-in-None-clause-told
 returns-in-None-clause-told g c =

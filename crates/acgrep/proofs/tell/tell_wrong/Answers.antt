@@ -1,9 +1,6 @@
 -- The parts are those of what is told.
 use Rattle.acgrep.proofs.tell.tell_wrong.Goals as goal
 
-pub returns-in-NotFound : goal.returns-in-NotFound
-returns-in-NotFound g c = record { told = rw c.in-NotFound.is c.tell_misuse-in-NotFound.ensures.told }
-
 pub returns-in-NoArgument : goal.returns-in-NoArgument
 returns-in-NoArgument g c = record { told = rw c.in-NoArgument.is (rw c.valued_name.ensures.name at c.tell_misuse-in-NoArgument.ensures.told) }
 

@@ -1,8 +1,0 @@
--- A message is told.
-use Rattle.std.proofs.Common.{None, Some, inl, inr, refl}
-use Rattle.acgrep.specs.Told.{unusable_text}
-use Rattle.acgrep.proofs.Told.{tells-cause}
-use Rattle.acgrep.proofs.tell.tell_unusable.Goals as goal
-
-pub returns : goal.returns
-returns g c = record { told = λ names is. tells-cause g.E.Sink names _ _ (Some c.args.name.now) None unusable_text (inr is) (inl (inr (inr (inr (inr (inr (inr refl))))))) c.tell.ensures.told }
