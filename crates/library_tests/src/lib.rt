@@ -17,6 +17,8 @@ mod covering;
 #[cfg(test)]
 mod errors;
 #[cfg(test)]
+mod forms;
+#[cfg(test)]
 mod hybrid;
 #[cfg(test)]
 mod iteration;
@@ -31,6 +33,8 @@ pub mod names;
 mod numbers;
 #[cfg(test)]
 mod one_byte;
+#[cfg(test)]
+mod options;
 #[cfg(test)]
 mod overlaps;
 #[cfg(test)]

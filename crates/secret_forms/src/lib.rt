@@ -22,6 +22,3 @@ pub use hex_form::hex_forms;
 pub use json_form::json_forms;
 pub use lines_form::lines_forms;
 pub use spelled_form::{shell_forms, spelled_forms, url_forms, xml_forms};
-
-#[cfg(test)]
-mod tests;

@@ -4,5 +4,3 @@
 pub mod argument;
 pub mod found;
 pub mod misuse;
-#[cfg(test)]
-mod tests;

@@ -1,6 +1,6 @@
 //! Rows of Python's own encoders, of base64 of the secret with each byte that can stand beside it.
 
-use crate::{
+use secret_forms::{
     Form, FormError, base64_forms, forms, hex_forms, json_forms, lines_forms, nested_forms,
     shell_forms, url_forms, xml_forms,
 };

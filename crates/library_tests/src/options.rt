@@ -1,7 +1,7 @@
 //! Names and their beginnings, and what arguments are.
 
-use crate::options::argument::{Argument, argument_of, text_argument_of};
-use crate::options::found::{Found, NotFound};
+use tool_parts::options::argument::{Argument, argument_of, text_argument_of};
+use tool_parts::options::found::{Found, NotFound};
 
 /// The number of the option that is meant, or of why there is none.
 fn meant_by(asked: &[u8]) -> u8 {
