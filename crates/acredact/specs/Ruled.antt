@@ -26,7 +26,6 @@ use Rattle.tool_parts.specs.Telling.{Tells, TellsSome}
 use Rattle.tool_parts.specs.declared.errors.Errors.{Errors}
 use Rattle.tool_parts.specs.declared.reason.Reason.{Reason}
 use Rattle.tool_parts.specs.declared.reason.Reason.TheVariants.{PositionLimit as TooLong, ReadFault}
-use Rattle.acredact.specs.Pseudonyms.{pseudonym_rule}
 use Rattle.secret_rules.specs.Covering.{AreLineRuns, Covering, covering_by, lines_cover}
 use Rattle.secret_rules.specs.LineCovers.{AreSearchedFor, LeavesLines}
 use Rattle.secret_rules.specs.Lines.{stream_lines}
@@ -41,8 +40,7 @@ use Rattle.acredact.specs.Doubts.{TellsDoubts, all_doubt_lines}
 use Rattle.acredact.specs.Files.{BeginsWriting, WritesText}
 use Rattle.acredact.specs.LineRules.{AreRulesRead, most_asked}
 use Rattle.acredact.specs.LongLines.{TellsLong}
-use Rattle.acredact.specs.Loading.{AreGiven, IsKeyGiven, Reading, key_in, key_lent}
-use Rattle.acredact.specs.Named.{all_named}
+use Rattle.acredact.specs.Loading.{AreGiven, IsKeyGiven, Reading, key_in, key_lent, secrets_by}
 use Rattle.acredact.specs.Reads.{EachName, OfName}
 use Rattle.acredact.specs.RuleLines.{IsRuledLine, too_long_line}
 use Rattle.acredact.specs.RunCounts.{CountsTextRuns, CountsAllRuns, CountsFileRuns, HaveRuns, IsRunsLine, TellsAnyTotals, TellsRunTotals}
@@ -189,11 +187,6 @@ pub record AreRulesGiven (reading : Reading) (given : List Given) (secrets : Lis
   pub rules_given : AreRulesRead reading given rules between left'
   pub sound : AreSound rules
 
--- where forms are asked for a key names each secret, in whatever form that stands
-abbrev pub secrets_by : List Given → Option (List ℕ) → List Secret → List Secret
-secrets_by given None secrets = secrets
-secrets_by given (Some key) secrets = if has Forms given then all_named (pseudonym_rule (has IgnoreCase given) key) secrets else secrets
-
 pub record AreRuledLoaded (reading : Reading) (given : List Given) (load : RuledLoad) (left left' : Option (List ℕ)) : Type 0 where
   pub secrets : List Secret
   pub between : Option (List ℕ)
@@ -207,12 +200,9 @@ load_as secrets rules key = record { secrets = secrets; rules = rules; key = key
 abbrev pub ruled_load : List PatternRule → List Rule → Option (Bor (List ℕ)) → RuledLoad
 ruled_load secrets rules key = load_as (secrets_of secrets) rules (key_lent key)
 
--- these patterns and rules with a key, and with one that may name them
+-- these patterns and rules with a key
 abbrev pub load_in : KeyedRules → RuledLoad
-load_in made = load_as (secrets_of made.given.secrets.items) made.given.rules (key_in made.key)
-
-abbrev pub IsKeyedBy : List Item → GivenRules → Option (List ℕ) → KeyedRules → Type 0
-IsKeyedBy items rules key made = load_in made ≡ load_as (secrets_by (all_given items) key (secrets_of rules.secrets.items)) rules.rules key
+load_in made = load_as (secrets_of made.secrets.rules.items) made.rules (key_in made.secrets.key)
 
 -- those that some arguments ask for were read, and the key beside them
 module _ {F X : Type 0} (D : Folders F X) (folder : F) (items : List Item) where
@@ -221,9 +211,6 @@ module _ {F X : Type 0} (D : Folders F X) (folder : F) (items : List Item) where
 
   abbrev pub AreRulesKeyedBy : (left left' : Option (List ℕ)) → KeyedRules → Type 0
   AreRulesKeyedBy left left' made = AreRuledLoaded (reading_by (call_of D folder (all_given items))) (all_given items) (load_in made) left left'
-
-  abbrev pub KeysRules : GivenRules → Result KeyedRules RuledFailure → (left left' : Option (List ℕ)) → Type 0
-  KeysRules rules result left left' = (first : Option (List ℕ)) → AreRulesGivenBy first left rules → IfOk result (AreRulesKeyedBy first left')
 
 -- the patterns that are searched for: all that occurs counts
 abbrev pub patterns_by_case : List Given → List (List ℕ) → Patterns
