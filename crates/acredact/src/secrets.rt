@@ -40,11 +40,12 @@ pub fn load<'a, F: Folder, I: Read>(
     ensures fails { IfErr result (CannotLoadBy F.Folder folder.now given.now) }
 {
     let lists = lists_of(alloc, given, folder);
-    match rules(&lists, given, input) {
-        Ok(rules) => {
-            let keyed = load_key(alloc, given, rules, folder, input)?;
-            Ok(for_runs(given, keyed))
-        }
+    let rules = match rules(&lists, given, input) {
+        Ok(rules) => rules,
+        Err(failure) => return Err(failure),
+    };
+    match load_key(alloc, given, rules, folder, input) {
+        Ok(keyed) => Ok(for_runs(given, keyed)),
         Err(failure) => Err(failure),
     }
 }

@@ -9,10 +9,10 @@ use Rattle.acredact.proofs.Naming.{loaded_some}
 use Rattle.acredact.proofs.Ready.{reading_from}
 use Rattle.acredact.proofs.secrets.load.Goals as goal
 
-pub returns-in_ok-keyed-in-Ok : goal.returns-in_ok-keyed-in-Ok
-returns-in_ok-keyed-in-Ok g c =
+pub returns-in-Ok-load_key : goal.returns-in-Ok-load_key
+returns-in-Ok-load_key g c =
     let given = all_given c.args.given.now in
-    let keyed = c.in_ok-keyed-in-Ok.ensures.keyed in
+    let keyed = c.in-Ok-load_key.ensures.keyed in
     let all = reading_from g.F.Folder c.lists_of-lists.result c.args.folder.now (rules_asked given) c.lists_of-lists.ensures.folder c.lists_of-lists.ensures.rules
     (λ r. AreGiven r given (secrets_of c.in-Ok.rules.items) (bytes_left c.args.input.now) (bytes_left c.rules.new.input)) c.in-Ok.ensures.given in
     let is = c.for_runs.ensures.same ∙ ap (λ (l : Loaded). loaded_of l.secrets (key_left given l.key)) keyed.is in
