@@ -152,10 +152,6 @@ AreSearchedBy G automaton searched = (p : Patterns) → G.is_of automaton p → 
 abbrev pub IfLined : {A P : Type 0} → Automata A → PieceGhosts P → Lined A P → (Ruling → Type 0) → Type 0
 IfLined G Q lined Holds = (ruling : Ruling) → IsLined G Q lined ruling → Holds ruling
 
--- it does so by the patterns of an automaton, with these pieces
-abbrev pub LinesBy : {A P : Type 0} → Automata A → PieceGhosts P → A → Bool → List Rule → ℕ → PieceRule → Lined A P → Type 0
-LinesBy G Q automaton words rules most rule lined = (p : Patterns) → G.is_of automaton p → IsLined G Q lined (ruling_as words rules most rule p)
-
 -- it does so by something
 abbrev pub IsAnyLined : {A P : Type 0} → Automata A → PieceGhosts P → Lined A P → Type 0
 IsAnyLined G Q lined = (ruling : Ruling) × IsLined G Q lined ruling

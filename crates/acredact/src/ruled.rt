@@ -20,7 +20,7 @@ use crate::options::{Item, Word, has};
 use crate::patterns::{Rule, replacements_of};
 use crate::prepare::{key_by, text_of};
 use crate::ruled_failure::{RuledFailure, tell_long, tell_ruled};
-use crate::ruled_files::{cover_files, lined_of};
+use crate::ruled_files::{Lined, cover_files, line_cover};
 use crate::ruled_load::{KeyedRules, load_keyed, ready_for_lines};
 use crate::run_counts::tell_runs;
 use crate::run_pieces::RunPieces;
@@ -174,7 +174,8 @@ fn redact_lines<'a, A: Automaton, F: Folder, I: Read, W: Write, E: Sink>(
     let mut counts = counts_for(alloc, texts.len())?;
     let words = has(given, Word::AsWord);
     let pieces = pieces_by(given, texts, key, secrets.len());
-    let mut lined = lined_of(alloc, automaton, rules, pieces, words, most)?;
+    let cover = line_cover(alloc, automaton, rules, words, most)?;
+    let mut lined = Lined { cover, pieces };
     let tally = counts.as_mut_slice();
     let mut volume = Volume { files: 0, bytes: 0 };
     let done = cover_files(&mut lined, folder, names, tally, &mut volume, streams);

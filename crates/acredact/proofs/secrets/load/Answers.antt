@@ -2,7 +2,7 @@
 use Rattle.std.proofs.Common.{inl, ap, ◌∙◌}
 use Rattle.tool_parts.specs.Streams.{bytes_left}
 use Rattle.acredact.specs.Arguments.{all_given}
-use Rattle.acredact.specs.Calls.{rules_asked}
+use Rattle.acredact.specs.Calls.{AreLoadedBy, rules_asked}
 use Rattle.acredact.specs.Loading.{AreGiven, CannotLoadAll, Loaded, key_left, loaded_of}
 use Rattle.acredact.specs.Tables.{secrets_of}
 use Rattle.acredact.proofs.Naming.{loaded_some}
@@ -16,7 +16,8 @@ returns-in-Ok-load_key g c =
     let all = reading_from g.F.Folder c.lists_of-lists.result c.args.folder.now (rules_asked given) c.lists_of-lists.ensures.folder c.lists_of-lists.ensures.rules
     (λ r. AreGiven r given (secrets_of c.in-Ok.rules.items) (bytes_left c.args.input.now) (bytes_left c.rules.new.input)) c.in-Ok.ensures.given in
     let is = c.for_runs.ensures.same ∙ ap (λ (l : Loaded). loaded_of l.secrets (key_left given l.key)) keyed.is in
-    let loaded = record { between = bytes_left c.rules.new.input; secrets = secrets_of c.in-Ok.rules.items; given_all = all; key = keyed.key; key_given = keyed.key_given; is = is } in
+    let loaded : AreLoadedBy g.F.Folder c.args.folder.now c.args.given.now (bytes_left c.args.input.now) (bytes_left c.load_key.new.input) c.for_runs.result =
+    record { between = bytes_left c.rules.new.input; secrets = secrets_of c.in-Ok.rules.items; given_all = all; key = keyed.key; key_given = keyed.key_given; is = is } in
     record { loaded = loaded; some = loaded_some _ _ _ _ _ loaded; fails = tt }
 
 pub returns-in-Err-clause-fails : goal.returns-in-Err-clause-fails
