@@ -9,7 +9,7 @@ use Rattle.aho_core.specs.Listing.{IsMember}
 use Rattle.aho_core.specs.Occurrence.{Occurrence}
 use Rattle.aho_core.specs.Patterns.{Patterns}
 use Rattle.aho_core.specs.Replacement.{pieces_of}
-use Rattle.aho_core.specs.declared.error.stream.StreamError.TheVariants.{Match, Read, Write, WriteZero, Memory, PositionLimit}
+use Rattle.aho_core.specs.declared.error.stream.StreamError.TheVariants.{Read, PositionLimit}
 use Rattle.aho_core.specs.declared.search.MatchKind.TheVariants.{Standard}
 use Rattle.aho_automaton.specs.declared.automaton.Automaton.{Ghosts as Automata}
 use Rattle.aho_cover.specs.Pieces.{PieceRule, fixed_rule}
@@ -32,7 +32,7 @@ use Rattle.secret_rules.specs.Lines.{stream_lines}
 use Rattle.secret_rules.specs.Ready.{CanCoverLines, most_of, rules_of, searched_automaton, words_of}
 use Rattle.secret_rules.specs.Rules.{AreSound}
 use Rattle.secret_rules.specs.declared.error.LineError.{LineError}
-use Rattle.secret_rules.specs.declared.error.LineError.TheVariants.{Mark, Stream}
+use Rattle.secret_rules.specs.declared.error.LineError.TheVariants.{Stream}
 use Rattle.secret_rules.specs.declared.rule.Rule.{Rule}
 use Rattle.acredact.specs.Arguments.{AsksForRules, Given, all_given, counts_asked, has, last_value}
 use Rattle.acredact.specs.Calls.{Call, IsUnreadLine, TellsOfFiles, call_of, keyed_as, names_asked, pieces_asked, reading_by, text_asked}
@@ -91,13 +91,9 @@ WritesLines ruling left left' held held' = RedactsLines ruling left left' held h
 -- what the end of a stream means for its file: a file that cannot be read is told, and anything else ends the call
 abbrev pub unread_of : Result (Unit {0}) LineError → Result (Option Reason) LineError
 unread_of (Ok x) = Ok None
-unread_of (Err (Stream (Match cause))) = Err (Stream (Match cause))
 unread_of (Err (Stream (Read fault))) = Ok (Some ReadFault)
-unread_of (Err (Stream (Write fault))) = Err (Stream (Write fault))
-unread_of (Err (Stream WriteZero)) = Err (Stream WriteZero)
-unread_of (Err (Stream Memory)) = Err (Stream Memory)
 unread_of (Err (Stream PositionLimit)) = Ok (Some TooLong)
-unread_of (Err (Mark error)) = Err (Mark error)
+unread_of (Err error) = Err error
 
 -- what comes of a text: its redaction was written, or a beginning of it; and where no reason is answered it was read to its end
 pub record LinesOutcome (ruling : Ruling) (result : Result (Option Reason) LineError) (counts counts' : List ℕ) (left left' held held' : Option (List ℕ)) : Type 0 where
