@@ -159,6 +159,10 @@ IsRefusedCall call failure = (load : Loaded) × (left : Option (List ℕ)) × (b
 abbrev pub CannotLoadCall : Call → Failure → Type 0
 CannotLoadCall call failure = CannotLoadAll (reading_by call) call.given failure ⊎ CannotLoadKey (reading_by call) call.given failure
 
+-- a key was loaded beside these rules, and names their secrets where forms are asked for
+abbrev pub IsKeyedBy : List Item → List Rule → Option (List ℕ) → Secrets → Type 0
+IsKeyedBy items rules key made = loaded_in made ≡ loaded_of (secrets_by (all_given items) key (secrets_of rules)) key
+
 -- what is loaded for some arguments, and what is where the rules were
 module _ {F X : Type 0} (D : Folders F X) (folder : F) (items : List Item) where
   abbrev pub CannotLoadBy : Failure → Type 0
@@ -171,7 +175,7 @@ module _ {F X : Type 0} (D : Folders F X) (folder : F) (items : List Item) where
   pub record AreKeyedBy (rules : List Rule) (left left' : Option (List ℕ)) (made : Secrets) : Type 0 where
     pub key : Option (List ℕ)
     pub key_given : IsKeyGiven (reading_by (call_of D folder (all_given items))) (last_value Pseudonym (all_given items)) key left left'
-    pub is : loaded_in made ≡ loaded_of (secrets_by (all_given items) key (secrets_of rules)) key
+    pub is : IsKeyedBy items rules key made
 
 -- why a call ends early: there is no pattern, one of the options or the key cannot be loaded, the counts cannot be written, a piece is not clean,
 -- the patterns are refused, the files are not redacted, or a pattern of a list is refused

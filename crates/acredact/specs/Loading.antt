@@ -148,11 +148,11 @@ secrets_by given None secrets = secrets
 secrets_by given (Some key) secrets = if has Forms given then all_named (pseudonym_rule (has IgnoreCase given) key) secrets else secrets
 
 -- and it names no run then
-abbrev pub key_left : List Given → Option (List ℕ) → Option (List ℕ)
-key_left given key = if has Forms given then None else key
+abbrev pub for_runs : List Given → Loaded → Loaded
+for_runs given load = loaded_of load.secrets (if has Forms given then None else load.key)
 
 abbrev pub loaded_by : List Given → List Secret → Option (List ℕ) → Loaded
-loaded_by given secrets key = loaded_of (secrets_by given key secrets) (key_left given key)
+loaded_by given secrets key = for_runs given (loaded_of (secrets_by given key secrets) key)
 
 pub record AreLoaded (reading : Reading) (given : List Given) (loaded : Loaded) (left left' : Option (List ℕ)) : Type 0 where
   pub between : Option (List ℕ)

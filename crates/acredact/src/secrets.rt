@@ -3,9 +3,8 @@
 ghost use Rattle.std.specs.Prelude.{◌≡◌, Option, Some, IfErr, IfOk};
 ghost use Rattle.tool_parts.specs.Streams.{bytes_left};
 ghost use Rattle.acredact.specs.Arguments.{all_given, has};
-ghost use Rattle.acredact.specs.Calls.{AreKeyedBy, AreLoadedBy, CannotLoadBy};
-ghost use Rattle.acredact.specs.Loading.{AreSome, key_in, key_left, key_lent, loaded_in, loaded_of, secrets_by};
-ghost use Rattle.acredact.specs.Tables.{secrets_of};
+ghost use Rattle.acredact.specs.Calls.{AreKeyedBy, AreLoadedBy, CannotLoadBy, IsKeyedBy};
+ghost use Rattle.acredact.specs.Loading.{AreSome, for_runs, key_in, key_lent, loaded_in};
 ghost use Rattle.acredact.specs.declared.options.Word.TheVariants.{IgnoreCase};
 
 use crate::failure::Failure;
@@ -52,8 +51,7 @@ pub fn load<'a, F: Folder, I: Read>(
 
 /// The same, but that a key that has named all secrets names no run.
 fn for_runs(given: &[Item<'_>], keyed: Secrets) -> Secrets
-    ensures same { loaded_in result ≡ loaded_of (loaded_in keyed).secrets
-        (key_left (all_given given.now) (loaded_in keyed).key) }
+    ensures same { loaded_in result ≡ for_runs (all_given given.now) (loaded_in keyed) }
 {
     if !has(given, Word::Forms) {
         return keyed;
@@ -90,8 +88,7 @@ fn with_key(
     rules: Vec<Rule>,
     key: Vec<u8>,
 ) -> Result<Secrets, AllocError>
-    ensures keyed { IfOk result (λ made. loaded_in made
-        ≡ loaded_of (secrets_by (all_given given.now) (Some key.items) (secrets_of rules.items)) (Some key.items)) }
+    ensures keyed { IfOk result (IsKeyedBy given.now rules.items (Some key.items)) }
 {
     if !has(given, Word::Forms) {
         return Ok(Secrets {

@@ -3,7 +3,7 @@ use Rattle.std.proofs.Common.{inl, ap, ◌∙◌}
 use Rattle.tool_parts.specs.Streams.{bytes_left}
 use Rattle.acredact.specs.Arguments.{all_given}
 use Rattle.acredact.specs.Calls.{AreLoadedBy, rules_asked}
-use Rattle.acredact.specs.Loading.{AreGiven, CannotLoadAll, Loaded, key_left, loaded_of}
+use Rattle.acredact.specs.Loading.{AreGiven, CannotLoadAll, for_runs}
 use Rattle.acredact.specs.Tables.{secrets_of}
 use Rattle.acredact.proofs.Naming.{loaded_some}
 use Rattle.acredact.proofs.Ready.{reading_from}
@@ -15,7 +15,7 @@ returns-in-Ok-load_key g c =
     let keyed = c.in-Ok-load_key.ensures.keyed in
     let all = reading_from g.F.Folder c.lists_of-lists.result c.args.folder.now (rules_asked given) c.lists_of-lists.ensures.folder c.lists_of-lists.ensures.rules
     (λ r. AreGiven r given (secrets_of c.in-Ok.rules.items) (bytes_left c.args.input.now) (bytes_left c.rules.new.input)) c.in-Ok.ensures.given in
-    let is = c.for_runs.ensures.same ∙ ap (λ (l : Loaded). loaded_of l.secrets (key_left given l.key)) keyed.is in
+    let is = c.for_runs.ensures.same ∙ ap (for_runs given) keyed.is in
     let loaded : AreLoadedBy g.F.Folder c.args.folder.now c.args.given.now (bytes_left c.args.input.now) (bytes_left c.load_key.new.input) c.for_runs.result =
     record { between = bytes_left c.rules.new.input; secrets = secrets_of c.in-Ok.rules.items; given_all = all; key = keyed.key; key_given = keyed.key_given; is = is } in
     record { loaded = loaded; some = loaded_some _ _ _ _ _ loaded; fails = tt }
