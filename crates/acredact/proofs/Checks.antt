@@ -4,7 +4,7 @@ use Rattle.std.proofs.Math.Bool.{or-false, or_assoc}
 use Rattle.std.specs.Prelude.{Bool, ◌⊎◌, ◌<◌, ◌||◌, ◌&&◌, not, Result, Ok, Err, IfErr}
 use Rattle.std.specs.Io.KnownBytes.{Keeps}
 use Rattle.std.specs.List.{All, concat}
-use Rattle.std.proofs.KnownBytes.{Consumes-nil}
+use Rattle.std.proofs.KnownBytes.{Consumes-nil, Keeps-refl}
 use Rattle.std.proofs.lemmas.List.Elements.{All-append, All-cons, All-nil}
 use Rattle.aho_devices.specs.declared.device.Sink.{Ghosts as SinkGhosts}
 use Rattle.tool_parts.specs.Names.{IsOneOf, is_input}
@@ -43,18 +43,13 @@ known_look r Few Many told left left' kept more Found holds =
     record { given = holds.given; ended = holds.ended; read = known_read told left left' holds.given kept holds.read; at_end = holds.at_end; some = holds.some }
 known_look r Few Many told left left' kept more (Unread reason) (why, (given, reads)) = (more reason why, (given, known_read told left left' given kept reads))
 
-same_look : (r : Redactor) (Few Many : Reason → Type 0) (left left' : Option (List ℕ)) → ((reason : Reason) → Few reason → Many reason) → (look : Look) → IsLook r Few look left left' → IsLook r Many look left left'
-same_look r Few Many left left' more Clean is = is
-same_look r Few Many left left' more Found is = is
-same_look r Few Many left left' more (Unread reason) is = (more reason is.0, is.1)
-
 -- the file of a name is that of the input, or of the folder, or cannot be opened
 module _ (quest : Quest) (name : List ℕ) where
   abbrev MayBeTold : Reason → Type 0
   MayBeTold reason = IsReadReason reason ⊎ quest.refuses name reason
 
   pub look_input : (look : Look) (left left' : Option (List ℕ)) → is_input name ≡ true → IsLook quest.redactor IsReadReason look left left' → IsLookOf quest name look left left'
-  look_input look left left' is looks = of_input quest.holds name (IsLook quest.redactor MayBeTold look) left left' is (same_look quest.redactor IsReadReason MayBeTold left left' (λ reason why. inl why) look looks)
+  look_input look left left' is looks = of_input quest.holds name (IsLook quest.redactor MayBeTold look) left left' is (known_look quest.redactor IsReadReason MayBeTold left left left' (Keeps-refl left) (λ reason why. inl why) look looks)
 
   pub look_opened : (look : Look) (given left left' rest : Option (List ℕ)) → is_input name ≡ false → left' ≡ left → Keeps (quest.holds name) given → IsLook quest.redactor IsReadReason look given rest → IsLookOf quest name look left left'
   look_opened look given left left' rest is same kept looks =

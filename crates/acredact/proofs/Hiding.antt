@@ -1,6 +1,6 @@
 -- What shows a secret in a form lies in a replaced range.
 use Rattle.std.proofs.Common.{◌≡◌, inl, inr, ℕ, zero, suc, ◌+◌, ◌-◌, ◌<◌, ◌≤◌, Bool, true, false, cond, List, [], ◌∷◌, ◌++◌, Option, length, length-append, map, take, drop, refl, sym, ap, subst, ◌∙◌, arith}
-use Rattle.std.specs.Prelude.{All, Contains, MatchBool, Some, None, chars, flat_map, if◌then◌else◌, nat_lt, slice_index_or, slice_range}
+use Rattle.std.specs.Prelude.{All, Contains, MatchBool, chars, flat_map, if◌then◌else◌, nat_lt, slice_index_or, slice_range}
 use Rattle.std.specs.declared.io.traits.Write.{Ghosts as Writers}
 use Rattle.std.proofs.lemmas.Bool.{lt-ltb, ltb-true}
 use Rattle.std.proofs.lemmas.List.Elements.{All-contains, Contains-append_left, Contains-append_right}
@@ -33,13 +33,12 @@ use Rattle.acredact.specs.Secrets.{NoByteIsKept, NoneIsWhole, Redactor}
 use Rattle.acredact.specs.Tables.{Secret, patterns_in}
 use Rattle.aho_cover.specs.Pieces.{PieceRule}
 use Rattle.aho_cover.specs.Words.{CountsIn}
-use Rattle.acredact.specs.Pseudonyms.{pseudonym_rule}
-use Rattle.acredact.specs.Arguments.{Given, covers_asked, has, words_asked}
+use Rattle.acredact.specs.Arguments.{covers_asked, words_asked}
 use Rattle.acredact.specs.Calls.{Call, HidesCall, RedactsCall, names_asked, work_by}
-use Rattle.acredact.specs.Loading.{Loaded, loaded_by}
-use Rattle.acredact.specs.Named.{all_named, named_secret}
-use Rattle.acredact.specs.declared.options.Word.TheVariants.{Forms as FormsOption, IgnoreCase}
+use Rattle.acredact.specs.Loading.{Loaded}
+use Rattle.acredact.specs.Named.{named_secret}
 use Rattle.acredact.proofs.Free.{named_as}
+use Rattle.acredact.proofs.Naming.{either_way}
 
 -- what a form hides is hidden where it shows
 module _ (patterns : List (List ℕ)) (secret text : List ℕ) (place : ℕ) where
@@ -205,17 +204,6 @@ named_patterns : (rule : PieceRule) (all secrets : List Secret) → patterns_in 
 named_patterns rule all [] = refl
 named_patterns rule all (secret ∷ secrets) = ap (λ l. secret.pattern ∷ l) (named_patterns rule all secrets)
 
-abbrev loaded_if : List Given → List Secret → List ℕ → Bool → Loaded
-loaded_if given secrets key b = if b then record { secrets = all_named (pseudonym_rule (has IgnoreCase given) key) secrets; key = None } else record { secrets = secrets; key = Some key }
-
-loaded_patterns : (given : List Given) (secrets : List Secret) (key : Option (List ℕ)) → patterns_in (loaded_by given secrets key).secrets ≡ patterns_in secrets
-loaded_patterns given secrets None = refl
-loaded_patterns given secrets (Some key) = by (has FormsOption given)
-  where
-    by : (b : Bool) → patterns_in (loaded_if given secrets key b).secrets ≡ patterns_in secrets
-    by true = named_patterns (pseudonym_rule (has IgnoreCase given) key) secrets secrets
-    by false = refl
-
 -- so no form shows a secret that a call redacts by a cover
 pub call_hides : {W : Type 0} (Writes : Writers W) (call : Call) (left left' : Option (List ℕ)) (output output' : FromWrite W) → covers_asked call.given ≡ true → words_asked call.given ≡ false
     → RedactsCall Writes call left left' output output' → HidesCall Writes call left left' output output'
@@ -226,5 +214,5 @@ call_hides Writes call left left' output output' covers every of =
       between = of.between;
       loaded = of.loaded;
       hidden = hidden_of _ all.plain (work_by call of.load) covers every
-          (ap (λ (l : Loaded). patterns_in l.secrets) of.loaded.is ∙ loaded_patterns call.given of.loaded.secrets of.loaded.key ∙ ap patterns_in all.are) all.hidden (names_asked call.given) _ _ _ _ of.is;
+          (ap (λ (l : Loaded). patterns_in l.secrets) of.loaded.is ∙ either_way (λ named. patterns_in named ≡ patterns_in of.loaded.secrets) call.given of.loaded.secrets of.loaded.key refl (λ rule. named_patterns rule of.loaded.secrets of.loaded.secrets) ∙ ap patterns_in all.are) all.hidden (names_asked call.given) _ _ _ _ of.is;
     }

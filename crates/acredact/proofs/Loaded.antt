@@ -59,9 +59,9 @@ known_text : (told left left' : Option (List ℕ)) (text : List ℕ) → Keeps t
 known_text told left left' text kept reads = record { read = known_read told left left' text kept reads.read; ended = reads.ended }
 
 -- and of a file by its name
-pub text_opened : (holds : List ℕ → Option (List ℕ)) (name text : List ℕ) (left opened : Option (List ℕ)) → is_input name ≡ false → Keeps (holds name) opened
-    → (rest : Option (List ℕ)) × ReadsText text opened rest → OfName holds name (ReadsText text) left left
-text_opened holds name text left opened is kept (rest, reads) = of_folder holds name (ReadsText text) left left is refl rest (known_text (holds name) opened rest text kept reads)
+pub text_opened : (holds : List ℕ → Option (List ℕ)) (name text : List ℕ) (left opened rest : Option (List ℕ)) → is_input name ≡ false → Keeps (holds name) opened
+    → ReadsText text opened rest → OfName holds name (ReadsText text) left left
+text_opened holds name text left opened rest is kept reads = of_folder holds name (ReadsText text) left left is refl rest (known_text (holds name) opened rest text kept reads)
 
 -- the text that is read is what the folder tells
 text_told : (holds : List ℕ → Option (List ℕ)) (name text : List ℕ) (left left' : Option (List ℕ)) → OfName holds name (ReadsText text) left left' → is_input name ≡ false → IfSome (holds name) (λ bytes. text ≡ bytes)

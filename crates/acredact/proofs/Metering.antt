@@ -18,7 +18,7 @@ use Rattle.acredact.specs.Streams.{ReachesStream, RedactsStream, StreamOutcome}
 use Rattle.acredact.specs.Totals.{CountsOfStream, DoesStream}
 use Rattle.acredact.specs.Volumes.{AddsBytes, AddsName, AddsNames, AddsStream, ReadsVolume}
 use Rattle.acredact.specs.declared.summary.Volume.{Volume}
-use Rattle.acredact.proofs.OneFile.{ends_by, known_read, of_folder, of_input}
+use Rattle.acredact.proofs.OneFile.{ended_text, known_read, of_folder, of_input}
 
 -- more was given
 pub metered_more : (whole left left' : Option (List ℕ)) (start bytes : ℕ) (given : List ℕ) → Consumes left left' given → IsMetered whole left start bytes → IsMetered whole left' start (min (bytes + length given) (2 ^ 64 - 1))
@@ -119,10 +119,7 @@ pub text_bytes : {R : Type 0} (S : SourceGhosts R) (source source' : R) (before 
     → AddsStream S source source' bytes bytes' → AddsBytes bytes bytes' before (S.remaining source')
 text_bytes S source source' before bytes bytes' left none ends whole = record {
   text = whole.text;
-  reads = record {
-    read = subst (λ l. Consumes l (S.remaining source') whole.text) left whole.gives.bytes;
-    ended = ends_by (S.empty_reads source) (S.empty_reads source') true none ends whole.gives.end refl;
-  };
+  reads = ended_text S source source' before left none ends whole.text whole.gives;
   added = λ known. whole.added (ap is_some left ∙ known);
 }
 

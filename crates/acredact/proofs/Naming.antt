@@ -5,9 +5,9 @@ use Rattle.std.proofs.lemmas.List.Elements.{All-map}
 use Rattle.aho_cover.specs.Pieces.{PieceRule}
 use Rattle.acredact.specs.Pseudonyms.{pseudonym_rule}
 use Rattle.acredact.specs.Arguments.{Given, has}
-use Rattle.acredact.specs.Loading.{AreLoaded, Loaded, Reading, loaded_by}
+use Rattle.acredact.specs.Loading.{AreLoaded, Loaded, Reading, secrets_by}
 use Rattle.acredact.specs.Named.{all_named, named_secret}
-use Rattle.acredact.specs.Ruled.{AreRuledLoaded, RuledLoad, secrets_by}
+use Rattle.acredact.specs.Ruled.{AreRuledLoaded, RuledLoad}
 use Rattle.acredact.specs.Tables.{HaveNoEmpty, Secret}
 use Rattle.acredact.specs.declared.options.Word.TheVariants.{Forms, IgnoreCase}
 use Rattle.acredact.proofs.Ready.{IsSomeSecret, given_some}
@@ -16,63 +16,37 @@ use Rattle.acredact.proofs.Ready.{IsSomeSecret, given_some}
 pub named_some : (rule : PieceRule) (secrets named : List Secret) → named ≡ all_named rule secrets → HaveNoEmpty secrets → HaveNoEmpty named
 named_some rule secrets named is are = subst HaveNoEmpty (sym is) (All-map IsSomeSecret (named_secret rule secrets) secrets are)
 
-abbrev pub loaded_of : List Secret → Option (List ℕ) → Loaded
-loaded_of secrets key = record { secrets = secrets; key = key }
-
 module _ (given : List Given) (secrets : List Secret) (key : List ℕ) where
-  abbrev by_forms : Bool → Loaded
-  by_forms forms = if forms then loaded_of (all_named (pseudonym_rule (has IgnoreCase given) key) secrets) None else loaded_of secrets (Some key)
+  abbrev by_forms : Bool → List Secret
+  by_forms forms = if forms then all_named (pseudonym_rule (has IgnoreCase given) key) secrets else secrets
 
-  -- without forms the key names runs
-  pub loaded_plain : has Forms given ≡ false → loaded_of secrets (Some key) ≡ loaded_by given secrets (Some key)
-  loaded_plain none = sym (ap by_forms none)
+  -- without forms a key names runs
+  pub unnamed : has Forms given ≡ false → secrets ≡ secrets_by given (Some key) secrets
+  unnamed none = sym (ap by_forms none)
 
   -- with forms it names secrets
-  pub loaded_named : (named : List Secret) (ignore_case : Bool) (bytes : List ℕ) → has Forms given ≡ true → ignore_case ≡ has IgnoreCase given → bytes ≡ key
-      → named ≡ all_named (pseudonym_rule ignore_case bytes) secrets → loaded_of named None ≡ loaded_by given secrets (Some key)
-  loaded_named named ignore_case bytes asked case same is =
-      let by_key : named ≡ all_named (pseudonym_rule (has IgnoreCase given) key) secrets =
-      is ∙ ap (λ (b : Bool). all_named (pseudonym_rule b bytes) secrets) case ∙ ap (λ (l : List ℕ). all_named (pseudonym_rule (has IgnoreCase given) l) secrets) same in
-      ap (λ (l : List Secret). loaded_of l None) by_key ∙ sym (ap by_forms asked)
-
-  -- the same beside rules
-  abbrev by_rules : Bool → List Secret
-  by_rules forms = if forms then all_named (pseudonym_rule (has IgnoreCase given) key) secrets else secrets
-
-  pub ruled_plain : has Forms given ≡ false → secrets ≡ secrets_by given (Some key) secrets
-  ruled_plain none = sym (ap by_rules none)
-
-  pub ruled_named : (named : List Secret) (ignore_case : Bool) (bytes : List ℕ) → has Forms given ≡ true → ignore_case ≡ has IgnoreCase given → bytes ≡ key
+  pub named_by : (named : List Secret) (ignore_case : Bool) (bytes : List ℕ) → has Forms given ≡ true → ignore_case ≡ has IgnoreCase given → bytes ≡ key
       → named ≡ all_named (pseudonym_rule ignore_case bytes) secrets → named ≡ secrets_by given (Some key) secrets
-  ruled_named named ignore_case bytes asked case same is =
-      is ∙ ap (λ (b : Bool). all_named (pseudonym_rule b bytes) secrets) case ∙ ap (λ (l : List ℕ). all_named (pseudonym_rule (has IgnoreCase given) l) secrets) same ∙ sym (ap by_rules asked)
+  named_by named ignore_case bytes asked case same is =
+      is ∙ ap (λ (b : Bool). all_named (pseudonym_rule b bytes) secrets) case ∙ ap (λ (l : List ℕ). all_named (pseudonym_rule (has IgnoreCase given) l) secrets) same ∙ sym (ap by_forms asked)
 
--- of what is loaded no pattern is empty
+-- what is so of secrets, named or not, is so of those that are loaded
+pub either_way : (P : List Secret → Type 0) (given : List Given) (secrets : List Secret) (key : Option (List ℕ)) → P secrets → ((rule : PieceRule) → P (all_named rule secrets)) → P (secrets_by given key secrets)
+either_way P given secrets None plain named = plain
+either_way P given secrets (Some key) plain named = by (has Forms given)
+  where
+    by : (forms : Bool) → P (by_forms given secrets key forms)
+    by true = named (pseudonym_rule (has IgnoreCase given) key)
+    by false = plain
+
+-- no pattern of them is empty
+some_loaded : (given : List Given) (secrets loaded : List Secret) (key : Option (List ℕ)) → loaded ≡ secrets_by given key secrets → HaveNoEmpty secrets → HaveNoEmpty loaded
+some_loaded given secrets loaded key is some = subst HaveNoEmpty (sym is) (either_way HaveNoEmpty given secrets key some (λ rule. named_some rule secrets _ refl some))
+
 pub loaded_some : (reading : Reading) (given : List Given) (load : Loaded) (left left' : Option (List ℕ)) → AreLoaded reading given load left left' → HaveNoEmpty load.secrets
 loaded_some reading given load left left' loaded =
-    subst (λ (l : Loaded). HaveNoEmpty l.secrets) (sym loaded.is) (by_key loaded.key)
-  where
-    some : HaveNoEmpty loaded.secrets
-    some = given_some reading given loaded.secrets left loaded.between loaded.given_all
-
-    by : (key : List ℕ) (forms : Bool) → HaveNoEmpty (by_forms given loaded.secrets key forms).secrets
-    by key true = named_some (pseudonym_rule (has IgnoreCase given) key) loaded.secrets _ refl some
-    by key false = some
-
-    by_key : (key : Option (List ℕ)) → HaveNoEmpty (loaded_by given loaded.secrets key).secrets
-    by_key None = some
-    by_key (Some key) = by key (has Forms given)
+    some_loaded given loaded.secrets load.secrets loaded.key (ap (λ (l : Loaded). l.secrets) loaded.is) (given_some reading given loaded.secrets left loaded.between loaded.given_all)
 
 pub ruled_some : (reading : Reading) (given : List Given) (load : RuledLoad) (left left' : Option (List ℕ)) → AreRuledLoaded reading given load left left' → HaveNoEmpty load.secrets
-ruled_some reading given load left left' loaded = subst HaveNoEmpty (sym loaded.named) (by_key load.key)
-  where
-    some : HaveNoEmpty loaded.secrets
-    some = given_some reading given loaded.secrets left loaded.rules_given.between loaded.rules_given.secrets_given
-
-    by : (key : List ℕ) (forms : Bool) → HaveNoEmpty (by_rules given loaded.secrets key forms)
-    by key true = named_some (pseudonym_rule (has IgnoreCase given) key) loaded.secrets _ refl some
-    by key false = some
-
-    by_key : (key : Option (List ℕ)) → HaveNoEmpty (secrets_by given key loaded.secrets)
-    by_key None = some
-    by_key (Some key) = by key (has Forms given)
+ruled_some reading given load left left' loaded =
+    some_loaded given loaded.secrets load.secrets load.key loaded.named (given_some reading given loaded.secrets left loaded.rules_given.between loaded.rules_given.secrets_given)

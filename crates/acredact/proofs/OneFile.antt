@@ -1,7 +1,7 @@
 -- What comes of one file, by what comes of its stream.
 use Rattle.std.proofs.Common.{◌≡◌, ◌≢◌, inl, ℕ, ◌≤◌, List, [], ◌∷◌, Option, true, false, length, map, refl, sym, ap, subst, ◌∙◌, arith}
 use Rattle.std.specs.Prelude.{Bool, MatchBool, None, Some, Result, Ok, Err, IfErr, OnOk}
-use Rattle.std.specs.Io.KnownBytes.{Consumes, IsAtEnd, Keeps}
+use Rattle.std.specs.Io.KnownBytes.{Appends, Consumes, IsAtEnd, Keeps}
 use Rattle.std.specs.declared.io.traits.Write.{Ghosts as Writers}
 use Rattle.std.proofs.KnownBytes.{Appends-nil, Consumes-nil, Keeps-refl}
 use Rattle.aho_core.specs.Laws.{shortest}
@@ -12,12 +12,13 @@ use Rattle.aho_devices.specs.Refusals.{IsFillRefusal, is_read_fault, is_write_fa
 use Rattle.aho_devices.specs.declared.adapters.FromWrite.{FromWrite}
 use Rattle.aho_devices.specs.declared.device.Sink.{Ghosts as SinkGhosts}
 use Rattle.aho_devices.specs.declared.device.Source.{Ghosts as SourceGhosts}
+use Rattle.aho_stream.specs.Replacing.{SourceGave}
 use Rattle.tool_parts.specs.Names.{is_input}
 use Rattle.tool_parts.specs.Streams.{output_bytes}
 use Rattle.tool_parts.specs.declared.reason.Reason.{Reason}
 use Rattle.acredact.specs.Faults.{IsOutputEnd, IsStreamEnd, is_unread, reading_of}
 use Rattle.acredact.specs.Files.{BeginsNamed, BeginsText, BeginsWriting, ComesOfFile, ComesOfText, ReachesText, RedactsText, TextDone, Work, WritesText}
-use Rattle.acredact.specs.Reads.{EachName, OfName}
+use Rattle.acredact.specs.Reads.{EachName, OfName, ReadsText}
 use Rattle.acredact.specs.Secrets.{BeginsRedaction, Redactor}
 use Rattle.acredact.specs.Streams.{ReachesStream, RedactsStream, StartsStream}
 use Rattle.acredact.proofs.Redactions.{begins_nothing}
@@ -27,31 +28,41 @@ pub ends_by : {P : Type 0} (before after : ℕ) (ended : Bool) → before ≡ 0 
 ends_by before after ended none ends count is =
     ends (λ zero. let one : after ≡ 1 = count ∙ ap (λ (b : Bool). counted b before) is ∙ ap (counted true) none in omega (arith, one, zero))
 
+module _ {R : Type 0} (S : SourceGhosts R) (source source' : R) (before : Option (List ℕ)) (left : S.remaining source ≡ before) (none : S.empty_reads source ≡ 0) (ends : S.empty_reads source' ≢ 0 → IsAtEnd (S.remaining source')) where
+  -- so what it gave is all that was left
+  pub ended_text : (text : List ℕ) → SourceGave S source source' text true → ReadsText text before (S.remaining source')
+  ended_text text gives = record {
+    read = subst (λ bytes. Consumes bytes (S.remaining source') text) left gives.bytes;
+    ended = ends_by (S.empty_reads source) (S.empty_reads source') true none ends gives.end refl;
+  }
+
+  -- or some of it
+  pub begun_writing : {Begins : List ℕ → Bool → List ℕ → Type 0} (held held' : Option (List ℕ)) (given : List ℕ) (ended : Bool) (part : List ℕ) → SourceGave S source source' given ended → Begins given ended part
+      → Appends held held' part → BeginsWriting Begins before (S.remaining source') held held'
+  begun_writing held held' given ended part gives begins written = record {
+    given = given;
+    ended = ended;
+    read = subst (λ bytes. Consumes bytes (S.remaining source') given) left gives.bytes;
+    at_end = ends_by (S.empty_reads source) (S.empty_reads source') ended none ends gives.end;
+    part = part;
+    begins = begins;
+    written = written;
+  }
+
 module _ {R W : Type 0} (S : SourceGhosts R) (K : SinkGhosts W) (r : Redactor) (source source' : R) (sink sink' : W) (before : Option (List ℕ))
     (left : S.remaining source ≡ before) (none : S.empty_reads source ≡ 0) (ends : S.empty_reads source' ≢ 0 → IsAtEnd (S.remaining source')) where
   -- so its redaction is that of all that was left
   pub text_of : RedactsStream S K r source source' sink sink' → RedactsText r before (S.remaining source') (K.taken sink) (K.taken sink')
   text_of whole = record {
     text = whole.text;
-    reads = record {
-      read = subst (λ bytes. Consumes bytes (S.remaining source') whole.text) left whole.gives.bytes;
-      ended = ends_by (S.empty_reads source) (S.empty_reads source') true none ends whole.gives.end refl;
-    };
+    reads = ended_text S source source' before left none ends whole.text whole.gives;
     redaction = whole.redaction;
     redacts = whole.redacts;
     written = whole.written;
   }
 
   pub begins_of : StartsStream S K r source source' sink sink' → BeginsText r before (S.remaining source') (K.taken sink) (K.taken sink')
-  begins_of begun = record {
-    given = begun.given;
-    ended = begun.ended;
-    read = subst (λ bytes. Consumes bytes (S.remaining source') begun.given) left begun.gives.bytes;
-    at_end = ends_by (S.empty_reads source) (S.empty_reads source') begun.ended none ends begun.gives.end;
-    part = begun.part;
-    begins = begun.begins;
-    written = begun.written;
-  }
+  begins_of begun = begun_writing S source source' before left none ends (K.taken sink) (K.taken sink') begun.given begun.ended begun.part begun.gives begun.begins begun.written
 
   pub reaches_of : ReachesStream S K r source source' sink sink' → ReachesText r before (S.remaining source') (K.taken sink) (K.taken sink')
   reaches_of up = record {

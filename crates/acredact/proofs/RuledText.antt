@@ -2,7 +2,7 @@
 use Rattle.std.proofs.Common.{◌≡◌, ◌≢◌, inl, inr, ℕ, List, [], ◌∷◌, ◌++◌, Option, true, false, length, map, refl, sym, ap, subst, ◌∙◌, arith}
 use Rattle.std.specs.Prelude.{Bool, None, OnErr, OnOk, Result, Ok, Err}
 use Rattle.std.specs.Io.{StartsWith}
-use Rattle.std.specs.Io.KnownBytes.{Consumes, IsAtEnd, Keeps}
+use Rattle.std.specs.Io.KnownBytes.{IsAtEnd, Keeps}
 use Rattle.std.proofs.lemmas.Result.{IfErr-weaker, on_ok_weaker}
 use Rattle.aho_core.specs.Occurrence.{Occurrence}
 use Rattle.aho_core.specs.Patterns.{Patterns}
@@ -26,7 +26,7 @@ use Rattle.secret_rules.proofs.LineRuns.{lines_cover-append}
 use Rattle.acredact.specs.Ruled.{BeginsLinesText, IsLined, LeavesLined, LinesOutcome, RedactsLines, Ruling, WritesLines, ruling_as, unread_of}
 use Rattle.acredact.specs.RunCounts.{CountsTextRuns, HasRuns}
 use Rattle.acredact.specs.declared.ruled_files.Lined.{Lined}
-use Rattle.acredact.proofs.OneFile.{ends_by, known_read}
+use Rattle.acredact.proofs.OneFile.{begun_writing, ended_text, known_read}
 
 -- a beginning behind the same bytes
 pub begins_behind : (front all first : List ℕ) → StartsWith all first → StartsWith (front ++ all) (front ++ first)
@@ -56,27 +56,19 @@ module _ {R W : Type 0} (S : SourceGhosts R) (K : SinkGhosts W) (Searched : Patt
   covers_text : CoversLines S K Searched words rules most rule source source' sink sink' counts counts' → RedactsLines (ruling_as words rules most rule p) before (S.remaining source') (K.taken sink) (K.taken sink')
   covers_text whole = record {
     text = whole.given;
-    reads = record {
-      read = subst (λ bytes. Consumes bytes (S.remaining source') whole.given) left whole.gives.bytes;
-      ended = ends_by (S.empty_reads source) (S.empty_reads source') true none ends whole.gives.end refl;
-    };
+    reads = ended_text S source source' before left none ends whole.given whole.gives;
     redaction = lines_cover rule (stream_lines whole.given) whole.runs;
     redacts = record { runs = whole.runs; runs_are = whole.runs_are p sought; is = refl };
     written = whole.writes;
   }
 
   begins_text : BeginsLines S K Searched words rules most rule source source' sink sink' counts counts' → BeginsLinesText (ruling_as words rules most rule p) before (S.remaining source') (K.taken sink) (K.taken sink')
-  begins_text begun = record {
-    given = begun.given;
-    ended = begun.ended;
-    read = subst (λ bytes. Consumes bytes (S.remaining source') begun.given) left begun.gives.bytes;
-    at_end = ends_by (S.empty_reads source) (S.empty_reads source') begun.ended none ends begun.gives.end;
-    part = lines_cover rule begun.lines begun.runs ++ begun.part;
-    begins = λ text redaction may is.
-        subst (λ bytes. StartsWith bytes (lines_cover rule begun.lines begun.runs ++ begun.part)) (sym is.is)
-        (begins_cover rule begun.lines begun.runs begun.part (stream_lines text) is.runs begun.as_many (begun.goes_on p text is.runs sought may is.runs_are));
-    written = begun.writes;
-  }
+  begins_text begun =
+      begun_writing S source source' before left none ends (K.taken sink) (K.taken sink') begun.given begun.ended (lines_cover rule begun.lines begun.runs ++ begun.part) begun.gives
+      (λ text redaction may is.
+      subst (λ bytes. StartsWith bytes (lines_cover rule begun.lines begun.runs ++ begun.part)) (sym is.is)
+      (begins_cover rule begun.lines begun.runs begun.part (stream_lines text) is.runs begun.as_many (begun.goes_on p text is.runs sought may is.runs_are)))
+      begun.writes
 
   -- each run is counted
   runs_text : CoversLines S K Searched words rules most rule source source' sink sink' counts counts' → CountsTextRuns (covering_by words rules most p) before (S.remaining source') counts counts'
@@ -84,10 +76,7 @@ module _ {R W : Type 0} (S : SourceGhosts R) (K : SinkGhosts W) (Searched : Patt
     all_of whole.runs,
     record {
       text = whole.given;
-      reads = record {
-        read = subst (λ bytes. Consumes bytes (S.remaining source') whole.given) left whole.gives.bytes;
-        ended = ends_by (S.empty_reads source) (S.empty_reads source') true none ends whole.gives.end refl;
-      };
+      reads = ended_text S source source' before left none ends whole.given whole.gives;
       by_line = whole.runs;
       found = whole.runs_are p sought;
       are = refl;

@@ -25,7 +25,7 @@ use Rattle.tool_parts.proofs.Tellings.{tells-nothing}
 use Rattle.acredact.specs.Back.{DoesJob}
 use Rattle.acredact.specs.Files.{AreCut, CanDo, FilesOutcome, Work, key_for, redactor_of, rule_for, work_of}
 use Rattle.acredact.specs.Secrets.{CanRedact, Redactor}
-use Rattle.acredact.specs.Ways.{IsCoverer, IsCovering, IsRedactor}
+use Rattle.acredact.specs.Ways.{IsCovering, IsRedactor}
 use Rattle.acredact.specs.declared.files.Job.{Job}
 use Rattle.acredact.specs.declared.folder.Folder.{Ghosts as Folders}
 use Rattle.acredact.specs.declared.streams.Streams.{Streams}
@@ -38,8 +38,10 @@ module _ {A : Type 0} (G : Ghosts A) where
   pub covering_still : (automaton automaton' : A) (progress progress' : CoverProgress) (rule rule' : PieceRule) (r : Redactor) → automaton' ≡ automaton → rule' ≡ rule
       → IsUnbegunWith progress.words G automaton' progress' → IsCovering G automaton progress rule r → IsCovering G automaton' progress' rule' r
   covering_still automaton automaton' progress progress' rule rule' r same alike unbegun is = record {
-    coverer = subst (λ (a : A). IsCoverer G a progress'.words rule' r) (sym same)
-        (record { of = is.coverer.of; covers = is.coverer.covers; chosen = is.coverer.chosen ∙ sym unbegun.chosen; is = is.coverer.is ∙ sym alike });
+    of = rw same is.of;
+    covers = is.covers;
+    chosen = is.chosen ∙ sym unbegun.chosen;
+    is = is.is ∙ sym alike;
     unbegun = subst (λ (b : Bool). IsUnbegunWith b G automaton' progress') (sym unbegun.chosen) unbegun;
   }
 
@@ -85,7 +87,10 @@ module _ {A F : Type 0} (G : Ghosts A) (automaton : A) (job : Job F) (p : Patter
   pub covering_is : (automaton' : A) (rule : PieceRule) (progress : CoverProgress) → job.covers ≡ true → rule ≡ rule_for job → automaton' ≡ automaton → IsUnbegunWith job.words G automaton progress
       → IsCovering G automaton' progress rule (redactor_of job p)
   covering_is automaton' rule progress covers made same unbegun = record {
-    coverer = record { of = rw same of; covers = covers; chosen = ap (λ (b : Bool). b && job.words) covers ∙ sym unbegun.chosen; is = sym made };
+    of = rw same of;
+    covers = covers;
+    chosen = ap (λ (b : Bool). b && job.words) covers ∙ sym unbegun.chosen;
+    is = sym made;
     unbegun = subst (λ (a : A). IsUnbegunWith progress.words G a progress) (sym same) (subst (λ (b : Bool). IsUnbegunWith b G automaton progress) (sym unbegun.chosen) unbegun);
   }
 

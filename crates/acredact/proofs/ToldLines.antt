@@ -3,7 +3,7 @@ use Rattle.std.proofs.Common.{◌++◌, ◌∙◌, ◌∷◌, ◌≡◌, ◌≢�
 use Rattle.std.specs.Prelude.{Bool, ◌||◌, Result, Ok, Err, IfOk}
 use Rattle.std.specs.Borrow.{MutBor}
 use Rattle.std.specs.Io.{StartsWith}
-use Rattle.std.specs.Io.KnownBytes.{Appends, Consumes, IsAtEnd}
+use Rattle.std.specs.Io.KnownBytes.{Appends, IsAtEnd}
 use Rattle.std.proofs.KnownBytes.{Appends-nil, Appends-trans}
 use Rattle.std.proofs.Math.Bool.{or-false, or_assoc}
 use Rattle.std.proofs.Math.Seq.{take-length}
@@ -26,7 +26,7 @@ use Rattle.secret_rules.specs.declared.visitor.LineVisitor.{Ghosts as VisitorGho
 use Rattle.acredact.specs.Looks.{verdict_of}
 use Rattle.acredact.specs.RuledChecks.{BeginsGiven, IsAtFirst, LookedText, SeesText, StopsTelling, TellsGiven, TellsLine, SaysLines, findings_behind, findings_of, found_of, is_some_line, is_some_run, labels_of, lines_findings, look_of_lines}
 use Rattle.acredact.specs.declared.findings.Findings.{Findings}
-use Rattle.acredact.proofs.OneFile.{ends_by}
+use Rattle.acredact.proofs.OneFile.{begun_writing, ended_text}
 use Rattle.acredact.proofs.RuledText.{begins_behind}
 
 -- what was found behind some lines, and what is told of them
@@ -179,10 +179,7 @@ module _ {R W : Type 0} (S : SourceGhosts R) (K : SinkGhosts W) (findings : Find
     runs = whole.runs;
     has = record {
       text = whole.text;
-      reads = record {
-        read = subst (λ bytes. Consumes bytes (S.remaining source') whole.text) left whole.gives.bytes;
-        ended = ends_by (S.empty_reads source) (S.empty_reads source') true none ends whole.gives.end refl;
-      };
+      reads = ended_text S source source' before left none ends whole.text whole.gives;
       are = whole.are;
     };
     found_is = whole.found_is;
@@ -201,13 +198,5 @@ module _ {R W : Type 0} (S : SourceGhosts R) (K : SinkGhosts W) (findings : Find
   looked_text result tells = record {
     whole = looks (λ found. SeesText covering (labels_of findings.legend) findings.name.now found before (S.remaining source') (K.taken output) (K.taken output')) result
         (IfOk-weaker result _ _ sees_text tells.whole);
-    begun = record {
-      given = tells.begun.given;
-      ended = tells.begun.ended;
-      read = subst (λ bytes. Consumes bytes (S.remaining source') tells.begun.given) left tells.begun.gives.bytes;
-      at_end = ends_by (S.empty_reads source) (S.empty_reads source') tells.begun.ended none ends tells.begun.gives.end;
-      part = tells.begun.part;
-      begins = tells.begun.begins;
-      written = tells.begun.written;
-    };
+    begun = begun_writing S source source' before left none ends (K.taken output) (K.taken output') tells.begun.given tells.begun.ended tells.begun.part tells.begun.gives tells.begun.begins tells.begun.written;
   }

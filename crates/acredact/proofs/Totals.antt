@@ -1,7 +1,7 @@
 -- How counts grow by the ranges that are replaced, file after file.
 use Rattle.std.proofs.Common.{◌≡◌, ◌≢◌, ℕ, zero, suc, ◌<◌, true, false, List, [], ◌∷◌, ◌++◌, Option, length, refl, sym, ap, subst, ◌∙◌, append-nil, append_assoc, arith}
 use Rattle.std.specs.Prelude.{slice_index}
-use Rattle.std.specs.Io.KnownBytes.{Consumes, IsAtEnd, Keeps}
+use Rattle.std.specs.Io.KnownBytes.{IsAtEnd, Keeps}
 use Rattle.std.proofs.lemmas.List.{length-map}
 use Rattle.aho_core.specs.Occurrence.{Occurrence}
 use Rattle.aho_cover.specs.Counting.{CountsThese}
@@ -19,7 +19,7 @@ use Rattle.acredact.specs.Tables.{secret_of, secrets_of}
 use Rattle.acredact.specs.Totals.{AreTotals, CountsOfName, CountsOfNames, CountsOfStream, CountsOfText, HasRanges, NameHasRanges, NamesHaveRanges}
 use Rattle.acredact.specs.declared.patterns.Rule.{Rule}
 use Rattle.acredact.specs.declared.summary.Volume.{Volume}
-use Rattle.acredact.proofs.OneFile.{ends_by, known_read, of_folder}
+use Rattle.acredact.proofs.OneFile.{ended_text, known_read, of_folder}
 
 -- a stream that has ended gave a text
 pub text_counts : {R : Type 0} (S : SourceGhosts R) (r : Redactor) (source source' : R) (before : Option (List ℕ)) (counts counts' : List ℕ)
@@ -29,10 +29,7 @@ text_counts S r source source' before counts counts' left none ends whole = (
   whole.ranges,
   record {
     text = whole.text;
-    reads = record {
-      read = subst (λ bytes. Consumes bytes (S.remaining source') whole.text) left whole.gives.bytes;
-      ended = ends_by (S.empty_reads source) (S.empty_reads source') true none ends whole.gives.end refl;
-    };
+    reads = ended_text S source source' before left none ends whole.text whole.gives;
     found = whole.found;
   },
   whole.counted,

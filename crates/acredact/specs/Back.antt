@@ -1,5 +1,5 @@
 -- What comes of the files of a job, and by what a stream is redacted by a walk backward.
-use Rattle.std.specs.Prelude.{◌≡◌, ℕ, Bool, List, OnOk, Result, false, true}
+use Rattle.std.specs.Prelude.{◌≡◌, ℕ, Bool, List, OnOk, Result, true}
 use Rattle.std.specs.Borrow.{Bor}
 use Rattle.std.specs.declared.io.traits.Read.{Ghosts as Readers}
 use Rattle.std.specs.declared.io.traits.Write.{Ghosts as Writers}
@@ -9,11 +9,9 @@ use Rattle.aho_automaton.specs.declared.automaton.Automaton.{Ghosts}
 use Rattle.aho_backward.specs.Searcher.{IsBackwardOf}
 use Rattle.aho_backward.specs.declared.backward.Backward.{Backward}
 use Rattle.aho_devices.specs.declared.device.Sink.{Ghosts as SinkGhosts}
-use Rattle.aho_devices.specs.declared.device.Source.{Ghosts as SourceGhosts}
 use Rattle.acredact.specs.Bounds.{JobNumbers}
 use Rattle.acredact.specs.Files.{FilesOutcome, redactor_of, work_of}
-use Rattle.acredact.specs.Secrets.{Redactor, redactor_by}
-use Rattle.acredact.specs.Streams.{StreamOutcome}
+use Rattle.acredact.specs.Secrets.{Redactor}
 use Rattle.acredact.specs.Totals.{CountsJob}
 use Rattle.acredact.specs.Volumes.{JobVolume}
 use Rattle.acredact.specs.Ways.{IsRedactor}
@@ -22,20 +20,10 @@ use Rattle.acredact.specs.declared.folder.Folder.{Ghosts as Folders}
 use Rattle.acredact.specs.declared.streams.Streams.{Streams}
 use Rattle.acredact.specs.declared.summary.Volume.{Volume}
 
--- what comes of a stream that it redacts by its patterns, with these replacements
-abbrev pub BackStream : {A R W : Type 0} → Ghosts A → SourceGhosts R → SinkGhosts W → Backward A → List (Bor (List ℕ)) → Result (Unit {0}) StreamError → (source source' : R) (sink sink' : W) → Type 0
-BackStream G S K searcher replacements result source source' sink sink' =
-    (p : Patterns) → IsBackwardOf G searcher p → StreamOutcome S K (redactor_by p false false replacements) result source source' sink sink'
-
 -- it and an automaton redact so, with these replacements
 pub record IsBacking {A B : Type 0} (G : Ghosts A) (H : Ghosts B) (searcher : Backward B) (automaton : A) (replacements : List (Bor (List ℕ))) (r : Redactor) : Type 0 where
   pub backward : IsBackwardOf H searcher r.patterns
   pub forward : IsRedactor G automaton replacements r
-
-module _ {R W E F X : Type 0} {Reads : Readers R} (D : Folders F X) (job : Job F) where
-  -- what comes of the files of a job that are redacted by these patterns
-  abbrev pub FilesJob : Writers W → SinkGhosts E → Result Bool StreamError → (streams streams' : Streams R W E Reads) → Patterns → Type 0
-  FilesJob Writes K result streams streams' p = FilesOutcome Writes K (work_of D job (redactor_of job p)) result streams streams'
 
 module _ {R W E F X : Type 0} {Reads : Readers R} (Writes : Writers W) (K : SinkGhosts E) (D : Folders F X) (job : Job F)
     (result : Result Bool StreamError) (streams streams' : Streams R W E Reads) (counts counts' : List ℕ) (volume volume' : Volume) where

@@ -1,5 +1,5 @@
 -- What a call does, by what its arguments ask for, and what it tells.
-use Rattle.std.specs.Prelude.{◌≡◌, ◌⊎◌, ℕ, ◌<◌, ◌≤◌, slice_index, ◌||◌, Bool, MatchBool, true, false, List, [], ◌∷◌, Option, Result, Ok, Err, IfErr, IfOk, OnErr, codes, is_some, length, map, option_map, unwrap_or, if◌then◌else◌}
+use Rattle.std.specs.Prelude.{◌≡◌, ◌⊎◌, ℕ, ◌<◌, ◌≤◌, slice_index, ◌||◌, Bool, MatchBool, true, false, List, [], ◌∷◌, Option, Result, Ok, Err, IfErr, OnErr, codes, is_some, length, map, option_map, unwrap_or, if◌then◌else◌}
 use Rattle.std.specs.declared.io.traits.Read.{Ghosts as Readers}
 use Rattle.std.specs.declared.io.traits.Write.{Ghosts as Writers}
 use Rattle.aho_core.specs.Listing.{IsMember}
@@ -26,7 +26,7 @@ use Rattle.acredact.specs.Failures.{IsFailureLine}
 use Rattle.acredact.specs.Forms.{forms_asked}
 use Rattle.acredact.specs.Files.{AreCut, AreFree, AreRedacted, Work, unread_line}
 use Rattle.acredact.specs.Hidden.{AreHidden}
-use Rattle.acredact.specs.Loading.{AreGiven, AreLoaded, CannotLoadAll, CannotLoadKey, CannotLoadOne, Loaded, Reading, Rules, loaded_in}
+use Rattle.acredact.specs.Loading.{AreLoaded, CannotLoadAll, CannotLoadKey, CannotLoadOne, IsKeyGiven, Loaded, Reading, Rules, loaded_in, loaded_of, secrets_by}
 use Rattle.acredact.specs.Messages.{output_line, unclean_line}
 use Rattle.acredact.specs.Mistakes.{IsMistakeOfCall}
 use Rattle.acredact.specs.Pieces.{IsUncleanBy}
@@ -38,7 +38,7 @@ use Rattle.acredact.specs.Totals.{AreTotals, NamesHaveRanges}
 use Rattle.acredact.specs.Volumes.{ReadsVolume}
 use Rattle.acredact.specs.declared.options.Item.{Item}
 use Rattle.acredact.specs.declared.mistakes.Mistake.TheVariants.{NoPattern, OutOfMemory as NoRoom}
-use Rattle.acredact.specs.declared.options.Word.TheVariants.{Crlf, Forms, AllowEmpty, IgnoreCase, Strict, File, Pattern as PatternOption, Patterns as PatternFile, Table, Env, EnvFile, Whole, With}
+use Rattle.acredact.specs.declared.options.Word.TheVariants.{Crlf, Forms, AllowEmpty, IgnoreCase, Strict, File, Pseudonym, Pattern as PatternOption, Patterns as PatternFile, Table, Env, EnvFile, Whole, With}
 use Rattle.acredact.specs.declared.clean.Unclean.{Unclean}
 use Rattle.acredact.specs.declared.failure.Failure.{Failure}
 use Rattle.acredact.specs.declared.failure.Failure.TheVariants.{NotText, Arguments, Unclean as UncleanPiece, Counts, Other}
@@ -159,6 +159,10 @@ IsRefusedCall call failure = (load : Loaded) × (left : Option (List ℕ)) × (b
 abbrev pub CannotLoadCall : Call → Failure → Type 0
 CannotLoadCall call failure = CannotLoadAll (reading_by call) call.given failure ⊎ CannotLoadKey (reading_by call) call.given failure
 
+-- a key was loaded beside these rules, and names their secrets where forms are asked for
+abbrev pub IsKeyedBy : List Item → List Rule → Option (List ℕ) → Secrets → Type 0
+IsKeyedBy items rules key made = loaded_in made ≡ loaded_of (secrets_by (all_given items) key (secrets_of rules)) key
+
 -- what is loaded for some arguments, and what is where the rules were
 module _ {F X : Type 0} (D : Folders F X) (folder : F) (items : List Item) where
   abbrev pub CannotLoadBy : Failure → Type 0
@@ -167,9 +171,11 @@ module _ {F X : Type 0} (D : Folders F X) (folder : F) (items : List Item) where
   abbrev pub AreLoadedBy : (left left' : Option (List ℕ)) → Secrets → Type 0
   AreLoadedBy left left' made = AreLoaded (reading_by (call_of D folder (all_given items))) (all_given items) (loaded_in made) left left'
 
-  abbrev pub LoadsBeside : List Rule → Result Secrets Failure → (left left' : Option (List ℕ)) → Type 0
-  LoadsBeside rules result left left' = (first : Option (List ℕ))
-      → AreGiven (reading_by (call_of D folder (all_given items))) (all_given items) (secrets_of rules) first left → IfOk result (AreLoadedBy first left')
+  -- the key was, and names the secrets of these rules where forms are asked for
+  pub record AreKeyedBy (rules : List Rule) (left left' : Option (List ℕ)) (made : Secrets) : Type 0 where
+    pub key : Option (List ℕ)
+    pub key_given : IsKeyGiven (reading_by (call_of D folder (all_given items))) (last_value Pseudonym (all_given items)) key left left'
+    pub is : IsKeyedBy items rules key made
 
 -- why a call ends early: there is no pattern, one of the options or the key cannot be loaded, the counts cannot be written, a piece is not clean,
 -- the patterns are refused, the files are not redacted, or a pattern of a list is refused
@@ -379,13 +385,7 @@ module _ {R : Type 0} {Reads : Readers R} {W : Type 0} (Writes : Writers W) wher
       pub told : OnErr result (Tells K (IsLineOf call (OutputFails streams.output streams'.output)) streams.errors streams'.errors)
       pub numbers : Tells K (IsWordLine call) streams.errors streams'.errors ⊎ TellsNumbers K call load.secrets (bytes_left streams.input) (bytes_left streams'.input) streams.errors streams'.errors
 
-    -- the same of a call whose patterns and key were loaded, with the bytes that the input has left since
-    abbrev pub LoadOutcome : {F X : Type 0} → Folders F X → F → List Given → Loaded → Result Bool Failure → (streams streams' : Streams R W E Reads) → Type 0
-    LoadOutcome D folder given load result streams streams' = (left : Option (List ℕ))
-        → AreLoaded (reading_by (call_of D folder given)) given load left (bytes_left streams.input)
-        → CallOutcome Writes K (call_of D folder given) left (bytes_left streams'.input) result streams.output streams'.output streams.errors streams'.errors
-
-    -- and behind what is told of them
+    -- the same of a call whose patterns and key were loaded, behind what is told of them
     abbrev pub ReadyOutcome : {F X : Type 0} → Folders F X → F → List Given → Loaded → Result Bool Failure → (streams streams' : Streams R W E Reads) → Type 0
     ReadyOutcome D folder given load result streams streams' = (left : Option (List ℕ))
         → AreLoaded (reading_by (call_of D folder given)) given load left (bytes_left streams.input)

@@ -139,10 +139,20 @@ pub record Loaded : Type 0 where
   pub secrets : List Secret
   pub key : Option (List ℕ)
 
+abbrev pub loaded_of : List Secret → Option (List ℕ) → Loaded
+loaded_of secrets key = record { secrets = secrets; key = key }
+
+-- in whatever form it stands
+abbrev pub secrets_by : List Given → Option (List ℕ) → List Secret → List Secret
+secrets_by given None secrets = secrets
+secrets_by given (Some key) secrets = if has Forms given then all_named (pseudonym_rule (has IgnoreCase given) key) secrets else secrets
+
+-- and it names no run then
+abbrev pub for_runs : List Given → Loaded → Loaded
+for_runs given load = loaded_of load.secrets (if has Forms given then None else load.key)
+
 abbrev pub loaded_by : List Given → List Secret → Option (List ℕ) → Loaded
-loaded_by given secrets None = record { secrets = secrets; key = None }
-loaded_by given secrets (Some key) =
-    if has Forms given then record { secrets = all_named (pseudonym_rule (has IgnoreCase given) key) secrets; key = None } else record { secrets = secrets; key = Some key }
+loaded_by given secrets key = for_runs given (loaded_of (secrets_by given key secrets) key)
 
 pub record AreLoaded (reading : Reading) (given : List Given) (loaded : Loaded) (left left' : Option (List ℕ)) : Type 0 where
   pub between : Option (List ℕ)
@@ -161,7 +171,7 @@ key_lent key = option_map (λ bytes. bytes.now) key
 
 -- these rules and this key
 abbrev pub loaded_as : List Rule → Option (List ℕ) → Loaded
-loaded_as rules key = record { secrets = secrets_of rules; key = key }
+loaded_as rules key = loaded_of (secrets_of rules) key
 
 -- those that were loaded
 abbrev pub loaded_in : Secrets → Loaded

@@ -9,7 +9,7 @@ use Rattle.aho_core.specs.Listing.{IsMember}
 use Rattle.aho_core.specs.Occurrence.{Occurrence}
 use Rattle.aho_core.specs.Patterns.{Patterns}
 use Rattle.aho_core.specs.Replacement.{pieces_of}
-use Rattle.aho_core.specs.declared.error.stream.StreamError.TheVariants.{Match, Read, Write, WriteZero, Memory, PositionLimit}
+use Rattle.aho_core.specs.declared.error.stream.StreamError.TheVariants.{Read, PositionLimit}
 use Rattle.aho_core.specs.declared.search.MatchKind.TheVariants.{Standard}
 use Rattle.aho_automaton.specs.declared.automaton.Automaton.{Ghosts as Automata}
 use Rattle.aho_cover.specs.Pieces.{PieceRule, fixed_rule}
@@ -26,14 +26,13 @@ use Rattle.tool_parts.specs.Telling.{Tells, TellsSome}
 use Rattle.tool_parts.specs.declared.errors.Errors.{Errors}
 use Rattle.tool_parts.specs.declared.reason.Reason.{Reason}
 use Rattle.tool_parts.specs.declared.reason.Reason.TheVariants.{PositionLimit as TooLong, ReadFault}
-use Rattle.acredact.specs.Pseudonyms.{pseudonym_rule}
 use Rattle.secret_rules.specs.Covering.{AreLineRuns, Covering, covering_by, lines_cover}
 use Rattle.secret_rules.specs.LineCovers.{AreSearchedFor, LeavesLines}
 use Rattle.secret_rules.specs.Lines.{stream_lines}
 use Rattle.secret_rules.specs.Ready.{CanCoverLines, most_of, rules_of, searched_automaton, words_of}
 use Rattle.secret_rules.specs.Rules.{AreSound}
 use Rattle.secret_rules.specs.declared.error.LineError.{LineError}
-use Rattle.secret_rules.specs.declared.error.LineError.TheVariants.{Mark, Stream}
+use Rattle.secret_rules.specs.declared.error.LineError.TheVariants.{Stream}
 use Rattle.secret_rules.specs.declared.rule.Rule.{Rule}
 use Rattle.acredact.specs.Arguments.{AsksForRules, Given, all_given, counts_asked, has, last_value}
 use Rattle.acredact.specs.Calls.{Call, IsUnreadLine, TellsOfFiles, call_of, keyed_as, names_asked, pieces_asked, reading_by, text_asked}
@@ -41,8 +40,7 @@ use Rattle.acredact.specs.Doubts.{TellsDoubts, all_doubt_lines}
 use Rattle.acredact.specs.Files.{BeginsWriting, WritesText}
 use Rattle.acredact.specs.LineRules.{AreRulesRead, most_asked}
 use Rattle.acredact.specs.LongLines.{TellsLong}
-use Rattle.acredact.specs.Loading.{AreGiven, IsKeyGiven, Reading, key_in, key_lent}
-use Rattle.acredact.specs.Named.{all_named}
+use Rattle.acredact.specs.Loading.{AreGiven, IsKeyGiven, Reading, key_in, key_lent, secrets_by}
 use Rattle.acredact.specs.Reads.{EachName, OfName}
 use Rattle.acredact.specs.RuleLines.{IsRuledLine, too_long_line}
 use Rattle.acredact.specs.RunCounts.{CountsTextRuns, CountsAllRuns, CountsFileRuns, HaveRuns, IsRunsLine, TellsAnyTotals, TellsRunTotals}
@@ -93,13 +91,9 @@ WritesLines ruling left left' held held' = RedactsLines ruling left left' held h
 -- what the end of a stream means for its file: a file that cannot be read is told, and anything else ends the call
 abbrev pub unread_of : Result (Unit {0}) LineError → Result (Option Reason) LineError
 unread_of (Ok x) = Ok None
-unread_of (Err (Stream (Match cause))) = Err (Stream (Match cause))
 unread_of (Err (Stream (Read fault))) = Ok (Some ReadFault)
-unread_of (Err (Stream (Write fault))) = Err (Stream (Write fault))
-unread_of (Err (Stream WriteZero)) = Err (Stream WriteZero)
-unread_of (Err (Stream Memory)) = Err (Stream Memory)
 unread_of (Err (Stream PositionLimit)) = Ok (Some TooLong)
-unread_of (Err (Mark error)) = Err (Mark error)
+unread_of (Err error) = Err error
 
 -- what comes of a text: its redaction was written, or a beginning of it; and where no reason is answered it was read to its end
 pub record LinesOutcome (ruling : Ruling) (result : Result (Option Reason) LineError) (counts counts' : List ℕ) (left left' held held' : Option (List ℕ)) : Type 0 where
@@ -154,10 +148,6 @@ AreSearchedBy G automaton searched = (p : Patterns) → G.is_of automaton p → 
 abbrev pub IfLined : {A P : Type 0} → Automata A → PieceGhosts P → Lined A P → (Ruling → Type 0) → Type 0
 IfLined G Q lined Holds = (ruling : Ruling) → IsLined G Q lined ruling → Holds ruling
 
--- it does so by the patterns of an automaton, with these pieces
-abbrev pub LinesBy : {A P : Type 0} → Automata A → PieceGhosts P → A → Bool → List Rule → ℕ → PieceRule → Lined A P → Type 0
-LinesBy G Q automaton words rules most rule lined = (p : Patterns) → G.is_of automaton p → IsLined G Q lined (ruling_as words rules most rule p)
-
 -- it does so by something
 abbrev pub IsAnyLined : {A P : Type 0} → Automata A → PieceGhosts P → Lined A P → Type 0
 IsAnyLined G Q lined = (ruling : Ruling) × IsLined G Q lined ruling
@@ -189,11 +179,6 @@ pub record AreRulesGiven (reading : Reading) (given : List Given) (secrets : Lis
   pub rules_given : AreRulesRead reading given rules between left'
   pub sound : AreSound rules
 
--- where forms are asked for a key names each secret, in whatever form that stands
-abbrev pub secrets_by : List Given → Option (List ℕ) → List Secret → List Secret
-secrets_by given None secrets = secrets
-secrets_by given (Some key) secrets = if has Forms given then all_named (pseudonym_rule (has IgnoreCase given) key) secrets else secrets
-
 pub record AreRuledLoaded (reading : Reading) (given : List Given) (load : RuledLoad) (left left' : Option (List ℕ)) : Type 0 where
   pub secrets : List Secret
   pub between : Option (List ℕ)
@@ -207,12 +192,9 @@ load_as secrets rules key = record { secrets = secrets; rules = rules; key = key
 abbrev pub ruled_load : List PatternRule → List Rule → Option (Bor (List ℕ)) → RuledLoad
 ruled_load secrets rules key = load_as (secrets_of secrets) rules (key_lent key)
 
--- these patterns and rules with a key, and with one that may name them
+-- these patterns and rules with a key
 abbrev pub load_in : KeyedRules → RuledLoad
-load_in made = load_as (secrets_of made.given.secrets.items) made.given.rules (key_in made.key)
-
-abbrev pub IsKeyedBy : List Item → GivenRules → Option (List ℕ) → KeyedRules → Type 0
-IsKeyedBy items rules key made = load_in made ≡ load_as (secrets_by (all_given items) key (secrets_of rules.secrets.items)) rules.rules key
+load_in made = load_as (secrets_of made.secrets.rules.items) made.rules (key_in made.secrets.key)
 
 -- those that some arguments ask for were read, and the key beside them
 module _ {F X : Type 0} (D : Folders F X) (folder : F) (items : List Item) where
@@ -221,9 +203,6 @@ module _ {F X : Type 0} (D : Folders F X) (folder : F) (items : List Item) where
 
   abbrev pub AreRulesKeyedBy : (left left' : Option (List ℕ)) → KeyedRules → Type 0
   AreRulesKeyedBy left left' made = AreRuledLoaded (reading_by (call_of D folder (all_given items))) (all_given items) (load_in made) left left'
-
-  abbrev pub KeysRules : GivenRules → Result KeyedRules RuledFailure → (left left' : Option (List ℕ)) → Type 0
-  KeysRules rules result left left' = (first : Option (List ℕ)) → AreRulesGivenBy first left rules → IfOk result (AreRulesKeyedBy first left')
 
 -- the patterns that are searched for: all that occurs counts
 abbrev pub patterns_by_case : List Given → List (List ℕ) → Patterns

@@ -6,7 +6,7 @@ use Rattle.std.specs.Io.KnownBytes.{Appends, Keeps}
 use Rattle.std.specs.declared.io.traits.Read.{Ghosts as Readers}
 use Rattle.std.specs.declared.io.traits.Write.{Ghosts as Writers}
 use Rattle.aho_core.specs.Occurrence.{Occurrence}
-use Rattle.aho_core.specs.declared.error.stream.StreamError.TheVariants.{Match, Read, Write, WriteZero, Memory, PositionLimit}
+use Rattle.aho_core.specs.declared.error.stream.StreamError.TheVariants.{Read, PositionLimit}
 use Rattle.aho_automaton.specs.declared.automaton.Automaton.{Ghosts as Automata}
 use Rattle.aho_devices.specs.Counts.{AppendsBeginning}
 use Rattle.aho_devices.specs.declared.adapters.FromRead.{FromRead}
@@ -24,7 +24,7 @@ use Rattle.secret_rules.specs.Lines.{Line, stream_lines}
 use Rattle.secret_rules.specs.Ready.{CanCoverLines, most_of, rules_of, searched_automaton, words_of}
 use Rattle.secret_rules.specs.Visits.{AreFirstLines}
 use Rattle.secret_rules.specs.declared.error.LineError.{LineError}
-use Rattle.secret_rules.specs.declared.error.LineError.TheVariants.{Mark, Stream}
+use Rattle.secret_rules.specs.declared.error.LineError.TheVariants.{Stream}
 use Rattle.secret_rules.specs.declared.line_cover.LineCover.{LineCover}
 use Rattle.secret_rules.specs.declared.rule.Rule.{Rule}
 use Rattle.acredact.specs.Arguments.{AsksForRulesCheck, Given, all_given, has}
@@ -237,13 +237,9 @@ BeginAllTelling quest names left left' held held' = EachName (BeginsNamedTelling
 abbrev pub look_of_lines : Result Bool LineError → Result Look LineError
 look_of_lines (Ok true) = Ok Found
 look_of_lines (Ok false) = Ok Clean
-look_of_lines (Err (Stream (Match cause))) = Err (Stream (Match cause))
 look_of_lines (Err (Stream (Read fault))) = Ok (Unread ReadFault)
-look_of_lines (Err (Stream (Write fault))) = Err (Stream (Write fault))
-look_of_lines (Err (Stream WriteZero)) = Err (Stream WriteZero)
-look_of_lines (Err (Stream Memory)) = Err (Stream Memory)
 look_of_lines (Err (Stream PositionLimit)) = Ok (Unread TooLong)
-look_of_lines (Err (Mark error)) = Err (Mark error)
+look_of_lines (Err error) = Err error
 
 -- whether something was found, where all lines were told
 abbrev pub found_of : Result (Unit {0}) LineError → Bool → Result Bool LineError

@@ -2,7 +2,6 @@
 use Rattle.std.specs.Prelude.{◌≡◌, ℕ, ◌-◌, ◌<◌, ◌^◌, min, Bool, true, List, [], ◌∷◌, ◌++◌, Option, None, Result, Ok, OnOk, length, slice_index}
 use Rattle.std.specs.declared.io.traits.Read.{Ghosts as Readers}
 use Rattle.aho_core.specs.Occurrence.{Occurrence}
-use Rattle.aho_core.specs.Patterns.{Patterns}
 use Rattle.aho_core.specs.declared.error.stream.StreamError.{StreamError}
 use Rattle.aho_cover.specs.Counting.{CountsThese, runs_named}
 use Rattle.aho_devices.specs.declared.adapters.FromRead.{FromRead}
@@ -12,7 +11,7 @@ use Rattle.aho_stream.specs.Replacing.{SourceGave}
 use Rattle.tool_parts.specs.Names.{name_bytes}
 use Rattle.tool_parts.specs.Streams.{bytes_left}
 use Rattle.tool_parts.specs.declared.reason.Reason.{Reason}
-use Rattle.acredact.specs.Files.{Work, redactor_of, work_of}
+use Rattle.acredact.specs.Files.{Work, work_of}
 use Rattle.acredact.specs.Reads.{OfName, ReadsText}
 use Rattle.acredact.specs.Secrets.{AreReplaced, Redactor}
 use Rattle.acredact.specs.Streams.{StreamOutcome}
@@ -86,7 +85,3 @@ module _ {R : Type 0} {Reads : Readers R} where
       abbrev pub CountsJob : Result Bool Z → (streams streams' : Streams R W E Reads) → (counts counts' : List ℕ) → Redactor → Type 0
       CountsJob result streams streams' counts counts' r =
           result ≡ Ok true → CountsOfNames (bytes_left streams.input) (bytes_left streams'.input) counts counts' (work_of D job r) (name_bytes job.names.now)
-
-      -- by these patterns
-      abbrev pub JobCounts : Result Bool Z → (streams streams' : Streams R W E Reads) → (counts counts' : List ℕ) → Patterns → Type 0
-      JobCounts result streams streams' counts counts' p = CountsJob result streams streams' counts counts' (redactor_of job p)

@@ -1,5 +1,5 @@
 -- By what a stream is redacted.
-use Rattle.std.specs.Prelude.{◌≡◌, ℕ, Bool, false, true, List}
+use Rattle.std.specs.Prelude.{◌≡◌, ℕ, false, true, List}
 use Rattle.std.specs.Borrow.{Bor}
 use Rattle.aho_automaton.specs.declared.automaton.Automaton.{Ghosts}
 use Rattle.aho_cover.specs.Covers.{IsUnbegunWith}
@@ -14,21 +14,13 @@ pub record IsRedactor {A : Type 0} (G : Ghosts A) (automaton : A) (replacements 
   pub is : r ≡ redactor_by r.patterns false false replacements
   pub ready : CanRedact G automaton false replacements
 
--- an automaton covers so, of words alone or not, with pieces that are made by this rule
-pub record IsCoverer {A : Type 0} (G : Ghosts A) (automaton : A) (words : Bool) (rule : PieceRule) (r : Redactor) : Type 0 where
+-- an automaton covers so, of words alone or not, with pieces that are made by this rule, and the cover has not begun
+pub record IsCovering {A : Type 0} (G : Ghosts A) (automaton : A) (progress : CoverProgress) (rule : PieceRule) (r : Redactor) : Type 0 where
   pub of : G.is_of automaton r.patterns
   pub covers : r.covers ≡ true
-  pub chosen : r.words ≡ words
+  pub chosen : r.words ≡ progress.words
   pub is : rule_of r ≡ rule
-
--- and the cover has not begun
-pub record IsCovering {A : Type 0} (G : Ghosts A) (automaton : A) (progress : CoverProgress) (rule : PieceRule) (r : Redactor) : Type 0 where
-  pub coverer : IsCoverer G automaton progress.words rule r
   pub unbegun : IsUnbegunWith progress.words G automaton progress
-
--- what holds of all that an automaton covers so
-abbrev pub IfCoverer : {A : Type 0} → Ghosts A → A → (words : Bool) → PieceRule → (Redactor → Type 0) → Type 0
-IfCoverer G automaton words rule Holds = (r : Redactor) → IsCoverer G automaton words rule r → Holds r
 
 -- what holds of all by which a way redacts
 abbrev pub IfBy : {X : Type 0} → Ways X → X → (Redactor → Type 0) → Type 0

@@ -70,7 +70,12 @@ pub fn redact_files<A: Automaton, F: Folder, I: Read, W: Write, E: Sink>(
     if job.covers {
         return cover_files(automaton, job, counts, volume, streams);
     }
-    replace_files(automaton, job, counts, volume, streams)
+    let mut way = Replacing {
+        alloc: job.alloc,
+        automaton,
+        replacements: job.replacements,
+    };
+    redact_flushed(&mut way, job, counts, volume, streams)
 }
 
 /// Redacts all files by covers, with one text for each pattern, or by a key with a pseudonym in the place of each run.
@@ -115,27 +120,6 @@ fn cover_by<A: Automaton, P: Pieces + Drop, F: Folder, I: Read, W: Write, E: Sin
 {
     let start = StreamCoverStart::new_with(job.alloc, automaton, job.words)?;
     let mut way = Covering { start, pieces };
-    redact_flushed(&mut way, job, counts, volume, streams)
-}
-
-/// Redacts all files by matches that share no byte.
-fn replace_files<A: Automaton, F: Folder, I: Read, W: Write, E: Sink>(
-    automaton: &A,
-    job: &Job<'_, '_, F>,
-    counts: &mut [u64],
-    volume: &mut Volume,
-    streams: &mut Streams<'_, I, W, E>,
-) -> Result<bool, StreamError>
-    requires ready { CanDo A.Automaton automaton.now job.now }
-    requires plain { job.now.covers ≡ false }
-    ensures done { IfOf A.Automaton automaton.now (DoesByPatterns W.Write E.Sink F.Folder job.now
-        result streams.old streams.new counts.old counts.new volume.old volume.new) }
-{
-    let mut way = Replacing {
-        alloc: job.alloc,
-        automaton,
-        replacements: job.replacements,
-    };
     redact_flushed(&mut way, job, counts, volume, streams)
 }
 

@@ -1,6 +1,6 @@
 //! The rules of all patterns, files and tables that are given.
 
-ghost use Rattle.std.specs.Prelude.{◌≡◌, ℕ, List, Option, Some, IfErr, IfOk, OnOk, false};
+ghost use Rattle.std.specs.Prelude.{◌≡◌, Option, Some, IfErr, IfOk, OnOk, false};
 ghost use Rattle.aho_core.specs.Replacement.{pieces_of};
 ghost use Rattle.aho_devices.specs.Counts.{counted};
 ghost use Rattle.tool_parts.specs.Streams.{bytes_left};
@@ -18,7 +18,7 @@ ghost use Rattle.tool_parts.specs.declared.failure.Failure.TheVariants.{OutOfMem
 ghost use Rattle.acredact.specs.declared.patterns.LineFault.TheVariants.{OutOfMemory};
 
 use crate::failure::Failure;
-use crate::files::is_input;
+use crate::files::{is_input, opened};
 use crate::folder::Folder;
 use crate::forms::add_forms;
 use crate::options::{Item, Word, covers, has, last_value};
@@ -466,20 +466,13 @@ pub fn read_list<F: Folder, I: Read>(
     if is_input(name) {
         return read_whole(lists.alloc, input);
     }
-    match lists.folder.open(name) {
-        Ok(file) => read_opened(lists.alloc, file),
+    match opened(lists.folder, name) {
+        Ok(source) => {
+            let mut source = source;
+            read_whole(lists.alloc, &mut source)
+        }
         Err(reason) => Err(reason),
     }
-}
-
-/// All bytes that a reader gives.
-fn read_opened<I: Read + Drop>(alloc: Global, reader: I) -> Result<Vec<u8>, Reason>
-    ensures text { IfOk result (λ text. (rest : Option (List ℕ))
-        × ReadsText text.items (I.remaining reader) rest) }
-    ensures fails { IfErr result IsTextReason }
-{
-    let mut source = FromRead::new(reader);
-    read_whole(alloc, &mut source)
 }
 
 /// All bytes that the input gives. A failed read is not tried again.

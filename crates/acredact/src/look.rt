@@ -1,6 +1,6 @@
 //! Whether some pattern occurs in files: what a check looks for.
 
-ghost use Rattle.std.specs.Prelude.{◌≡◌, ◌<◌, ◌≤◌, ℕ, List, Option, IfErr, IfOk, false, length, slice_index, true};
+ghost use Rattle.std.specs.Prelude.{◌≡◌, ◌<◌, ◌≤◌, ℕ, IfErr, IfOk, false, length, slice_index, true};
 ghost use Rattle.std.specs.List.{concat};
 ghost use Rattle.aho_core.specs.Patterns.{Patterns};
 ghost use Rattle.aho_devices.specs.Counts.{counted};
@@ -14,7 +14,7 @@ ghost use Rattle.acredact.specs.Looks.{CanLook, IsLook, IsLookEnd, LooksAt, both
 ghost use Rattle.acredact.specs.Secrets.{IfOf};
 
 use crate::failure::tell_unread;
-use crate::files::is_input;
+use crate::files::{is_input, opened};
 use crate::folder::Folder;
 use chromesquid::any::{PatternPieces, StreamCoverStart, StreamFindIter, StreamStart, cover_with};
 use chromesquid::{Automaton, FromRead, Nowhere, Sink, Source, StreamError};
@@ -141,25 +141,13 @@ fn look_at_file<A: Automaton, F: Folder, I: Read>(
     if is_input(name) {
         return look_at_input(files.alloc, automaton, files.words, input);
     }
-    match files.folder.open(name) {
-        Ok(file) => look_at_opened(files.alloc, automaton, files.words, file),
+    match opened(files.folder, name) {
+        Ok(source) => {
+            let mut source = source;
+            look_at_input(files.alloc, automaton, files.words, &mut source)
+        }
         Err(reason) => Ok(Look::Unread(reason)),
     }
-}
-
-/// Looks at what a reader gives.
-fn look_at_opened<A: Automaton, I: Read + Drop>(
-    alloc: Global,
-    automaton: &A,
-    words: bool,
-    reader: I,
-) -> Result<Look, AllocError>
-    requires ready { CanLook A.Automaton automaton.now words }
-    ensures looks { IfOf A.Automaton automaton.now (λ p. IfOk result (λ look.
-        (rest : Option (List ℕ)) × IsLook (sought p words) IsReadReason look (I.remaining reader) rest)) }
-{
-    let mut source = FromRead::new(reader);
-    look_at_input(alloc, automaton, words, &mut source)
 }
 
 /// Looks at what the input gives.

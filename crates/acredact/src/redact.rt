@@ -1,73 +1,23 @@
-//! The redaction of one stream.
+//! The redaction of one stream by matches that are counted.
 
-ghost use Rattle.std.specs.Prelude.{◌≡◌, ◌∷◌, [], false, slice_index_or};
-ghost use Rattle.aho_core.specs.Patterns.{Patterns};
+ghost use Rattle.std.specs.Prelude.{◌∷◌, [], false, slice_index_or};
 ghost use Rattle.aho_core.specs.Replacement.{pieces_of};
 ghost use Rattle.aho_cover.specs.Counting.{CountsThese};
-ghost use Rattle.aho_cover.specs.Covers.{IsUnbegunWith};
 ghost use Rattle.acredact.specs.Bounds.{Bounded};
 ghost use Rattle.acredact.specs.Secrets.{CanRedact, IfOf, redactor_by};
-ghost use Rattle.acredact.specs.Streams.{StreamOutcome, WritesPiece};
+ghost use Rattle.acredact.specs.Streams.{WritesPiece};
 ghost use Rattle.acredact.specs.Totals.{DoesStream};
-ghost use Rattle.acredact.specs.Ways.{IfCoverer};
 
-use chromesquid::any::{
-    Pieces, StreamCoverStart, cover_with, try_stream_replace_all, try_stream_replace_all_with_mut,
-};
+use chromesquid::any::try_stream_replace_all_with_mut;
 use chromesquid::{Automaton, Match, Sink, Source, StreamError, write_whole};
 use std::alloc::Global;
 
-/// Writes what the source gives to the sink, but in the place of each run of bytes that lie in matches the text that is made of the
-/// run. The start says whether only words count: matches beside which no letter, digit or `_` stands. The runs of each pattern that
-/// has a count are counted.
-///
-/// It takes no memory but that of the start, which is then as before.
-///
-/// # Errors
-///
-/// As `redact`, but for `Memory`.
-pub fn cover<A: Automaton, R: Source, W: Sink, P: Pieces>(
-    start: &mut StreamCoverStart<'_, A>,
-    pieces: &mut P,
-    counts: &mut [u64],
-    source: &mut R,
-    sink: &mut W,
-) -> Result<(), StreamError>
-    requires of { (p : Patterns) × A.is_of start.old.automaton.now p }
-    requires unbegun { IsUnbegunWith start.old.progress.words A.Automaton
-        start.old.automaton.now start.old.progress }
-    ensures done { IfCoverer A.Automaton start.old.automaton.now start.old.progress.words (P.rule pieces.old)
-        (DoesStream R.Source W.Sink result source.old source.new sink.old sink.new counts.old counts.new) }
-    ensures most { Bounded R.Source source.old source.new counts.old counts.new }
-    ensures same { start.new.automaton.now ≡ start.old.automaton.now }
-    ensures unbegun { IsUnbegunWith start.old.progress.words A.Automaton
-        start.new.automaton.now start.new.progress }
-    ensures rule { P.rule pieces.new ≡ P.rule pieces.old }
-{
-    cover_with(start, source, sink, pieces, counts)
-}
-
-/// Writes what the source gives to the sink, with its replacement in the place of each match.
+/// Writes what the source gives to the sink, with its replacement in the place of each match, and counts the matches of each pattern.
 ///
 /// # Errors
 ///
 /// `Read` and `Write` exactly where a read or a write fails, `WriteZero` where a write takes nothing, `PositionLimit` where the
 /// source gave 2^63 - 1 bytes, and `Memory`. What was written is then a beginning of the redaction.
-pub fn redact<A: Automaton, R: Source, W: Sink>(
-    alloc: Global,
-    automaton: &A,
-    replacements: &[&[u8]],
-    source: &mut R,
-    sink: &mut W,
-) -> Result<(), StreamError>
-    requires ready { CanRedact A.Automaton automaton.now false replacements.now }
-    ensures outcome { IfOf A.Automaton automaton.now (λ p. StreamOutcome R.Source W.Sink
-        (redactor_by p false false replacements.now) result source.old source.new sink.old sink.new) }
-{
-    try_stream_replace_all(alloc, automaton, source, sink, replacements)
-}
-
-/// The same, where the matches of each pattern are counted.
 pub fn redact_counting<A: Automaton, R: Source, W: Sink>(
     alloc: Global,
     automaton: &A,

@@ -20,11 +20,12 @@ use crate::options::{Item, Word, has};
 use crate::patterns::{Rule, replacements_of};
 use crate::prepare::{key_by, text_of};
 use crate::ruled_failure::{RuledFailure, tell_long, tell_ruled};
-use crate::ruled_files::{cover_files, lined_of};
-use crate::ruled_load::{KeyedRules, lent_key, load_keyed, ready_for_lines};
+use crate::ruled_files::{Lined, cover_files, line_cover};
+use crate::ruled_load::{KeyedRules, load_keyed, ready_for_lines};
 use crate::run_counts::tell_runs;
 use crate::run_pieces::RunPieces;
 use crate::run_summary::last_of;
+use crate::secrets::key_bytes;
 use crate::streams::Streams;
 use crate::summary::Volume;
 use chromesquid::any::Pieces;
@@ -82,19 +83,19 @@ fn redact_keyed<'a, F: Folder, I: Read, W: Write, E: Sink>(
     folder: &F,
     streams: &mut Streams<'_, I, W, E>,
 ) -> Result<bool, RuledFailure<'a>>
-    requires some { HaveNoEmpty (secrets_of rules.now.given.secrets.items) }
+    requires some { HaveNoEmpty (secrets_of rules.now.secrets.rules.items) }
     ensures outcome { KeyedRuled W.Write E.Sink F.Folder folder.now given.now rules.now
         result streams.old streams.new }
     ensures flushed { OnOk result (streams.new.output.device.flushed ≡ true) }
 {
-    let key = lent_key(rules);
-    let secrets = rules.given.secrets.as_slice();
+    let key = key_bytes(&rules.secrets);
+    let secrets = rules.secrets.rules.as_slice();
     match ready_for_lines(alloc, given, secrets, &mut streams.errors) {
         Ok(ready) => redact_by(
             alloc,
             given,
             secrets,
-            &rules.given.rules,
+            &rules.rules,
             key,
             folder,
             &ready.searcher,
@@ -173,7 +174,8 @@ fn redact_lines<'a, A: Automaton, F: Folder, I: Read, W: Write, E: Sink>(
     let mut counts = counts_for(alloc, texts.len())?;
     let words = has(given, Word::AsWord);
     let pieces = pieces_by(given, texts, key, secrets.len());
-    let mut lined = lined_of(alloc, automaton, rules, pieces, words, most)?;
+    let cover = line_cover(alloc, automaton, rules, words, most)?;
+    let mut lined = Lined { cover, pieces };
     let tally = counts.as_mut_slice();
     let mut volume = Volume { files: 0, bytes: 0 };
     let done = cover_files(&mut lined, folder, names, tally, &mut volume, streams);

@@ -3,7 +3,7 @@
 ghost use Rattle.std.specs.Prelude.{◌≡◌, IfOk, IfSome, None, Ok, OnOk, true};
 ghost use Rattle.secret_rules.specs.OpenLines.{CanSearch};
 ghost use Rattle.secret_rules.specs.Ready.{CanCoverLines, most_of, rules_of, searched_automaton, words_of};
-ghost use Rattle.acredact.specs.Ruled.{AreSearchedBy, DoesFile, DoesFiles, IfLined, IsAnyLined, LeavesLined, LinesBy, LinesDone, NamedDone, StaysLined, unread_of};
+ghost use Rattle.acredact.specs.Ruled.{AreSearchedBy, DoesFile, DoesFiles, IfLined, IsAnyLined, LeavesLined, LinesDone, NamedDone, StaysLined, unread_of};
 ghost use Rattle.acredact.specs.Volumes.{AddsFile, AddsStream, AddsText, AllVolume, OneVolume};
 
 use crate::failure::{tell_output, tell_unread};
@@ -32,28 +32,11 @@ pub struct Lined<'r, 'a, A, P> {
     pub pieces: P,
 }
 
-/// What redacts lines by these rules and the patterns of an automaton, where it has some, with these pieces.
+/// What covers lines, by rules and by the patterns of an automaton, where it has some.
 ///
 /// # Errors
 ///
 /// Out of memory, or there are more numbers than one may have.
-pub fn lined_of<'r, 'a, A: Automaton, P: Pieces + Drop>(
-    alloc: Global,
-    automaton: &'a A,
-    rules: &'r Rules,
-    pieces: P,
-    words: bool,
-    most: usize,
-) -> Result<Lined<'r, 'a, A, P>, BuildError>
-    requires ready { CanSearch A.Automaton automaton.now }
-    ensures lined { IfOk result (LinesBy A.Automaton P.Pieces
-        automaton.entry.now words rules.entry.now most (P.rule pieces)) }
-{
-    let cover = line_cover(alloc, automaton, rules, words, most)?;
-    Ok(Lined { cover, pieces })
-}
-
-/// What covers lines, by rules and by the patterns of an automaton, where it has some.
 pub fn line_cover<'r, 'a, A: Automaton>(
     alloc: Global,
     automaton: &'a A,

@@ -6,9 +6,8 @@ ghost use Rattle.tool_parts.specs.Arguments.{texts};
 ghost use Rattle.tool_parts.specs.Streams.{WritesBytes};
 ghost use Rattle.tool_parts.specs.Telling.{Tells, TellsBytes, TellsSome};
 ghost use Rattle.acredact.specs.Arguments.{AreMistaken, AsksToRedact, GivesNoPattern, IfAsked, IfChecking, IfNoCheck, IfRight, IfRuled, IfRulesCheck, IsCheck, RefusesUnclean, all_given, any_check_asked, counts_asked, counts_given, has};
-ghost use Rattle.acredact.specs.Back.{FilesJob};
-ghost use Rattle.acredact.specs.Bounds.{JobNumbers};
-ghost use Rattle.acredact.specs.Calls.{AskedOutcome, BeginsAsked, CountsAsked, HidesAsked, IsCountsFailure, IsCountsLine, IsPrintFailure, IsWrongLine, LeavesNoneAsked, LoadOutcome, NumbersToldAsked, OutputFails, ReadyOutcome, RedactsAsked, TellsAsked, TellsAnyCounts, WarnsAsked};
+ghost use Rattle.acredact.specs.Back.{DoesByPatterns};
+ghost use Rattle.acredact.specs.Calls.{AskedOutcome, BeginsAsked, CountsAsked, HidesAsked, IsCountsFailure, IsCountsLine, IsPrintFailure, IsWrongLine, LeavesNoneAsked, NumbersToldAsked, OutputFails, ReadyOutcome, RedactsAsked, TellsAsked, TellsAnyCounts, WarnsAsked};
 ghost use Rattle.acredact.specs.Checks.{MatchedAsked, TellsListsAsked, TellsUncheckedAsked, UnmatchedAsked};
 ghost use Rattle.acredact.specs.Counts.{PutsText, lines_of_rules, secret_lines};
 ghost use Rattle.acredact.specs.Files.{CanDo};
@@ -20,8 +19,6 @@ ghost use Rattle.acredact.specs.Statuses.{IsIdle, SaysOfCall, SaysOfRedaction};
 ghost use Rattle.acredact.specs.Sums.{sums_of};
 ghost use Rattle.acredact.specs.Tables.{secrets_of};
 ghost use Rattle.acredact.specs.Summaries.{counts_told_by, summary_told_by, totals_text};
-ghost use Rattle.acredact.specs.Totals.{JobCounts};
-ghost use Rattle.acredact.specs.Volumes.{JobVolume};
 ghost use Rattle.acredact.specs.declared.options.Word.TheVariants.{Forms, Summary};
 
 use crate::arguments::items;
@@ -264,10 +261,15 @@ fn redact_asked<'a, F: Folder, I: Read, W: Write, E: Sink>(
     if !gives_pattern(given) {
         return Err(Failure::Arguments(Mistake::NoPattern));
     }
-    match load(alloc, given, folder, &mut streams.input) {
-        Ok(secrets) => redact_loaded(alloc, given, &secrets, folder, streams),
-        Err(failure) => Err(failure),
-    }
+    let secrets = match load(alloc, given, folder, &mut streams.input) {
+        Ok(secrets) => secrets,
+        Err(failure) => return Err(failure),
+    };
+    let ready = match prepare(alloc, given, &secrets, &mut streams.errors) {
+        Ok(ready) => ready,
+        Err(failure) => return Err(failure),
+    };
+    redact_ready(alloc, given, &secrets, &ready, folder, streams)
 }
 
 /// Writes a text whole, and answers that nothing was left out.
@@ -280,25 +282,6 @@ fn print<'a, W: Write>(output: &mut FromWrite<W>, text: &[u8]) -> Result<bool, F
     write_whole(output, text)?;
     output.flush()?;
     Ok(true)
-}
-
-/// Redacts all files by what was loaded, and answers whether all were read.
-fn redact_loaded<'a, F: Folder, I: Read, W: Write, E: Sink>(
-    alloc: Global,
-    given: &[Item<'a>],
-    secrets: &Secrets,
-    folder: &F,
-    streams: &mut Streams<'_, I, W, E>,
-) -> Result<bool, Failure<'a>>
-    requires some { AreSome secrets.now }
-    ensures outcome { LoadOutcome W.Write E.Sink F.Folder folder.now (all_given given.now)
-        (loaded_in secrets.now) result streams.old streams.new }
-    ensures flushed { OnOk result (streams.new.output.device.flushed ≡ true) }
-{
-    match prepare(alloc, given, secrets, &mut streams.errors) {
-        Ok(ready) => redact_ready(alloc, given, secrets, &ready, folder, streams),
-        Err(failure) => Err(failure),
-    }
 }
 
 /// Redacts all files by what is ready, tells the counts where they are asked for, and answers whether all files were read.
@@ -423,14 +406,8 @@ pub fn redact_by<F: Folder, I: Read, W: Write, E: Sink>(
     streams: &mut Streams<'_, I, W, E>,
 ) -> Result<bool, StreamError>
     requires ready { CanDo ⟦<AhoCorasick as Automaton>⟧ searcher.now job.now }
-    ensures outcome { ForItsPatterns searcher.now (FilesJob F.Folder job.now W.Write E.Sink
-        result streams.old streams.new) }
-    ensures counted { ForItsPatterns searcher.now (JobCounts F.Folder job.now
-        result streams.old streams.new counts.old counts.new) }
-    ensures read { JobVolume F.Folder job.now result volume.old volume.new streams.old streams.new }
-    ensures most { OnOk result (JobNumbers F.Folder job.now counts.old counts.new
-        volume.old volume.new streams.old streams.new) }
-    ensures flushed { OnOk result (streams.new.output.device.flushed ≡ true) }
+    ensures done { ForItsPatterns searcher.now (DoesByPatterns W.Write E.Sink F.Folder job.now
+        result streams.old streams.new counts.old counts.new volume.old volume.new) }
 {
     match searcher.backward() {
         Some(back) => back_files(searcher.itself(), back, job, counts, volume, streams),
@@ -447,14 +424,8 @@ fn redact_forward<F: Folder, I: Read, W: Write, E: Sink>(
     streams: &mut Streams<'_, I, W, E>,
 ) -> Result<bool, StreamError>
     requires ready { CanDo ⟦<AhoCorasick as Automaton>⟧ searcher.now job.now }
-    ensures outcome { ForItsPatterns searcher.now (FilesJob F.Folder job.now W.Write E.Sink
-        result streams.old streams.new) }
-    ensures counted { ForItsPatterns searcher.now (JobCounts F.Folder job.now
-        result streams.old streams.new counts.old counts.new) }
-    ensures read { JobVolume F.Folder job.now result volume.old volume.new streams.old streams.new }
-    ensures most { OnOk result (JobNumbers F.Folder job.now counts.old counts.new
-        volume.old volume.new streams.old streams.new) }
-    ensures flushed { OnOk result (streams.new.output.device.flushed ≡ true) }
+    ensures done { ForItsPatterns searcher.now (DoesByPatterns W.Write E.Sink F.Folder job.now
+        result streams.old streams.new counts.old counts.new volume.old volume.new) }
 {
     if let Some(rows) = searcher.rows() {
         return redact_files(rows, job, counts, volume, streams);

@@ -3,9 +3,8 @@
 ghost use Rattle.std.specs.Prelude.{◌≡◌, Option, Some, IfErr, IfOk};
 ghost use Rattle.tool_parts.specs.Streams.{bytes_left};
 ghost use Rattle.acredact.specs.Arguments.{all_given, has};
-ghost use Rattle.acredact.specs.Calls.{AreLoadedBy, CannotLoadBy, LoadsBeside};
-ghost use Rattle.acredact.specs.Loading.{AreSome, key_in, key_lent, loaded_by, loaded_in};
-ghost use Rattle.acredact.specs.Tables.{secrets_of};
+ghost use Rattle.acredact.specs.Calls.{AreKeyedBy, AreLoadedBy, CannotLoadBy, IsKeyedBy};
+ghost use Rattle.acredact.specs.Loading.{AreSome, for_runs, key_in, key_lent, loaded_in};
 ghost use Rattle.acredact.specs.declared.options.Word.TheVariants.{IgnoreCase};
 
 use crate::failure::Failure;
@@ -40,22 +39,38 @@ pub fn load<'a, F: Folder, I: Read>(
     ensures fails { IfErr result (CannotLoadBy F.Folder folder.now given.now) }
 {
     let lists = lists_of(alloc, given, folder);
-    match rules(&lists, given, input) {
-        Ok(rules) => load_key(alloc, given, rules, folder, input),
+    let rules = match rules(&lists, given, input) {
+        Ok(rules) => rules,
+        Err(failure) => return Err(failure),
+    };
+    match load_key(alloc, given, rules, folder, input) {
+        Ok(keyed) => Ok(for_runs(given, keyed)),
         Err(failure) => Err(failure),
     }
 }
 
-/// Loads the key of pseudonyms, where they are asked for, beside these rules.
-fn load_key<'a, F: Folder, I: Read>(
+/// The same, but that a key that has named all secrets names no run.
+fn for_runs(given: &[Item<'_>], keyed: Secrets) -> Secrets
+    ensures same { loaded_in result ≡ for_runs (all_given given.now) (loaded_in keyed) }
+{
+    if !has(given, Word::Forms) {
+        return keyed;
+    }
+    let Secrets { rules, key: _key } = keyed;
+    Secrets { rules, key: None }
+}
+
+/// Loads the key of pseudonyms, where they are asked for, beside these rules. Where forms are asked for, each form has the pseudonym of
+/// its secret for its text.
+pub fn load_key<'a, F: Folder, I: Read>(
     alloc: Global,
     given: &[Item<'a>],
     rules: Vec<Rule>,
     folder: &F,
     input: &mut FromRead<I>,
 ) -> Result<Secrets, Failure<'a>>
-    ensures loaded { LoadsBeside F.Folder folder.now given.now rules.items result
-        (bytes_left input.old) (bytes_left input.new) }
+    ensures keyed { IfOk result (AreKeyedBy F.Folder folder.now given.now rules.items
+        (bytes_left input.old) (bytes_left input.new)) }
     ensures fails { IfErr result (CannotLoadBy F.Folder folder.now given.now) }
 {
     let lists = lists_of(alloc, given, folder);
@@ -66,15 +81,14 @@ fn load_key<'a, F: Folder, I: Read>(
     }
 }
 
-/// These rules with this key. Where forms are asked for, each form has the pseudonym of its secret for its text, and the key names no run.
+/// These rules with this key, which names the secrets where forms are asked for.
 fn with_key(
     alloc: Global,
     given: &[Item<'_>],
     rules: Vec<Rule>,
     key: Vec<u8>,
 ) -> Result<Secrets, AllocError>
-    ensures loaded { IfOk result (λ made. loaded_in made
-        ≡ loaded_by (all_given given.now) (secrets_of rules.items) (Some key.items)) }
+    ensures keyed { IfOk result (IsKeyedBy given.now rules.items (Some key.items)) }
 {
     if !has(given, Word::Forms) {
         return Ok(Secrets {
@@ -85,7 +99,7 @@ fn with_key(
     let named = named_rules(alloc, rules.as_slice(), name_key(given, key.as_slice()))?;
     Ok(Secrets {
         rules: named,
-        key: None,
+        key: Some(key),
     })
 }
 

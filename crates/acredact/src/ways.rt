@@ -4,8 +4,8 @@ ghost use Rattle.acredact.specs.Bounds.{Bounded};
 ghost use Rattle.acredact.specs.Secrets.{Redactor};
 ghost use Rattle.acredact.specs.Totals.{DoesStream};
 
-use crate::redact::{cover, redact, redact_counting};
-use chromesquid::any::{Pieces, StreamCoverStart};
+use crate::redact::redact_counting;
+use chromesquid::any::{Pieces, StreamCoverStart, cover_with, try_stream_replace_all};
 use chromesquid::{Automaton, Sink, Source, StreamError};
 use std::alloc::Global;
 
@@ -43,7 +43,8 @@ pub struct Key<'s> {
     pub ignore_case: bool,
 }
 
-/// A cover, with the memory that each stream uses again.
+/// A cover, with the memory that each stream uses again: in the place of each run of bytes that lie in matches it writes the text that is
+/// made of the run. The start says whether only words count: matches beside which no letter, digit or `_` stands.
 #[derive(Drop)]
 pub struct Covering<'s, A, P> {
     /// How the cover of a stream begins.
@@ -64,7 +65,7 @@ impl<A: Automaton, P: Pieces> Way for Covering<'_, A, P> {
         source: &mut R,
         sink: &mut W,
     ) -> Result<(), StreamError> {
-        cover(&mut self.start, &mut self.pieces, counts, source, sink)
+        cover_with(&mut self.start, source, sink, &mut self.pieces, counts)
     }
 }
 
@@ -92,7 +93,13 @@ impl<A: Automaton> Way for Replacing<'_, '_, A> {
         sink: &mut W,
     ) -> Result<(), StreamError> {
         if counts.is_empty() {
-            return redact(self.alloc, self.automaton, self.replacements, source, sink);
+            return try_stream_replace_all(
+                self.alloc,
+                self.automaton,
+                source,
+                sink,
+                self.replacements,
+            );
         }
         redact_counting(
             self.alloc,

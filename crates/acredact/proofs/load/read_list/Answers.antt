@@ -15,6 +15,6 @@ returns-then-is_input g c = record {
 
 pub returns-in-Ok : goal.returns-in-Ok
 returns-in-Ok g c = record {
-  text = IfOk-weaker c.read_opened.result _ _ (λ text reads. text_opened (g.F.Folder.holds c.args.lists.now.folder.now) c.args.name.now text.items (bytes_left c.args.input.now) _ (sym c.is_input.ensures.is ∙ c.if-is_input.false) c.in-Ok.ensures.told reads) c.read_opened.ensures.text;
-  fails = IfErr-weaker c.read_opened.result _ _ (λ reason is. inl is) c.read_opened.ensures.fails;
+  text = IfOk-weaker c.read_whole-in-Ok.result _ _ (λ text reads. text_opened (g.F.Folder.holds c.args.lists.now.folder.now) c.args.name.now text.items (bytes_left c.args.input.now) _ _ (sym c.is_input.ensures.is ∙ c.if-is_input.false) c.in-Ok.ensures.told reads) c.read_whole-in-Ok.ensures.text;
+  fails = IfErr-weaker c.read_whole-in-Ok.result _ _ (λ reason is. inl is) c.read_whole-in-Ok.ensures.fails;
 }

@@ -15,9 +15,9 @@ by_input : (quest : Quest) (name : List ℕ) (result : Result Look AllocError) (
 by_input quest name (Ok look) left left' is looks = look_input quest name look left left' is looks
 by_input quest name (Err error) left left' is looks = tt
 
-by_folder : (quest : Quest) (name : List ℕ) (result : Result Look AllocError) (given left : Option (List ℕ)) → is_input name ≡ false → Keeps (quest.holds name) given → IfOk result (λ look. (rest : Option (List ℕ)) × IsLook quest.redactor IsReadReason look given rest) → IfOk result (λ look. IsLookOf quest name look left left)
-by_folder quest name (Ok look) given left is kept (rest, looks) = look_opened quest name look given left left rest is refl kept looks
-by_folder quest name (Err error) given left is kept looks = tt
+by_folder : (quest : Quest) (name : List ℕ) (result : Result Look AllocError) (given rest left : Option (List ℕ)) → is_input name ≡ false → Keeps (quest.holds name) given → IfOk result (λ look. IsLook quest.redactor IsReadReason look given rest) → IfOk result (λ look. IsLookOf quest name look left left)
+by_folder quest name (Ok look) given rest left is kept looks = look_opened quest name look given left left rest is refl kept looks
+by_folder quest name (Err error) given rest left is kept looks = tt
 
 pub returns-then-is_input : goal.returns-then-is_input
 returns-then-is_input g c = record {
@@ -26,7 +26,7 @@ returns-then-is_input g c = record {
 
 pub returns-in-Ok : goal.returns-in-Ok
 returns-in-Ok g c = record {
-  looks = λ p of. by_folder (quest_of g.F.Folder c.args.files.now.folder.now c.args.files.now.words p) c.args.name.now _ _ _ (sym c.is_input.ensures.is ∙ c.if-is_input.false) c.in-Ok.ensures.told (c.look_at_opened.ensures.looks p of);
+  looks = λ p of. by_folder (quest_of g.F.Folder c.args.files.now.folder.now c.args.files.now.words p) c.args.name.now _ _ _ _ (sym c.is_input.ensures.is ∙ c.if-is_input.false) c.in-Ok.ensures.told (c.look_at_input-in-Ok.ensures.looks p of);
 }
 
 pub returns-in-Err : goal.returns-in-Err

@@ -15,9 +15,9 @@ ready_for_lines-requires g c = record { some = rw c.as_slice-secrets.ensures.val
 pub returns-in-Ok-clause-outcome : goal.returns-in-Ok-clause-outcome
 returns-in-Ok-clause-outcome g c = λ left loaded.
     let call = call_of g.F.Folder c.args.folder.now (all_given c.args.given.now) in
-    let load : ruled_load c.as_slice-secrets.result.now c.args.rules.now.given.rules c.lent_key-key.result ≡ load_in c.args.rules.now =
-    ap (λ (l : List Rule). ruled_load l c.args.rules.now.given.rules c.lent_key-key.result) c.as_slice-secrets.ensures.value
-    ∙ ap (load_as (secrets_of c.args.rules.now.given.secrets.items) c.args.rules.now.given.rules) c.lent_key-key.ensures.key in
+    let load : ruled_load c.as_slice-secrets.result.now c.args.rules.now.rules c.key_bytes-key.result ≡ load_in c.args.rules.now =
+    ap (λ (l : List Rule). ruled_load l c.args.rules.now.rules c.key_bytes-key.result) c.as_slice-secrets.ensures.value
+    ∙ ap (load_as (secrets_of c.args.rules.now.secrets.rules.items) c.args.rules.now.rules) c.key_bytes-key.ensures.key in
     ruled_behind g.E.Sink call (load_in c.args.rules.now) c.redact_by.result left _ _ _ _ _ _ _ loaded
     (rw c.as_slice-secrets.ensures.value at c.ready_for_lines.ensures.told)
     (rw load at c.redact_by.ensures.outcome)

@@ -1,5 +1,5 @@
 -- The files are redacted by what was loaded.
-use Rattle.std.proofs.Common.{rules, ◌≡◌, ◌∙◌, List, ℕ, ap, length, sym, subst, true}
+use Rattle.std.proofs.Common.{rules, ◌≡◌, ◌∙◌, List, ℕ, ap, length, refl, sym, subst, true}
 use Rattle.std.specs.Prelude.{Ok, replicate}
 use Rattle.std.proofs.lemmas.List.{length-map}
 use Rattle.aho_core.specs.Replacement.{pieces_of}
@@ -15,6 +15,7 @@ use Rattle.acredact.specs.Summaries.{no_volume}
 use Rattle.acredact.specs.Volumes.{ReadsVolume}
 use Rattle.acredact.specs.Tables.{patterns_in}
 use Rattle.acredact.proofs.RuledCalls.{files_done, files_failed, ruled_none, ruling_same, texts_many}
+use Rattle.acredact.proofs.RuledText.{lined_by}
 use Rattle.acredact.proofs.ruled.redact_lines.Goals as goal
 
 pub returns-in_err-texts-clause-outcome : goal.returns-in_err-texts-clause-outcome
@@ -25,12 +26,14 @@ pub returns-in_err-counts-clause-outcome : goal.returns-in_err-counts-clause-out
 returns-in_err-counts-clause-outcome g c =
     ruled_none g.E.Sink (call_of g.F.Folder c.args.folder.now (all_given c.args.given.now)) (ruled_load c.args.secrets.now c.args.rules.now c.args.key) c.from_residual-in_err-counts.result _ _ _ c.from_residual-in_err-counts.ensures.0
 
-pub returns-in_err-lined-clause-outcome : goal.returns-in_err-lined-clause-outcome
-returns-in_err-lined-clause-outcome g c =
-    ruled_none g.E.Sink (call_of g.F.Folder c.args.folder.now (all_given c.args.given.now)) (ruled_load c.args.secrets.now c.args.rules.now c.args.key) c.from_residual-in_err-lined.result _ _ _ c.from_residual-in_err-lined.ensures.0
+pub returns-in_err-cover-clause-outcome : goal.returns-in_err-cover-clause-outcome
+returns-in_err-cover-clause-outcome g c =
+    ruled_none g.E.Sink (call_of g.F.Folder c.args.folder.now (all_given c.args.given.now)) (ruled_load c.args.secrets.now c.args.rules.now c.args.key) c.from_residual-in_err-cover.result _ _ _ c.from_residual-in_err-cover.ensures.0
 
 pub cover_files-done-requires : goal.cover_files-done-requires
-cover_files-done-requires g c = record { ready = (_, c.in_ok-lined.ensures.lined _ c.requires.of) }
+cover_files-done-requires g c =
+    let cover = c.in_ok-cover.ensures in
+    record { ready = (_, lined_by g.A.Automaton _ _ _ _ _ _ _ cover.ready (cover.searched _ c.requires.of) cover.words cover.rules cover.most refl) }
 
 pub returns-in-Ok-clause-outcome : goal.returns-in-Ok-clause-outcome
 returns-in-Ok-clause-outcome g c =
@@ -40,8 +43,8 @@ returns-in-Ok-clause-outcome g c =
     let written : pieces_of c.as_slice-texts.result.now ≡ texts_asked given load = ap pieces_of c.as_slice-texts.ensures.value
     ∙ c.in_ok-texts.ensures.texts ∙ ap (λ (l : List LineRule). texts_asked given (ruled_load c.args.secrets.now l c.args.key)) c.as_slice.ensures.same in
     let ruling = ruling_same given c.args.secrets.now c.args.rules.now c.args.key _ _ _ _ c.has-words.ensures.has c.most_of-most.ensures.most written c.pieces_by-pieces.ensures.rule in
-    let lined = c.in_ok-lined.ensures.lined (patterns_by_case given (patterns_in load.secrets)) c.requires.of in
-    let files = rw (ruling, c.requires.names) at (c.in-Ok.ensures.outcome _ lined) in
+    let cover = c.in_ok-cover.ensures in
+    let files = rw (ruling, c.requires.names) at (c.in-Ok.ensures.outcome _ (lined_by g.A.Automaton _ _ _ _ _ _ (patterns_by_case given (patterns_in load.secrets)) cover.ready (cover.searched _ c.requires.of) cover.words cover.rules cover.most refl)) in
     let zeros : c.as_mut_slice-tally.result.now ≡ replicate (length c.as_slice-texts.result.now) 0 = c.as_mut_slice-tally.ensures.value ∙ c.in_ok-counts.ensures.zeros in
     let sized = sym (length-map c.as_slice-texts.result.now (λ piece. piece.now)) ∙ ap length written ∙ texts_many given load in
     let long = subst (λ (m : ℕ). TellsBytes g.E.Sink c.cover_files-done.new.streams.errors c.tell_count.new.errors (long_told m c.last_of-count.result)) c.most_of-most.ensures.most c.tell_count.ensures.told in
@@ -60,5 +63,5 @@ returns-clause-outcome g c =
     let written : pieces_of c.as_slice-texts.result.now ≡ texts_asked given load = ap pieces_of c.as_slice-texts.ensures.value
     ∙ c.in_ok-texts.ensures.texts ∙ ap (λ (l : List LineRule). texts_asked given (ruled_load c.args.secrets.now l c.args.key)) c.as_slice.ensures.same in
     let ruling = ruling_same given c.args.secrets.now c.args.rules.now c.args.key _ _ _ _ c.has-words.ensures.has c.most_of-most.ensures.most written c.pieces_by-pieces.ensures.rule in
-    let lined = c.in_ok-lined.ensures.lined (patterns_by_case given (patterns_in load.secrets)) c.requires.of in
-    files_failed g.E.Sink call load c.in-Err.error c.failure_in.result _ _ _ _ _ _ _ _ (rw (ruling, c.requires.names) at (c.in-Err.ensures.outcome _ lined))
+    let cover = c.in_ok-cover.ensures in
+    files_failed g.E.Sink call load c.in-Err.error c.failure_in.result _ _ _ _ _ _ _ _ (rw (ruling, c.requires.names) at (c.in-Err.ensures.outcome _ (lined_by g.A.Automaton _ _ _ _ _ _ (patterns_by_case given (patterns_in load.secrets)) cover.ready (cover.searched _ c.requires.of) cover.words cover.rules cover.most refl)))

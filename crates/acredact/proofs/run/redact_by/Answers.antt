@@ -9,13 +9,4 @@ back_files-requires g c =
     record { ready = redact_as _ _ _ stands _ _ ready; both = (ready.patterns, stands.of ready.patterns ready.of, c.in-Some.ensures.of ready.patterns ready.of) }
 
 pub returns-in-Some : goal.returns-in-Some
-returns-in-Some g c =
-    let ready = c.requires.ready in
-    let own = c.back_files.ensures.done _ (c.itself.ensures.stands.of ready.patterns ready.of) (c.in-Some.ensures.of ready.patterns ready.of) in
-    record {
-      outcome = λ p of. (c.back_files.ensures.done p (c.itself.ensures.stands.of p of) (c.in-Some.ensures.of p of)).outcome;
-      counted = λ p of. (c.back_files.ensures.done p (c.itself.ensures.stands.of p of) (c.in-Some.ensures.of p of)).counted;
-      read = own.read;
-      most = own.most;
-      flushed = own.flushed;
-    }
+returns-in-Some g c = record { done = λ p of. c.back_files.ensures.done p (c.itself.ensures.stands.of p of) (c.in-Some.ensures.of p of) }

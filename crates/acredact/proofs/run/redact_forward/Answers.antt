@@ -6,34 +6,10 @@ pub redact_files-requires : goal.redact_files-requires
 redact_files-requires g c = record { ready = redact_as _ _ _ c.in-Some.ensures.stands _ _ c.requires.ready }
 
 pub returns-in-Some : goal.returns-in-Some
-returns-in-Some g c =
-    let own = c.redact_files.ensures.done _ (c.in-Some.ensures.stands.of _ c.requires.ready.of) in
-    record {
-      outcome = λ p of. (c.redact_files.ensures.done p (c.in-Some.ensures.stands.of p of)).outcome;
-      counted = λ p of. (c.redact_files.ensures.done p (c.in-Some.ensures.stands.of p of)).counted;
-      read = own.read;
-      most = own.most;
-      flushed = own.flushed;
-    }
+returns-in-Some g c = record { done = λ p of. c.redact_files.ensures.done p (c.in-Some.ensures.stands.of p of) }
 
 pub returns-in-Some-levels : goal.returns-in-Some-levels
-returns-in-Some-levels g c =
-    let own = c.redact_files-in-Some-levels.ensures.done _ (c.in-Some-levels.ensures.stands.of _ c.requires.ready.of) in
-    record {
-      outcome = λ p of. (c.redact_files-in-Some-levels.ensures.done p (c.in-Some-levels.ensures.stands.of p of)).outcome;
-      counted = λ p of. (c.redact_files-in-Some-levels.ensures.done p (c.in-Some-levels.ensures.stands.of p of)).counted;
-      read = own.read;
-      most = own.most;
-      flushed = own.flushed;
-    }
+returns-in-Some-levels g c = record { done = λ p of. c.redact_files-in-Some-levels.ensures.done p (c.in-Some-levels.ensures.stands.of p of) }
 
 pub returns-in-None : goal.returns-in-None
-returns-in-None g c =
-    let own = c.redact_files-in-None.ensures.done _ (c.itself.ensures.stands.of _ c.requires.ready.of) in
-    record {
-      outcome = λ p of. (c.redact_files-in-None.ensures.done p (c.itself.ensures.stands.of p of)).outcome;
-      counted = λ p of. (c.redact_files-in-None.ensures.done p (c.itself.ensures.stands.of p of)).counted;
-      read = own.read;
-      most = own.most;
-      flushed = own.flushed;
-    }
+returns-in-None g c = record { done = λ p of. c.redact_files-in-None.ensures.done p (c.itself.ensures.stands.of p of) }

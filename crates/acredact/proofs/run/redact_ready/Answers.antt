@@ -37,7 +37,7 @@ returns-in_err-all-clause-outcome g c = λ left loaded.
     let load = loaded_in c.args.secrets.now in
     let is : c.from_residual-in_err-all.result ≡ Err (Other (failure_of_stream c.in_err-all.field-0.0)) = search rules in
     let files = job_does g.F.Folder c.args.folder.now call.given load c.job_of-job.result (c.job_of-job.ensures.job c.requires.ready)
-    (λ (w : Work). FilesOutcome g.W.Write g.E.Sink w (Err c.in_err-all.field-0.0) c.args.streams.now c.redact_by.new.streams) (c.in_err-all.ensures.outcome _ c.requires.ready.of) in
+    (λ (w : Work). FilesOutcome g.W.Write g.E.Sink w (Err c.in_err-all.field-0.0) c.args.streams.now c.redact_by.new.streams) (c.in_err-all.ensures.done _ c.requires.ready.of).outcome in
     subst (λ (r : Result Bool Failure). RestOutcome g.W.Write g.E.Sink call load r c.args.streams.now c.redact_by.new.streams) (sym is)
     (rest_cut g.W.Write g.E.Sink call load c.args.streams.now c.redact_by.new.streams _ files)
 
@@ -55,17 +55,21 @@ returns-clause-outcome g c = λ left loaded.
     let volume = c.redact_by.new.volume in
     let none : c.as_mut_slice-tally.result.now ≡ zeros (counts_asked call.given) c.as_slice-rules.result.now =
     c.as_mut_slice-tally.ensures.value ∙ c.in_ok-counted.ensures.counts ∙ ap (λ (b : Bool). zeros b c.as_slice-rules.result.now) c.counts.ensures.counts in
-    let files = as_asked (λ w. FilesOutcome g.W.Write g.E.Sink w (Ok c.in_ok-all.all) c.args.streams.now c.redact_by.new.streams) (c.in_ok-all.ensures.outcome _ c.requires.ready.of) in
-    let numbers = as_asked (λ w. NumbersOfAll w.holds w.names c.as_mut_slice-tally.result.now counts no_volume volume old new) c.in_ok-all.ensures.most in
+    let does = c.in_ok-all.ensures.done _ c.requires.ready.of in
+    let files = as_asked (λ w. FilesOutcome g.W.Write g.E.Sink w (Ok c.in_ok-all.all) c.args.streams.now c.redact_by.new.streams) does.outcome in
+    let numbers = as_asked (λ w. NumbersOfAll w.holds w.names c.as_mut_slice-tally.result.now counts no_volume volume old new) does.most in
     subst (λ (l : List Rule). RestOutcome g.W.Write g.E.Sink call (loaded_as l key) c.tell_counted.result c.args.streams.now (record c.redact_by.new.streams { errors = c.tell_counted.new.errors })) value
     (rest_told g.W.Write g.E.Sink call c.as_slice-rules.result.now key left old (subst (λ (l : List Rule). AreLoaded (reading_by call) call.given (loaded_as l key) left old) (sym value) loaded) counts volume
     c.args.streams.now c.redact_by.new.streams c.in_ok-all.all c.tell_counted.result c.tell_counted.new.errors files
     (λ whole. (
       subst (λ (l : List ℕ). CountsOfNames old new l counts work work.names) none
-          (as_asked (λ w. CountsOfNames old new c.as_mut_slice-tally.result.now counts w w.names) (c.in_ok-all.ensures.counted _ c.requires.ready.of (ap Ok whole))),
-      as_asked (λ w. ReadsVolume w.holds w.names no_volume volume old new) (c.in_ok-all.ensures.read (ap Ok whole)),
+          (as_asked (λ w. CountsOfNames old new c.as_mut_slice-tally.result.now counts w w.names) (does.counted (ap Ok whole))),
+      as_asked (λ w. ReadsVolume w.holds w.names no_volume volume old new) (does.read (ap Ok whole)),
     ))
     c.tell_counted.ensures.all c.tell_counted.ensures.told c.tell_counted.ensures.fails c.tell_counted.ensures.lines
     (bounded_from call.holds (names_asked call.given) (counts_asked call.given) c.as_slice-rules.result.now counts volume _ _
     (subst (λ (l : List ℕ). NumbersOfAll call.holds (names_asked call.given) l counts no_volume volume old new) none numbers))
     c.tell_counted.ensures.these)
+
+pub returns-clause-flushed : goal.returns-clause-flushed
+returns-clause-flushed g c = let flushed = (c.in_ok-all.ensures.done _ c.requires.ready.of).flushed in search rules

@@ -1,19 +1,30 @@
--- The replacement is that of the patterns of both.
-use Rattle.std.proofs.Common.{rules, ◌≡◌, length}
+-- The replacement is that of the patterns of both, and why it ends early is told.
+use Rattle.std.proofs.Common.{rules, ◌≡◌, length, false, refl}
+use Rattle.std.proofs.lemmas.Result.{IfErr-weaker}
+use Rattle.aho_core.specs.Patterns.{Patterns}
+use Rattle.aho_backward.specs.Searcher.{IsBackwardOf}
+use Rattle.acredact.specs.Secrets.{redactor_by}
 use Rattle.acredact.proofs.Bounded.{ungrown}
-use Rattle.acredact.proofs.Redactions.{uncounted}
+use Rattle.acredact.proofs.Redactions.{back_ends, outcome_plain, some_back, uncounted}
 use Rattle.acredact.proofs.back.BackingWay.redact.Goals as goal
 
 pub redact-requires : goal.redact-requires
 redact-requires g c = record { ready = (c.requires.ready.0, c.requires.ready.1.forward) }
 
-pub redact_back-requires : goal.redact_back-requires
-redact_back-requires g c = record { of = (c.requires.ready.0.patterns, c.requires.ready.1.backward) }
+pub try_stream_replace_all-requires : goal.try_stream_replace_all-requires
+try_stream_replace_all-requires g c = record { of = (c.requires.ready.0.patterns, c.requires.ready.1.backward) }
 
-pub returns-clause-done : goal.returns-clause-done
-returns-clause-done g c = λ red by.
+pub returns : goal.returns
+returns g c =
+    let way = c.args.self.now in
     let none : length c.args.counts.now ≡ 0 = search rules in
-    rw by.forward.is (uncounted g.R.Source g.W.Sink _ c.redact_back.result _ _ _ _ c.args.counts.now none (c.redact_back.ensures.outcome red.patterns by.backward))
-
-pub returns-clause-most : goal.returns-clause-most
-returns-clause-most g c = ungrown g.R.Source _ _ _ _ c.args.counts.now (c.redact_back.ensures.outcome c.requires.ready.0.patterns c.requires.ready.1.backward).begun
+    let (r, both) = c.requires.ready in
+    let call = c.try_stream_replace_all in
+    let outcome = λ (p : Patterns) (is : IsBackwardOf g.B.Automaton way.searcher.now p).
+    outcome_plain g.R.Source g.W.Sink (redactor_by p false false way.replacing.replacements.now) refl refl (IsBackwardOf g.B.Automaton way.searcher.now) is (some_back g.B.Automaton _ p is)
+    _ _ _ _ call.result call.ensures.leaves.replaced_all call.ensures.leaves.begun call.ensures.errors call.ensures.leaves.limit (IfErr-weaker call.result _ _ back_ends call.ensures.only) in
+    record {
+      done = λ red by. rw by.forward.is (uncounted g.R.Source g.W.Sink _ call.result _ _ _ _ c.args.counts.now none (outcome red.patterns by.backward));
+      most = ungrown g.R.Source _ _ _ _ c.args.counts.now (outcome r.patterns both.backward).begun;
+      still = λ red by. by;
+    }

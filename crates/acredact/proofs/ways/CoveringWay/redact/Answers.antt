@@ -1,12 +1,24 @@
--- A cover is as before after a stream.
+-- What is written is the redaction by these pieces, why it ends early is told, and the cover is then as before.
+use Rattle.acredact.proofs.Bounded.{cover_given}
+use Rattle.acredact.proofs.Redactions.{does_cover, some_cover}
 use Rattle.acredact.proofs.Suited.{covering_still}
 use Rattle.acredact.proofs.ways.CoveringWay.redact.Goals as goal
 
-pub cover-requires : goal.cover-requires
-cover-requires g c = let r = c.requires.ready in record { of = (r.0.patterns, r.1.coverer.of); unbegun = r.1.unbegun }
+pub cover_with-requires : goal.cover_with-requires
+cover_with-requires g c = let r = c.requires.ready in record { of = (r.0.patterns, r.1.of); unbegun = r.1.unbegun }
 
 pub returns-clause-done : goal.returns-clause-done
-returns-clause-done g c = λ red by. c.cover.ensures.done red by.coverer
+returns-clause-done g c = λ red by.
+    let call = c.cover_with in
+    does_cover g.R.Source g.W.Sink red by.covers (g.A.Automaton.is_of c.args.self.now.start.automaton.now) by.of
+    (some_cover g.A.Automaton _ red.patterns (g.met.A.Automaton.laws _ _ by.of).lengths_are by.unbegun) _ _ _ _ call.result _ _
+    (rw (by.chosen, by.is) call.ensures.leaves) (rw by.chosen call.ensures.counted.counted) call.ensures.errors call.ensures.only
+
+pub returns-clause-most : goal.returns-clause-most
+returns-clause-most g c =
+    let call = c.cover_with in
+    let (red, by) = c.requires.ready in
+    cover_given g.R.Source g.W.Sink (g.A.Automaton.is_of c.args.self.now.start.automaton.now) red.patterns by.of _ _ _ _ _ _ _ _ call.result call.ensures.counted
 
 pub returns-clause-still : goal.returns-clause-still
-returns-clause-still g c = λ red by. covering_still g.A.Automaton _ _ _ _ _ _ red c.cover.ensures.same c.cover.ensures.rule c.cover.ensures.unbegun by
+returns-clause-still g c = λ red by. covering_still g.A.Automaton _ _ _ _ _ _ red c.cover_with.ensures.same c.cover_with.ensures.rule c.cover_with.ensures.unbegun by

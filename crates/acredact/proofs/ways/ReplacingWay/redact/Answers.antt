@@ -1,22 +1,32 @@
--- The replacement is that of the automaton's patterns.
-use Rattle.std.proofs.Common.{rules, ◌≡◌, length}
+-- What is written is the redaction by the automaton's patterns, and why it ends early is told.
+use Rattle.std.proofs.Common.{rules, ◌≡◌, length, false, refl}
+use Rattle.aho_core.specs.Patterns.{Patterns}
+use Rattle.acredact.specs.Secrets.{redactor_by}
 use Rattle.acredact.proofs.Bounded.{ungrown}
-use Rattle.acredact.proofs.Redactions.{uncounted}
+use Rattle.acredact.proofs.Redactions.{never_refused, outcome_plain, some_of, uncounted}
 use Rattle.acredact.proofs.ways.ReplacingWay.redact.Goals as goal
 
-pub redact-requires : goal.redact-requires
-redact-requires g c = record { ready = c.requires.ready.1.ready }
+pub try_stream_replace_all-requires : goal.try_stream_replace_all-requires
+try_stream_replace_all-requires g c = let ready = c.requires.ready.1.ready in record { of = (ready.patterns, ready.of); one_each = ready.one_each }
 
 pub redact_counting-requires : goal.redact_counting-requires
 redact_counting-requires g c = record { ready = c.requires.ready.1.ready }
 
-pub returns-then-is_empty-clause-done : goal.returns-then-is_empty-clause-done
-returns-then-is_empty-clause-done g c = λ red by.
+pub returns-then-is_empty : goal.returns-then-is_empty
+returns-then-is_empty g c =
+    let way = c.args.self.now in
     let none : length c.args.counts.now ≡ 0 = search rules in
-    rw by.is (uncounted g.R.Source g.W.Sink _ c.redact.result _ _ _ _ c.args.counts.now none (c.redact.ensures.outcome red.patterns by.of))
+    let (r, is) = c.requires.ready in
+    let can = is.ready.begins in
+    let call = c.try_stream_replace_all in
+    let outcome = λ (p : Patterns) (of : g.A.Automaton.is_of way.automaton.now p).
+    outcome_plain g.R.Source g.W.Sink (redactor_by p false false way.replacements.now) refl refl (g.A.Automaton.is_of way.automaton.now) of (some_of g.A.Automaton _ p (g.met.A.Automaton.laws _ _ of).lengths_are can)
+    _ _ _ _ call.result call.ensures.leaves.replaced call.ensures.leaves.begun call.ensures.errors call.ensures.leaves.limit (never_refused g.A.Automaton _ can call.result call.ensures.suits) in
+    record {
+      done = λ red by. rw by.is (uncounted g.R.Source g.W.Sink _ call.result _ _ _ _ c.args.counts.now none (outcome red.patterns by.of));
+      most = ungrown g.R.Source _ _ _ _ c.args.counts.now (outcome r.patterns is.of).begun;
+      still = λ red by. by;
+    }
 
 pub returns-clause-done : goal.returns-clause-done
 returns-clause-done g c = λ red by. rw by.is (c.redact_counting.ensures.done red.patterns by.of)
-
-pub returns-then-is_empty-clause-most : goal.returns-then-is_empty-clause-most
-returns-then-is_empty-clause-most g c = ungrown g.R.Source _ _ _ _ c.args.counts.now (c.redact.ensures.outcome c.requires.ready.0.patterns c.requires.ready.1.of).begun
