@@ -1,16 +1,6 @@
 -- What stands alone in a line: the longest of what begins together is tried first, and then the shorter ones.
+use Rattle.acgrep.proofs.Common.{IsAnswer, IsBefore, IsBestOrNone, LeftmostLongest, Occurrence, Occurs-in, OccursIn, Patterns, cases_lt, common_steps, plain_search, true≢false}
 use Rattle.std.proofs.Common.{◌++◌, ◌+◌, ◌<◌, ◌∙◌, ◌∷◌, ◌≡◌, ◌≤◌, ◌⊎◌, List, None, Some, [], ap, append-nil, append_assoc, arith, false, inl, inr, length, subst, sym, true, ℕ}
-use Rattle.std.proofs.lemmas.Bool.{cases_lt, true≢false}
-use Rattle.std.proofs.lemmas.Grind.{common_steps}
-use Rattle.aho_core.specs.Answer.{IsAnswer}
-use Rattle.aho_core.specs.Best.{IsBestOrNone}
-use Rattle.aho_core.specs.Occurrence.{Occurrence}
-use Rattle.aho_core.specs.Occurs.{OccursIn}
-use Rattle.aho_core.specs.Order.{IsBefore}
-use Rattle.aho_core.specs.Patterns.{Patterns}
-use Rattle.aho_core.specs.Search.{plain_search}
-use Rattle.aho_core.specs.declared.search.MatchKind.TheVariants.{LeftmostLongest}
-use Rattle.aho_laws.proofs.ClearCuts.{Occurs-in}
 use Rattle.aho_laws.specs.CutLaws.{span_search}
 use Rattle.acgrep.specs.Alone.{AreAloneFrom, IsAloneAt, IsAloneFrom, IsLongestThere, IsNextAlone, IsShorter, begins_alone, behind_alone, ends_alone}
 

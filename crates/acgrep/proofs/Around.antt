@@ -1,20 +1,11 @@
 -- The line around a place, and patterns that hold no newline.
+use Rattle.acgrep.proofs.Common.{IsAnswer, IsBefore, MatchKind, Nowhere, Occurrence, OccursIn, Patterns, cases_lt, common_steps, eqb-true, get_or, length-drop, length-take-le, pattern_at, plain_search}
 use Rattle.std.proofs.Common.{◌+◌, ◌-◌, ◌<◌, ◌==◌, ◌∙◌, ◌≡◌, ◌≤◌, ◌⊎◌, List, Some, ap, arith, drop, inl, inr, length, subst, sym, take, true, ℕ}
-use Rattle.std.proofs.Math.ListN.{get_or, get_or-map}
-use Rattle.std.proofs.lemmas.Bool.{cases_lt, eqb-true}
-use Rattle.std.proofs.lemmas.Grind.{common_steps}
-use Rattle.std.proofs.lemmas.List.{get_or-drop, get_or-take, length-drop, length-take-le}
+use Rattle.std.proofs.Math.ListN.{get_or-map}
+use Rattle.std.proofs.lemmas.List.{get_or-drop, get_or-take}
 use Rattle.std.specs.Prelude.{slice_index}
-use Rattle.aho_core.specs.Answer.{IsAnswer}
 use Rattle.aho_core.specs.Bytes.{folded}
-use Rattle.aho_core.specs.Occurrence.{Occurrence}
-use Rattle.aho_core.specs.Occurs.{OccursIn}
-use Rattle.aho_core.specs.Order.{IsBefore}
-use Rattle.aho_core.specs.Patterns.{Patterns, pattern_at}
-use Rattle.aho_core.specs.Search.{plain_search}
-use Rattle.aho_core.specs.declared.search.MatchKind.{MatchKind}
 use Rattle.aho_core.specs.declared.search.Span.{Span}
-use Rattle.memchr.specs.Find.{Nowhere}
 use Rattle.acgrep.specs.Lines.{IsEnding}
 use Rattle.acgrep.specs.Selected.{HoldNoEnding, IsFirstWith, IsLine}
 

@@ -1,15 +1,10 @@
 -- A beginning of what is told of lines, put together from parts.
+use Rattle.acgrep.proofs.Common.{Appends, AppendsBeginning, Job, Patterns, Place, State}
 use Rattle.std.proofs.Common.{◌++◌, ◌<◌, ◌∙◌, ◌∷◌, ◌≡◌, Bool, List, None, Option, Some, [], ap, append-nil, false, inl, inr, length, refl, subst, sym, true, ℕ}
-use Rattle.std.specs.Io.KnownBytes.{Appends}
 use Rattle.std.specs.Prelude.{Err, MatchBool, Ok, OnErr, Result}
-use Rattle.aho_core.specs.Patterns.{Patterns}
-use Rattle.aho_devices.specs.Counts.{AppendsBeginning}
 use Rattle.acgrep.specs.Contexts.{BeginsLines, TellsFrom}
 use Rattle.acgrep.specs.Lines.{lines}
 use Rattle.acgrep.specs.Written.{DoesMatch, DoesNotMatch, EachLine, HasNone, IsSelected, SamePlace, SearchesTo, TellsLines, WritesLine, after_lines, is_full, one_more}
-use Rattle.acgrep.specs.declared.print.Place.{Place}
-use Rattle.acgrep.specs.declared.job.Job.{Job}
-use Rattle.acgrep.specs.declared.job.State.{State}
 use Rattle.acgrep.proofs.Begun.{begins_behind, begins_more, begins_some}
 use Rattle.acgrep.proofs.Tellings.{Passing, none_matches, same_place, tells_append, tells_same}
 

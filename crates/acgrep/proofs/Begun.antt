@@ -1,8 +1,6 @@
 -- Beginnings of what is told of lines: a beginning of a part is a beginning of the whole.
+use Rattle.acgrep.proofs.Common.{Appends, Appends-trans, AppendsBeginning}
 use Rattle.std.proofs.Common.{◌++◌, ◌∙◌, ◌∷◌, ◌≡◌, ◌⊎◌, List, Option, [], ap, append-nil, append_assoc, drop, inl, inr, refl, sym, take, take-append-drop, ℕ}
-use Rattle.std.proofs.KnownBytes.{Appends-trans}
-use Rattle.std.specs.Io.KnownBytes.{Appends}
-use Rattle.aho_devices.specs.Counts.{AppendsBeginning}
 use Rattle.acgrep.specs.Begun.{BeginsOf}
 
 -- bytes of which a front is nothing

@@ -1,9 +1,9 @@
 -- Lines up to the first that holds a zero byte, and those from it on.
+use Rattle.acgrep.proofs.Common.{Nowhere, and_from, and_parts, cases_Bool, eq-eqb, eqb-true, true≢false}
 use Rattle.std.proofs.Common.{◌++◌, ◌+◌, ◌-◌, ◌<◌, ◌==◌, ◌∙◌, ◌∷◌, ◌≡◌, ◌≤◌, Bool, List, Some, [], ap, append-nil, arith, drop, false, inl, inr, length, length-drop, refl, subst, suc, sym, take, take-append-drop, take-take, true, zero, ℕ}
 use Rattle.std.proofs.Math.Seq.{take-length}
-use Rattle.std.proofs.lemmas.Bool.{and_from, and_parts, and_right, cases_Bool, eq-eqb, eqb-true, false_from_ne_true, not_from_false, true≢false}
+use Rattle.std.proofs.lemmas.Bool.{and_right, false_from_ne_true, not_from_false}
 use Rattle.std.specs.Prelude.{if◌then◌else◌, not}
-use Rattle.memchr.specs.Find.{Nowhere}
 use Rattle.acgrep.specs.Binary.{binary_lines, is_text, text_lines}
 use Rattle.acgrep.specs.Guarded.{IsFirstBinary, IsZeroLine}
 use Rattle.acgrep.specs.Lines.{IsEnding, joined_to, lines}

@@ -1,13 +1,8 @@
 -- What is told where lines from the first on that holds a zero byte are kept from the output.
+use Rattle.acgrep.proofs.Common.{Appends, Appends-trans, AppendsBeginning, Consumes, Consumes-trans, Context, Job, Keeps-refl, Nothing, Patterns, Shown, State, and_parts, common_steps, lt-ltb, or-false, or_right, true≢false}
 use Rattle.std.proofs.Common.{◌++◌, ◌<◌, ◌==◌, ◌∙◌, ◌∷◌, ◌≡◌, ◌⊎◌, Bool, List, None, Option, Some, [], ap, append-nil, append_assoc, arith, drop, false, inl, inr, refl, subst, sym, take, take-append-drop, true, ℕ}
-use Rattle.std.proofs.KnownBytes.{Appends-trans, Consumes-trans, Keeps-refl}
-use Rattle.std.proofs.Math.Bool.{or-false}
-use Rattle.std.proofs.lemmas.Bool.{and_parts, lt-ltb, not-true, or_right, true≢false}
-use Rattle.std.proofs.lemmas.Grind.{common_steps}
-use Rattle.std.specs.Io.KnownBytes.{Appends, Consumes}
+use Rattle.std.proofs.lemmas.Bool.{not-true}
 use Rattle.std.specs.Prelude.{◌&&◌, ◌||◌, IfSome, MatchBool, if◌then◌else◌, nat_lt, not}
-use Rattle.aho_core.specs.Patterns.{Patterns}
-use Rattle.aho_devices.specs.Counts.{AppendsBeginning}
 use Rattle.acgrep.specs.Begun.{BeginsOf}
 use Rattle.acgrep.specs.Binary.{TellsBinary, TellsGuarded, binary_by, binary_lines, is_guarded, is_text, lines_by, lines_sought, seeking, takes_text, text_lines, writes_lines}
 use Rattle.acgrep.specs.Contexts.{IsBegin, SearchesText, TellsFile, TellsFrom, around_of}
@@ -16,11 +11,6 @@ use Rattle.acgrep.specs.Guarded.{BeginsBinary, EndsFront, FindsSelected, IsFirst
 use Rattle.acgrep.specs.Lines.{EndsLine, lines}
 use Rattle.acgrep.specs.Streamed.{BeginsBehind, Course, SearchesBehind, course}
 use Rattle.acgrep.specs.Written.{IsAny, IsSelected, IsSettled, SomeLine, TellsOfLines, is_full, needs_one}
-use Rattle.acgrep.specs.declared.options.Context.{Context}
-use Rattle.acgrep.specs.declared.options.Shown.{Shown}
-use Rattle.acgrep.specs.declared.options.Shown.TheVariants.{Nothing}
-use Rattle.acgrep.specs.declared.job.Job.{Job}
-use Rattle.acgrep.specs.declared.job.State.{State}
 use Rattle.acgrep.proofs.Begun.{nil_front}
 use Rattle.acgrep.proofs.BinaryLines.{binary_behind, first_binary, first_some, first_text, some_binary, some_text, text_behind}
 use Rattle.acgrep.proofs.FileTellings.{TextTold, shows_nothing, some_front, sought_all, tells_any, tells_none, text_behind as text_read, text_told}

@@ -1,10 +1,7 @@
 -- Which of the operands are searched.
+use Rattle.acgrep.proofs.Common.{Ways, cases_Bool, common_steps, get_or, is_input, name_bytes, or_input}
 use Rattle.std.proofs.Common.{◌++◌, ◌-◌, ◌<◌, ◌∙◌, ◌∷◌, ◌≡◌, ◌⊎◌, Bool, Bor, List, None, Option, Some, [], ap, append-nil, append_assoc, arith, drop, false, inl, inr, length, refl, subst, sym, take, take_all, true, ℕ}
-use Rattle.std.proofs.Math.ListN.{get_or}
-use Rattle.std.proofs.lemmas.Bool.{cases_Bool}
-use Rattle.std.proofs.lemmas.Grind.{common_steps}
 use Rattle.std.specs.Prelude.{◌||◌, IfSome, not}
-use Rattle.tool_parts.specs.Names.{is_input, name_bytes, or_input}
 use Rattle.acgrep.specs.Arguments.{Said, ways_by}
 use Rattle.acgrep.specs.Folders.{AreChosen, Chooses, IsKept, IsUnknown, Tree, is_folder, is_passed, kept_of, missed_of}
 use Rattle.acgrep.specs.Listed.{listed_bytes}
@@ -12,7 +9,6 @@ use Rattle.acgrep.specs.Rules.{RuleSaid, is_left_out}
 use Rattle.acgrep.specs.Runs.{AreReached, chooses}
 use Rattle.acgrep.specs.declared.folders.Kind.{Kind}
 use Rattle.acgrep.specs.declared.walk.Found.{Found}
-use Rattle.acgrep.specs.declared.walk.Ways.{Ways}
 
 -- those of the names so far were put down: whichever of the others are searched, those behind them are
 pub record AreSoFar (tree : Tree) (rules : List RuleSaid) (ways : Ways) (all rest : List (List ℕ)) (found : Found) : Type 0 where

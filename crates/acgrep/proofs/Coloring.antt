@@ -1,16 +1,11 @@
 -- Matches that are written one after another.
+use Rattle.acgrep.proofs.Common.{Appends, Appends-nil, Appends-trans, Occurrence, Place, Style, common_steps}
 use Rattle.std.proofs.Common.{◌++◌, ◌∙◌, ◌∷◌, ◌≡◌, Bool, List, Option, [], ap, append-nil, append_assoc, arith, refl, subst, sym, ℕ}
-use Rattle.std.proofs.KnownBytes.{Appends-nil, Appends-trans}
 use Rattle.std.proofs.lemmas.Bool.{ne_eqb}
-use Rattle.std.proofs.lemmas.Grind.{common_steps}
-use Rattle.std.specs.Io.KnownBytes.{Appends}
 use Rattle.std.specs.Prelude.{if◌then◌else◌}
-use Rattle.aho_core.specs.Occurrence.{Occurrence}
 use Rattle.acgrep.specs.Matches.{behind_by, found_by, rest_behind, shown_from}
 use Rattle.acgrep.specs.Printed.{colored_by, match_code, painted, part_of}
 use Rattle.acgrep.specs.declared.matches.Shape.{Shape}
-use Rattle.acgrep.specs.declared.print.Place.{Place}
-use Rattle.acgrep.specs.declared.print.Style.{Style}
 
 -- what stands before a match that is not empty, and then the match
 pub colored_one : (style : Style) (line front found : List ℕ) (at start end : ℕ) (m : Occurrence) (x y z : Option (List ℕ)) → start ≡ m.start → end ≡ m.end → (end ≡ start → ⊥)

@@ -1,14 +1,12 @@
 -- Digits among joined letters.
+use Rattle.acgrep.proofs.Common.{Around, Refusal, common_steps}
 use Rattle.std.proofs.Common.{◌++◌, ◌<◌, ◌==◌, ◌∙◌, ◌∷◌, ◌≡◌, ◌≤◌, List, None, Option, Some, [], ap, append-nil, append_assoc, arith, drop, false, length, refl, suc, sym, take, true, zero, ℕ}
-use Rattle.std.proofs.lemmas.Grind.{common_steps}
 use Rattle.std.specs.Char.{is_ascii_digit}
 use Rattle.std.specs.Prelude.{option_and_then, option_map}
 use Rattle.acgrep.specs.Arguments.{AreDigits, AreRefused, ReadSoFar, Said, letter_by, letters_by, letters_from, number_by, said_so, switch_by, switched, valued_letter, with_digits, with_number}
 use Rattle.acgrep.specs.Mistakes.{IsTold, digits_value_of, if_none, wrong_digits, wrong_from_digits, wrong_letter, wrong_letters}
 use Rattle.acgrep.specs.Told.{number_parts, valued_name}
-use Rattle.acgrep.specs.declared.wrong.Refusal.{Refusal}
 use Rattle.acgrep.specs.declared.wrong.Refusal.TheVariants.{OutOfMemory, Wrong}
-use Rattle.acgrep.specs.declared.all_options.Valued.TheVariants.{Around}
 use Rattle.acgrep.specs.declared.all_options.Switch.{Switch}
 
 abbrev then_letters : List ℕ → Option Said → Option ReadSoFar

@@ -1,25 +1,15 @@
 -- What is written of a file, from what was searched of its reader.
+use Rattle.acgrep.proofs.Common.{Appends, Appends-trans, Consumes, Context, Fit, IsAtEnd, Job, Lines, Matches, Nothing, Objects, Patterns, Place, Shown, State, Style, cases_Bool, common_steps, lt-ltb, ltb-true}
 use Rattle.std.proofs.Common.{◌++◌, ◌<◌, ◌∙◌, ◌∷◌, ◌≡◌, ◌⊎◌, Bool, List, None, Option, Some, [], ap, append-nil, arith, false, inl, inr, refl, subst, sym, true, ℕ}
-use Rattle.std.proofs.KnownBytes.{Appends-trans}
-use Rattle.std.proofs.lemmas.Bool.{cases_Bool, lt-ltb, ltb-false, ltb-true}
-use Rattle.std.proofs.lemmas.Grind.{common_steps}
-use Rattle.std.specs.Io.KnownBytes.{Appends, Consumes, IsAtEnd}
+use Rattle.std.proofs.lemmas.Bool.{ltb-false}
 use Rattle.std.specs.Prelude.{IfSome, MatchBool, if◌then◌else◌, nat_lt}
-use Rattle.aho_core.specs.Patterns.{Patterns}
 use Rattle.acgrep.specs.Binary.{TellsGuarded, is_guarded, lines_by, lines_sought, takes_text}
 use Rattle.acgrep.specs.Contexts.{IsBegin, SearchesIn, TellsFile, TellsIn, around_by, around_of, walk_of}
 use Rattle.acgrep.specs.Files.{EndsFile, IsRead, SearchesFile, TellsBy, TellsSearched, count_if, total_if}
 use Rattle.acgrep.specs.Lines.{lines}
 use Rattle.acgrep.specs.Printed.{file_line}
 use Rattle.acgrep.specs.Written.{EachLine, IsAny, IsPassedOver, IsSelected, IsSettled, ShowsBy, ShowsLine, SomeLine, TellsOfLines, is_full, needs_one, one_more}
-use Rattle.acgrep.specs.declared.options.Context.{Context}
-use Rattle.acgrep.specs.declared.options.Fit.{Fit}
-use Rattle.acgrep.specs.declared.options.Shown.{Shown}
-use Rattle.acgrep.specs.declared.options.Shown.TheVariants.{Count, Lacking, Lines, Matches, Names, Nothing, Objects}
-use Rattle.acgrep.specs.declared.print.Place.{Place}
-use Rattle.acgrep.specs.declared.print.Style.{Style}
-use Rattle.acgrep.specs.declared.job.Job.{Job}
-use Rattle.acgrep.specs.declared.job.State.{State}
+use Rattle.acgrep.specs.declared.options.Shown.TheVariants.{Count, Lacking, Names}
 use Rattle.acgrep.proofs.Grouped.{told_around}
 use Rattle.acgrep.proofs.Tellings.{full_some, tells_full}
 use Rattle.acgrep.proofs.Walked.{walks_append, walks_full, walks_tells}

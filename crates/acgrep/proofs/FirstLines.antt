@@ -1,8 +1,6 @@
 -- The first line of a text and the others.
+use Rattle.acgrep.proofs.Common.{Nowhere, cases_Bool, pieces_of}
 use Rattle.std.proofs.Common.{◌++◌, ◌<◌, ◌==◌, ◌∙◌, ◌∷◌, ◌≡◌, ◌≤◌, Bor, List, [], ap, arith, drop, false, inl, inr, length, refl, suc, take, true, zero, ℕ}
-use Rattle.std.proofs.lemmas.Bool.{cases_Bool}
-use Rattle.aho_core.specs.Replacement.{pieces_of}
-use Rattle.memchr.specs.Find.{Nowhere}
 use Rattle.acgrep.specs.Lines.{IsEnding, joined_to, lines}
 
 module _ (ending : ℕ) where

@@ -1,8 +1,6 @@
 -- What was read of a reader so far, up to its end.
+use Rattle.acgrep.proofs.Common.{Consumes, Consumes-nil, Consumes-trans, IsAtEnd, common_steps}
 use Rattle.std.proofs.Common.{◌++◌, ◌≡◌, List, Option, [], arith, subst, sym, take, ℕ}
-use Rattle.std.proofs.KnownBytes.{Consumes-nil, Consumes-trans}
-use Rattle.std.proofs.lemmas.Grind.{common_steps}
-use Rattle.std.specs.Io.KnownBytes.{Consumes, IsAtEnd}
 use Rattle.std.specs.Prelude.{IfSome}
 
 -- nothing

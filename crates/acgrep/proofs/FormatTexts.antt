@@ -1,13 +1,12 @@
 -- The pieces of a format, written one after another, are the format.
+use Rattle.acgrep.proofs.Common.{Piece, cases_Bool}
 use Rattle.std.proofs.Common.{◌++◌, ◌-◌, ◌<◌, ◌==◌, ◌∙◌, ◌∷◌, ◌≡◌, Bool, List, None, Option, Some, [], ap, arith, codes, drop, false, inl, inr, length, refl, subst, suc, sym, true, zero, ℕ}
-use Rattle.std.proofs.lemmas.Bool.{cases_Bool}
 use Rattle.std.proofs.lemmas.Bool.Decides.{Decides-eqb}
 use Rattle.std.proofs.lemmas.Slice.Eq.{starts_is}
 use Rattle.std.specs.List.{starts_with}
 use Rattle.std.specs.Prelude.{◌||◌, if◌then◌else◌, nat_eq, option_and_then, option_map}
 use Rattle.acgrep.specs.Formats.{format_pieces, format_text, front_at, front_by, piece_text, pieces_behind, plain_front}
 use Rattle.acgrep.specs.declared.format.Front.{Front}
-use Rattle.acgrep.specs.declared.format.Piece.{Piece}
 use Rattle.acgrep.specs.declared.format.Piece.TheVariants.{Byte, End, Found, LineNumber, Path, PatternNumber, Start}
 use Rattle.acgrep.proofs.Formatted.{drop_piece}
 use Rattle.acgrep.proofs.LineLists.{drop_zero}

@@ -1,12 +1,10 @@
 -- A format, one piece after another; and base64, one group after another.
+use Rattle.acgrep.proofs.Common.{Nowhere, Piece, common_steps, length-drop, take_all}
 use Rattle.std.proofs.Common.{◌++◌, ◌+◌, ◌-◌, ◌<◌, ◌==◌, ◌∙◌, ◌∷◌, ◌≡◌, List, None, Option, Some, [], ap, append-nil, append_assoc, arith, drop, false, length, refl, subst, suc, sym, take, zero, ℕ}
-use Rattle.std.proofs.lemmas.Grind.{common_steps}
-use Rattle.std.proofs.lemmas.List.{length-drop, take_all}
 use Rattle.std.specs.Prelude.{option_map}
-use Rattle.memchr.specs.Find.{Nowhere, Passes, is_byte}
+use Rattle.memchr.specs.Find.{Passes, is_byte}
 use Rattle.acgrep.specs.Formats.{format_pieces, front_by, pieces_behind, unknown_behind, unknown_in, up_to_brace}
 use Rattle.acgrep.specs.declared.format.Front.{Front}
-use Rattle.acgrep.specs.declared.format.Piece.{Piece}
 
 -- what belongs to a piece before is passed over
 pub pieces_skip : (skipped : ℕ) (format : List ℕ) → pieces_behind skipped format ≡ format_pieces (drop skipped format)

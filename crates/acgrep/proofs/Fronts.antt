@@ -1,8 +1,6 @@
 -- The lines before the first that holds a zero byte, put together from reads.
+use Rattle.acgrep.proofs.Common.{Job, Keeps, Patterns, State, common_steps}
 use Rattle.std.proofs.Common.{◌++◌, ◌-◌, ◌<◌, ◌∙◌, ◌∷◌, ◌≡◌, ◌≤◌, Bool, List, Option, Some, [], arith, drop, length, refl, subst, sym, take, true, ℕ}
-use Rattle.std.proofs.lemmas.Grind.{common_steps}
-use Rattle.std.specs.Io.KnownBytes.{Keeps}
-use Rattle.aho_core.specs.Patterns.{Patterns}
 use Rattle.acgrep.specs.Binary.{is_text}
 use Rattle.acgrep.specs.Contexts.{SearchesText}
 use Rattle.acgrep.specs.Filled.{FillsBehind}
@@ -10,8 +8,6 @@ use Rattle.acgrep.specs.Guarded.{IsFirstBinary, IsZeroLine, ReadsFront, Searches
 use Rattle.acgrep.specs.Lines.{IsEnding, lines}
 use Rattle.acgrep.specs.Streamed.{SearchesWhole, TextIf, course}
 use Rattle.acgrep.specs.Written.{IsSettled}
-use Rattle.acgrep.specs.declared.job.Job.{Job}
-use Rattle.acgrep.specs.declared.job.State.{State}
 use Rattle.acgrep.specs.declared.stream.Came.{Came}
 use Rattle.acgrep.specs.declared.stream.Came.TheVariants.{Binary, End, Text}
 use Rattle.acgrep.proofs.BinaryLines.{text_back, text_front, text_joined}

@@ -1,7 +1,6 @@
 -- What several things gave, one after another.
+use Rattle.acgrep.proofs.Common.{get_or, take_all}
 use Rattle.std.proofs.Common.{◌++◌, ◌-◌, ◌<◌, ◌∙◌, ◌∷◌, ◌≡◌, List, Option, [], ap, append-nil, append_assoc, arith, drop, length, refl, subst, sym, take, ℕ}
-use Rattle.std.proofs.Math.ListN.{get_or}
-use Rattle.std.proofs.lemmas.List.{take_all}
 use Rattle.std.specs.Prelude.{map}
 use Rattle.acgrep.specs.Gathered.{Adds, AllGive}
 

@@ -1,8 +1,7 @@
 -- How a name is read along a glob.
+use Rattle.acgrep.proofs.Common.{and_parts, common_steps, drop-drop, or_right}
 use Rattle.std.proofs.Common.{◌+◌, ◌-◌, ◌∙◌, ◌∷◌, ◌≡◌, ◌≤◌, ◌⊎◌, Bool, List, [], ap, arith, drop, false, inl, inr, length, refl, subst, suc, sym, take, true, zero, ℕ}
-use Rattle.std.proofs.lemmas.Bool.{and_parts, ne_eqb, or_right}
-use Rattle.std.proofs.lemmas.Grind.{common_steps}
-use Rattle.std.proofs.lemmas.List.{drop-drop}
+use Rattle.std.proofs.lemmas.Bool.{ne_eqb}
 use Rattle.std.specs.Prelude.{◌||◌}
 use Rattle.acgrep.specs.Globs.{IsCut, any_suffix, closes_at, closing, fits, item_len, one_fits, part_len, stands_for}
 use Rattle.acgrep.proofs.LineLists.{drop_zero}

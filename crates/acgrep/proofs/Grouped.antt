@@ -1,17 +1,12 @@
 -- A walk from line to line writes the lines that are near selected ones.
+use Rattle.acgrep.proofs.Common.{Context, Job, Patterns, Place, cases_Bool, cases_lt, common_steps, eqb-true, get_or, length-map, ltb-true, true≢false}
 use Rattle.std.proofs.Common.{◌++◌, ◌+◌, ◌-◌, ◌<◌, ◌==◌, ◌∙◌, ◌∷◌, ◌≡◌, ◌≤◌, ◌⊎◌, Bool, List, [], ap, append-nil, append_assoc, arith, false, inl, inr, length, length-append, refl, subst, suc, sym, true, zero, ℕ}
 use Rattle.std.proofs.Math.Bool.{and-false}
-use Rattle.std.proofs.Math.ListN.{get_or}
-use Rattle.std.proofs.lemmas.Bool.{cases_Bool, cases_lt, eqb-true, leb-false, leb-true, ltb-false, ltb-true, true≢false}
-use Rattle.std.proofs.lemmas.Grind.{common_steps}
-use Rattle.std.proofs.lemmas.List.{get_or-append_right, length-map}
+use Rattle.std.proofs.lemmas.Bool.{leb-false, leb-true, ltb-false}
+use Rattle.std.proofs.lemmas.List.{get_or-append_right}
 use Rattle.std.specs.Prelude.{◌&&◌, map, nat_le, nat_lt}
-use Rattle.aho_core.specs.Patterns.{Patterns}
 use Rattle.acgrep.specs.Contexts.{AreChosen, Holding, IsNearChosen, IsNotChosen, PassesBy, ShowsEach, Steps, TakesLine, TellsAround, TellsWritten, Walk, WalksOver, behind_chosen, behind_due, behind_passed, beside, first_in, holding, holding_of, separator_if, walk_holding, with_line}
 use Rattle.acgrep.specs.Written.{ShowsLine, after_line, after_lines}
-use Rattle.acgrep.specs.declared.options.Context.{Context}
-use Rattle.acgrep.specs.declared.print.Place.{Place}
-use Rattle.acgrep.specs.declared.job.Job.{Job}
 use Rattle.acgrep.proofs.Tellings.{after_append}
 use Rattle.acgrep.proofs.Walking.{moved}
 

@@ -1,9 +1,8 @@
 -- Lines that are held, and one more or one less of them.
+use Rattle.acgrep.proofs.Common.{common_steps, length-drop, sum, take_all}
 use Rattle.std.proofs.Common.{◌++◌, ◌+◌, ◌<◌, ◌∙◌, ◌∷◌, ◌≡◌, ◌≤◌, List, [], ap, arith, drop, length, sym, take, ℕ}
-use Rattle.std.proofs.lemmas.Grind.{common_steps}
-use Rattle.std.proofs.lemmas.List.{drop-append-le, length-drop, take-append-le, take_all}
+use Rattle.std.proofs.lemmas.List.{drop-append-le, take-append-le}
 use Rattle.std.proofs.lemmas.List.Sums.{sum_by-cons}
-use Rattle.std.specs.List.{sum}
 use Rattle.std.specs.Prelude.{slice_index_or}
 use Rattle.acgrep.specs.Filled.{cut_by}
 

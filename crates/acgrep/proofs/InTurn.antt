@@ -1,20 +1,13 @@
 -- Files that are searched one after another.
+use Rattle.acgrep.proofs.Common.{Keeps, Keeps-refl, Nothing, Outcome, Seen, Shown, cases_Bool, common_steps, get_or, or-false}
 use Rattle.std.proofs.Common.{◌-◌, ◌<◌, ◌∙◌, ◌∷◌, ◌≡◌, ◌⊎◌, Bool, List, Option, [], ap, arith, drop, false, inl, inr, length, refl, subst, sym, take, true, ℕ}
-use Rattle.std.proofs.KnownBytes.{Keeps-refl, Keeps-trans}
-use Rattle.std.proofs.Math.Bool.{or-false, or-true, or_assoc}
-use Rattle.std.proofs.Math.ListN.{get_or}
-use Rattle.std.proofs.lemmas.Bool.{cases_Bool}
-use Rattle.std.proofs.lemmas.Grind.{common_steps}
-use Rattle.std.specs.Io.KnownBytes.{Keeps}
+use Rattle.std.proofs.KnownBytes.{Keeps-trans}
+use Rattle.std.proofs.Math.Bool.{or-true, or_assoc}
 use Rattle.std.specs.Prelude.{◌||◌, Vec, if◌then◌else◌, map}
 use Rattle.tool_parts.specs.Answers.{status_of}
 use Rattle.acgrep.specs.InTurn.{AreBegun, AreDone, AreDoneOr, AreSeen, FileWork, HasOne, IfBroken, IfSearched, is_enough, nothing_seen, seen_after, status_by}
 use Rattle.acgrep.specs.Listed.{listed_bytes}
-use Rattle.acgrep.specs.declared.files.Outcome.{Outcome}
 use Rattle.acgrep.specs.declared.files.Outcome.TheVariants.{Searched}
-use Rattle.acgrep.specs.declared.files.Seen.{Seen}
-use Rattle.acgrep.specs.declared.options.Shown.{Shown}
-use Rattle.acgrep.specs.declared.options.Shown.TheVariants.{Nothing}
 use Rattle.acgrep.proofs.Bools.{either_way}
 
 -- what follows where a file was searched

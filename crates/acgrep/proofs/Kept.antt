@@ -1,8 +1,7 @@
 -- What was done is as it was where the output keeps its bytes.
+use Rattle.acgrep.proofs.Common.{Job, Keeps, Patterns}
 use Rattle.std.proofs.Common.{◌∙◌, ◌≡◌, ◌⊎◌, List, Option, Some, false, inl, inr, subst, ℕ}
 use Rattle.std.proofs.KnownBytes.{Keeps-trans}
-use Rattle.std.specs.Io.KnownBytes.{Keeps}
-use Rattle.aho_core.specs.Patterns.{Patterns}
 use Rattle.tool_parts.specs.Building.{patterns_by_kind}
 use Rattle.acgrep.specs.Arguments.{Origin, Said}
 use Rattle.acgrep.specs.Files.{search_work}
@@ -11,7 +10,6 @@ use Rattle.acgrep.specs.MarkedFiles.{mark_work}
 use Rattle.acgrep.specs.Runs.{After, AreSought, BeginsFor, BeginsOrKeeps, BeginsSearch, Reached, SearchesFor, SearchesRuled, kind_sought, knows_none, names_by, ruled, sources_by, words_sought}
 use Rattle.acgrep.specs.RunsByRules.{BeginsByRules, MarksAsked, MayBeginAsked, SearchesByRules, marking_by}
 use Rattle.acgrep.specs.declared.colors.Screen.{Screen}
-use Rattle.acgrep.specs.declared.job.Job.{Job}
 use Rattle.acgrep.proofs.Bools.{either_way}
 use Rattle.acgrep.proofs.InTurn.{begun_kept, or_kept}
 use Rattle.acgrep.proofs.OrCounted.{begins-counts-kept, counts-kept}

@@ -7,6 +7,7 @@ pub mod BinaryTold
 pub mod Bools
 pub mod Choosing
 pub mod Coloring
+pub mod Common
 pub mod Digits
 pub mod FileTellings
 pub mod FilesBegun

@@ -1,17 +1,10 @@
 -- The lines of a text that is cut, and patterns that occur in none of them.
+use Rattle.acgrep.proofs.Common.{IsSameWord, Occurrence, Occurs-in, OccursIn, Patterns, cases_Bool, cases_lt, common_steps, drop-drop, length-drop, length-take-le, pattern_at, plain_search, take_all}
 use Rattle.std.proofs.Common.{◌++◌, ◌+◌, ◌-◌, ◌<◌, ◌==◌, ◌∙◌, ◌∷◌, ◌≡◌, ◌≤◌, List, [], ap, arith, drop, inl, inr, length, refl, subst, suc, sym, take, take-append-drop, true, ℕ}
-use Rattle.std.proofs.lemmas.Bool.{cases_Bool, cases_lt}
-use Rattle.std.proofs.lemmas.Grind.{common_steps}
-use Rattle.std.proofs.lemmas.List.{drop-drop, length-drop, length-take-le, take_all}
 use Rattle.std.specs.Prelude.{slice_range}
-use Rattle.aho_core.specs.Bytes.{IsSameWord}
-use Rattle.aho_core.specs.Occurrence.{Occurrence}
-use Rattle.aho_core.specs.Occurs.{Occurs, OccursIn}
-use Rattle.aho_core.specs.Patterns.{Patterns, pattern_at}
-use Rattle.aho_core.specs.Search.{plain_search}
+use Rattle.aho_core.specs.Occurs.{Occurs}
 use Rattle.aho_core.specs.declared.search.Anchored.TheVariants.{No}
 use Rattle.aho_core.specs.declared.search.Span.{Span}
-use Rattle.aho_laws.proofs.ClearCuts.{Occurs-in}
 use Rattle.aho_laws.proofs.SpanTexts.{Occurs-moved, Occurs-moved_back, length_part, moved-zero, moved_back}
 use Rattle.aho_laws.specs.CutLaws.{moved}
 use Rattle.acgrep.specs.Lines.{EndsLine, IsEnding, joined_to, lines}

@@ -1,22 +1,16 @@
 -- What is written of lines, one after another, by what a visitor of them leaves.
+use Rattle.acgrep.proofs.Common.{Appends, Appends-nil, Appends-trans, Covering, Occurrence, Patterns, Rule, SinkGhosts, StartsWith, stream_lines}
 use Rattle.std.proofs.Common.{◌++◌, ◌∙◌, ◌∷◌, ◌≡◌, Bool, List, [], ap, append-nil, append_assoc, arith, drop, false, inl, inr, length, refl, subst, suc, sym, take, take-append-drop, true, ℕ}
-use Rattle.std.proofs.KnownBytes.{Appends-nil, Appends-trans}
 use Rattle.std.specs.Borrow.{MutBor}
-use Rattle.std.specs.Io.{StartsWith}
-use Rattle.std.specs.Io.KnownBytes.{Appends}
 use Rattle.std.specs.Prelude.{Err, Ok, Result}
-use Rattle.aho_core.specs.Occurrence.{Occurrence}
-use Rattle.aho_core.specs.Patterns.{Patterns}
 use Rattle.aho_core.specs.declared.error.stream.StreamError.{StreamError}
 use Rattle.aho_core.specs.declared.search.MatchKind.TheVariants.{Standard}
 use Rattle.aho_cover.proofs.Copied.{begins_with}
-use Rattle.aho_devices.specs.declared.device.Sink.{Ghosts as SinkGhosts}
 use Rattle.aho_devices.specs.declared.device.Source.{Ghosts as SourceGhosts}
-use Rattle.secret_rules.specs.Covering.{AreLineRuns, Covering, covering_by, seen_line}
-use Rattle.secret_rules.specs.Lines.{Line, stream_lines}
+use Rattle.secret_rules.specs.Covering.{AreLineRuns, covering_by, seen_line}
+use Rattle.secret_rules.specs.Lines.{Line}
 use Rattle.secret_rules.specs.Visits.{AreFirstLines, BeginsVisiting, LeavesVisited, StopsWithin, VisitsEach, VisitsLines, taken_line}
 use Rattle.secret_rules.specs.declared.error.LineError.{LineError}
-use Rattle.secret_rules.specs.declared.rule.Rule.{Rule}
 use Rattle.secret_rules.specs.declared.visitor.LineVisitor.{Ghosts as VisitorGhosts}
 use Rattle.acgrep.specs.Marked.{FileAsked, StopsMarked, WritesMarked, asked_of, marked_line, marked_lines, pass_after, pass_behind}
 use Rattle.acgrep.specs.MarkedFiles.{AreFirstGiven, WalksLines, seen_lines}

@@ -1,20 +1,14 @@
 -- What is told of files whose lines rules mark.
+use Rattle.acgrep.proofs.Common.{Errors, Job, Nothing, Outcome, Shown, SinkGhosts, Tells, TellsBytes, TellsSome, Unread, some-one, some-tells, some-then, some-weaker}
 use Rattle.std.proofs.Common.{◌==◌, ◌∷◌, Bool, List, [], ap, false, inl, inr, refl, subst, true, ℕ}
 use Rattle.std.proofs.lemmas.List.Elements.{All-nil}
 use Rattle.std.specs.Prelude.{if◌then◌else◌}
-use Rattle.aho_devices.specs.declared.device.Sink.{Ghosts as SinkGhosts}
-use Rattle.tool_parts.proofs.Lines.{some-one, some-tells, some-then, some-weaker, tells-then}
-use Rattle.tool_parts.specs.Telling.{Tells, TellsBytes, TellsSome}
-use Rattle.tool_parts.specs.declared.errors.Errors.{Errors}
+use Rattle.tool_parts.proofs.Lines.{tells-then}
 use Rattle.acgrep.specs.Files.{IsNamed}
 use Rattle.acgrep.specs.RunsByRules.{long_message, unwritten_line}
 use Rattle.acgrep.specs.Told.{IsMessage, TellsOfEnd, TellsOfOutcome, TellsOutcome, TellsStatus}
 use Rattle.acgrep.specs.ToldByRules.{IsMarkTold}
-use Rattle.acgrep.specs.declared.files.Outcome.{Outcome}
-use Rattle.acgrep.specs.declared.files.Outcome.TheVariants.{Stopped, Unread}
-use Rattle.acgrep.specs.declared.options.Shown.{Shown}
-use Rattle.acgrep.specs.declared.options.Shown.TheVariants.{Nothing}
-use Rattle.acgrep.specs.declared.job.Job.{Job}
+use Rattle.acgrep.specs.declared.files.Outcome.TheVariants.{Stopped}
 
 module _ {E : Type 0} (K : SinkGhosts E) where
   -- a message is such a line

@@ -1,15 +1,11 @@
 -- What the file of a name has that was searched.
+use Rattle.acgrep.proofs.Common.{Consumes-nil, Fit, Job, Patterns, is_input}
 use Rattle.std.proofs.Common.{◌≡◌, Bool, List, Option, [], ap, false, refl, subst, sym, true, ℕ}
-use Rattle.std.proofs.KnownBytes.{Consumes-nil}
 use Rattle.std.specs.Prelude.{MatchBool}
-use Rattle.aho_core.specs.Patterns.{Patterns}
-use Rattle.tool_parts.specs.Names.{is_input}
 use Rattle.acgrep.specs.Binary.{is_guarded, lines_sought}
 use Rattle.acgrep.specs.Files.{HasSelected, LeavesInput, SearchesName, known_of}
 use Rattle.acgrep.specs.Filled.{ReadsOn}
 use Rattle.acgrep.specs.Written.{IsSelected, SomeLine}
-use Rattle.acgrep.specs.declared.options.Fit.{Fit}
-use Rattle.acgrep.specs.declared.job.Job.{Job}
 use Rattle.acgrep.proofs.BinaryTold.{either_some}
 
 -- a selected line, where the same lines are searched

@@ -1,18 +1,10 @@
 -- What occurs in no line of a text does not occur in it.
+use Rattle.acgrep.proofs.Common.{IsSameWord, Nowhere, Occurrence, Occurs-in, OccursIn, Patterns, cases_Bool, cases_lt, common_steps, length-drop, length-take-le, pattern_at, plain_search, true≢false}
 use Rattle.std.proofs.Common.{◌+◌, ◌-◌, ◌<◌, ◌==◌, ◌∙◌, ◌∷◌, ◌≡◌, ◌≤◌, List, [], ap, arith, drop, false, inl, inr, length, subst, suc, sym, take, zero, ℕ}
-use Rattle.std.proofs.lemmas.Bool.{cases_Bool, cases_lt, true≢false}
-use Rattle.std.proofs.lemmas.Grind.{common_steps}
-use Rattle.std.proofs.lemmas.List.{length-drop, length-take-le}
 use Rattle.std.specs.Prelude.{slice_range}
-use Rattle.aho_core.specs.Bytes.{IsSameWord}
-use Rattle.aho_core.specs.Occurrence.{Occurrence}
-use Rattle.aho_core.specs.Occurs.{Occurs, OccursIn}
-use Rattle.aho_core.specs.Patterns.{Patterns, pattern_at}
-use Rattle.aho_core.specs.Search.{plain_search}
+use Rattle.aho_core.specs.Occurs.{Occurs}
 use Rattle.aho_core.specs.declared.search.Anchored.TheVariants.{No}
-use Rattle.aho_laws.proofs.ClearCuts.{Occurs-in}
 use Rattle.aho_laws.proofs.SpanTexts.{Occurs-moved_back, moved_back}
-use Rattle.memchr.specs.Find.{Nowhere}
 use Rattle.acgrep.specs.Lines.{IsEnding, lines}
 use Rattle.acgrep.specs.Selected.{HoldNoEnding}
 use Rattle.acgrep.specs.Written.{EachLine, HasNone}

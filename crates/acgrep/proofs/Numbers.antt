@@ -1,7 +1,6 @@
 -- What `parse` says of digits, by what they mean.
+use Rattle.acgrep.proofs.Common.{and_from, and_parts, cases_Bool, get_or, lt-ltb, ltb-true}
 use Rattle.std.proofs.Common.{◌<◌, ◌^◌, ◌≡◌, List, None, Some, ap, inl, inr, length, refl, true, ℕ}
-use Rattle.std.proofs.Math.ListN.{get_or}
-use Rattle.std.proofs.lemmas.Bool.{and_from, and_parts, cases_Bool, lt-ltb, ltb-true}
 use Rattle.std.proofs.lemmas.Fmt.{IsAscii-from_digits}
 use Rattle.std.proofs.lemmas.Str.{IsUtf8-from_ascii}
 use Rattle.std.proofs.lemmas.Str.Parse.{IsNumeralModel, numerals_by_value, parse_plain, tells_all_ascii_digits}

@@ -1,17 +1,11 @@
 -- A search that is written, or whose matches are counted.
+use Rattle.acgrep.proofs.Common.{Appends-nil, AppendsBeginning, Errors, Flags, Keeps, Keeps-refl, Shown, SinkGhosts, TellsSome}
 use Rattle.std.proofs.Common.{◌++◌, ◌<◌, ◌∙◌, ◌≡◌, ◌⊎◌, Bool, List, Option, Some, [], arith, inl, inr, subst, sym, ℕ}
-use Rattle.std.proofs.KnownBytes.{Appends-kept, Appends-nil, Keeps-refl}
-use Rattle.std.specs.Io.KnownBytes.{Keeps}
-use Rattle.aho_devices.specs.Counts.{AppendsBeginning}
-use Rattle.aho_devices.specs.declared.device.Sink.{Ghosts as SinkGhosts}
+use Rattle.std.proofs.KnownBytes.{Appends-kept}
 use Rattle.tool_parts.proofs.Beginnings.{beginning-kept}
-use Rattle.tool_parts.specs.Telling.{TellsSome}
-use Rattle.tool_parts.specs.declared.errors.Errors.{Errors}
 use Rattle.acgrep.specs.Arguments.{asks_counts}
 use Rattle.acgrep.specs.Runs.{BeginsNoMatch, OrBeginsCounts, OrCounts, WritesNoMatch}
 use Rattle.acgrep.specs.Told.{TellsStatus}
-use Rattle.acgrep.specs.declared.options.Flags.{Flags}
-use Rattle.acgrep.specs.declared.options.Shown.{Shown}
 use Rattle.acgrep.proofs.Bools.{either_way}
 use Rattle.acgrep.proofs.Told.{status-none, status-some}
 

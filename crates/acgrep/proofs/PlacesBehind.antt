@@ -1,13 +1,11 @@
 -- The place behind a text of whole lines.
+use Rattle.acgrep.proofs.Common.{Job, Place, cases_Bool}
 use Rattle.std.proofs.Common.{◌%◌, ◌+◌, ◌-◌, ◌<◌, ◌==◌, ◌^◌, ◌∙◌, ◌∷◌, ◌≡◌, List, [], ap, arith, inl, inr, length, refl, suc, sym, zero, ℕ}
 use Rattle.std.proofs.Math.Nat.{mod-add-mod, mod-eq_of_lt, mod-lt}
-use Rattle.std.proofs.lemmas.Bool.{cases_Bool}
 use Rattle.std.specs.Prelude.{slice_index}
 use Rattle.memchr.specs.Find.{is_byte, places, places_from}
 use Rattle.acgrep.specs.Lines.{EndsLine, joined_to, lines}
 use Rattle.acgrep.specs.Written.{NumbersLines, SamePlace, after_line, after_lines}
-use Rattle.acgrep.specs.declared.print.Place.{Place}
-use Rattle.acgrep.specs.declared.job.Job.{Job}
 use Rattle.acgrep.proofs.FirstLines.{lines_joined}
 use Rattle.acgrep.proofs.LineLists.{ends_one, ends_tail, first_line}
 

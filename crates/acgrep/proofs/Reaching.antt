@@ -1,20 +1,13 @@
 -- What may be told of the files that operands name.
+use Rattle.acgrep.proofs.Common.{Errors, Flags, IsOneOf, Nothing, SinkGhosts, Tells, TellsSome, cases_Bool, common_steps, or_input, some-tells, some-then, some-weaker}
 use Rattle.std.proofs.Common.{◌++◌, ◌<◌, ◌==◌, ◌∷◌, ◌≡◌, ◌≤◌, Bool, List, [], ap, arith, false, inl, inr, length, refl, subst, sym, true, ℕ}
-use Rattle.std.proofs.lemmas.Bool.{cases_Bool}
-use Rattle.std.proofs.lemmas.Grind.{common_steps}
 use Rattle.std.specs.Prelude.{◌&&◌, if◌then◌else◌}
-use Rattle.aho_devices.specs.declared.device.Sink.{Ghosts as SinkGhosts}
-use Rattle.tool_parts.proofs.Lines.{some-tells, some-then, some-weaker, tells-none, tells-then, tells-weaker, then-some}
-use Rattle.tool_parts.specs.Names.{IsOneOf, or_input}
-use Rattle.tool_parts.specs.Telling.{Tells, TellsSome}
-use Rattle.tool_parts.specs.declared.errors.Errors.{Errors}
+use Rattle.tool_parts.proofs.Lines.{tells-none, tells-then, tells-weaker, then-some}
 use Rattle.acgrep.specs.Arguments.{Origin, Said, shown_by}
 use Rattle.acgrep.specs.Folders.{Tree}
 use Rattle.acgrep.specs.Reached.{TellsMissed}
 use Rattle.acgrep.specs.Runs.{AreReached, status_reached}
 use Rattle.acgrep.specs.Told.{IsMessage, MaySay, TellsOfFile, TellsStatus, files_told, names_told, shown_names, source_names}
-use Rattle.acgrep.specs.declared.options.Flags.{Flags}
-use Rattle.acgrep.specs.declared.options.Shown.TheVariants.{Nothing}
 use Rattle.acgrep.proofs.Told.{AreWithin, among-first, among-later, message-more, status-some, status-weaker, within-cut}
 
 -- a message of sources of patterns may be told of a search

@@ -1,10 +1,7 @@
 -- The texts of the files of rules, one after another, and the rules that they hold.
+use Rattle.acgrep.proofs.Common.{IsOneOf, cases_Bool, get_or, take_all}
 use Rattle.std.proofs.Common.{◌++◌, ◌-◌, ◌<◌, ◌∙◌, ◌∷◌, ◌≡◌, Bool, List, Option, [], ap, arith, drop, false, inl, inr, length, refl, subst, sym, take, true, ℕ}
-use Rattle.std.proofs.Math.ListN.{get_or}
-use Rattle.std.proofs.lemmas.Bool.{cases_Bool}
-use Rattle.std.proofs.lemmas.List.{take_all}
 use Rattle.std.specs.Prelude.{MatchBool}
-use Rattle.tool_parts.specs.Names.{IsOneOf}
 use Rattle.acgrep.specs.Loading.{AreTexts, IsTextOfRule}
 use Rattle.acgrep.specs.Rules.{RuleSaid, expanded, glob_before, glob_of_line, is_from_file, is_space, rule_before, rule_said, rules_by, rules_said}
 use Rattle.acgrep.specs.Runs.{AreRules, AreRulesOf, IsTextOf}

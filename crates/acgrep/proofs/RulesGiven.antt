@@ -1,7 +1,7 @@
 -- The rules that a call names.
+use Rattle.acgrep.proofs.Common.{Rule}
 use Rattle.std.proofs.Common.{◌≡◌, List, Option, false, refl, true, ℕ}
 use Rattle.secret_rules.specs.Tables.{TellsRules}
-use Rattle.secret_rules.specs.declared.rule.Rule.{Rule}
 use Rattle.acgrep.specs.Gathered.{Adds}
 use Rattle.acgrep.specs.Runs.{IsTextOf}
 use Rattle.acgrep.specs.RunsByRules.{AreNamedRules, is_own}

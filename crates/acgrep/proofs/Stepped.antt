@@ -1,17 +1,10 @@
 -- One line of a walk: what is written of it, and where the walk then is.
+use Rattle.acgrep.proofs.Common.{Appends, Appends-nil, Appends-trans, AppendsBeginning, Context, Job, Patterns, Place, lt-ltb}
 use Rattle.std.proofs.Common.{◌++◌, ◌<◌, ◌∙◌, ◌∷◌, ◌≡◌, Bool, List, Option, [], ap, append_assoc, false, inl, inr, refl, subst, sym, true, ℕ}
-use Rattle.std.proofs.KnownBytes.{Appends-nil, Appends-trans}
-use Rattle.std.proofs.lemmas.Bool.{lt-ltb}
-use Rattle.std.specs.Io.KnownBytes.{Appends}
 use Rattle.std.specs.Prelude.{◌&&◌, nat_lt}
-use Rattle.aho_core.specs.Patterns.{Patterns}
-use Rattle.aho_devices.specs.Counts.{AppendsBeginning}
 use Rattle.acgrep.specs.Contexts.{IsChosenBy, IsNotChosen, PassesBy, ShowsEach, ShowsGroup, Steps, Walk, WalksBegun, WalksLines, WalksSome, behind_chosen, behind_due, behind_passed, beside, separator_if}
 use Rattle.acgrep.specs.Lines.{lines}
 use Rattle.acgrep.specs.Written.{ShowsLine, WritesLine, after_line}
-use Rattle.acgrep.specs.declared.options.Context.{Context}
-use Rattle.acgrep.specs.declared.print.Place.{Place}
-use Rattle.acgrep.specs.declared.job.Job.{Job}
 use Rattle.acgrep.proofs.Begun.{begins_more, begins_some}
 use Rattle.acgrep.proofs.Walked.{begun_behind, lines_join, lines_none, walks_one}
 pub use Rattle.acgrep.proofs.Grouped.{walk_same}

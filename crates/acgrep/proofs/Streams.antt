@@ -1,20 +1,13 @@
 -- What was searched of a stream, put together from its reads.
+use Rattle.acgrep.proofs.Common.{Appends, Appends-trans, Consumes-nil, Consumes-trans, Context, IsAtEnd, Job, Keeps, Patterns, Place, State, common_steps, length-take-le}
 use Rattle.std.proofs.Common.{◌++◌, ◌+◌, ◌-◌, ◌<◌, ◌==◌, ◌∙◌, ◌∷◌, ◌≡◌, ◌≤◌, Bool, List, None, Option, Some, [], ap, append-nil, append_assoc, arith, drop, false, inl, inr, length, length-append, refl, subst, sym, take, take-append-drop, true, ℕ}
-use Rattle.std.proofs.KnownBytes.{Appends-trans, Consumes-nil, Consumes-trans}
 use Rattle.std.proofs.Math.Seq.{drop-append-add, drop-append_seam}
-use Rattle.std.proofs.lemmas.Grind.{common_steps}
-use Rattle.std.proofs.lemmas.List.{get_or-append-add, length-take-le}
-use Rattle.std.specs.Io.KnownBytes.{Appends, IsAtEnd, Keeps}
-use Rattle.aho_core.specs.Patterns.{Patterns}
+use Rattle.std.proofs.lemmas.List.{get_or-append-add}
 use Rattle.acgrep.specs.Contexts.{SearchesIn, SearchesText, around_of}
 use Rattle.acgrep.specs.Filled.{FillsBehind, ReadsOn}
 use Rattle.acgrep.specs.Lines.{EndsLine, IsEnding, lines}
 use Rattle.acgrep.specs.Streamed.{ReadsSome, SearchesBehind, SearchesWhole, course}
 use Rattle.acgrep.specs.Written.{IsSettled, SamePlace, SearchesPlain, after_lines}
-use Rattle.acgrep.specs.declared.options.Context.{Context}
-use Rattle.acgrep.specs.declared.print.Place.{Place}
-use Rattle.acgrep.specs.declared.job.Job.{Job}
-use Rattle.acgrep.specs.declared.job.State.{State}
 use Rattle.acgrep.proofs.Around.{front_newline}
 use Rattle.acgrep.proofs.LineLists.{ends_drop, lines_append}
 use Rattle.acgrep.proofs.Tellings.{after_append, same_lines, same_place, same_trans, tells_join}

@@ -1,8 +1,7 @@
 -- A search of a stream that is broken off, put together from its reads.
+use Rattle.acgrep.proofs.Common.{Consumes, Context, IsAtEnd, Job, Keeps, Patterns, State}
 use Rattle.std.proofs.Common.{◌++◌, ◌-◌, ◌<◌, ◌∙◌, ◌≡◌, ◌≤◌, Bool, List, None, Option, Some, [], ap, append-nil, append_assoc, drop, false, inl, inr, length, refl, subst, sym, take, take-append-drop, true, ℕ}
-use Rattle.std.specs.Io.KnownBytes.{Consumes, IsAtEnd, Keeps}
 use Rattle.std.specs.Prelude.{IfSome}
-use Rattle.aho_core.specs.Patterns.{Patterns}
 use Rattle.acgrep.specs.Begun.{BeginsOf}
 use Rattle.acgrep.specs.Binary.{lines_by, text_lines}
 use Rattle.acgrep.specs.Contexts.{BeginsSearched, SearchesIn, SearchesText, TellsFrom, around_of, walk_of}
@@ -10,9 +9,6 @@ use Rattle.acgrep.specs.Filled.{FillsBehind}
 use Rattle.acgrep.specs.Lines.{EndsLine, IsEnding, lines}
 use Rattle.acgrep.specs.Streamed.{BeginsBehind, BeginsWhole, ReadsSome, SearchesBehind, TextIf, course}
 use Rattle.acgrep.specs.Written.{IsSettled}
-use Rattle.acgrep.specs.declared.options.Context.{Context}
-use Rattle.acgrep.specs.declared.job.Job.{Job}
-use Rattle.acgrep.specs.declared.job.State.{State}
 use Rattle.acgrep.proofs.Beginnings.{begins_join}
 use Rattle.acgrep.proofs.Begun.{begins_all, begins_kept, begins_more, begins_nothing}
 use Rattle.acgrep.proofs.BinaryLines.{text_behind, text_front}

@@ -1,26 +1,14 @@
 -- What is told of lines, put together from parts.
+use Rattle.acgrep.proofs.Common.{Appends, Appends-nil, Appends-trans, Fit, Job, Lines, Matches, Objects, Occurrence, Patterns, Place, Shown, State, Style, and_parts, cases_Bool, cases_lt, common_steps, drop-drop, length-drop, ltb-true, true≢false}
 use Rattle.std.proofs.Common.{◌%◌, ◌++◌, ◌+◌, ◌-◌, ◌<◌, ◌==◌, ◌^◌, ◌∙◌, ◌∷◌, ◌≡◌, ◌≤◌, Bool, List, None, Option, Some, [], ap, append-nil, append_assoc, arith, drop, false, inl, inr, length, refl, subst, sym, true, ℕ}
-use Rattle.std.proofs.KnownBytes.{Appends-nil, Appends-trans}
-use Rattle.std.proofs.lemmas.Bool.{and_parts, cases_Bool, cases_lt, ltb-true, true≢false}
-use Rattle.std.proofs.lemmas.Grind.{common_steps}
-use Rattle.std.proofs.lemmas.List.{drop-drop, drop_all, length-drop}
-use Rattle.std.specs.Io.KnownBytes.{Appends}
+use Rattle.std.proofs.lemmas.List.{drop_all}
 use Rattle.std.specs.Prelude.{◌&&◌, MatchBool, if◌then◌else◌, nat_le, nat_lt, not}
-use Rattle.aho_core.specs.Occurrence.{Occurrence}
-use Rattle.aho_core.specs.Patterns.{Patterns}
 use Rattle.acgrep.specs.Lines.{EndsLine, lines}
 use Rattle.acgrep.specs.Matches.{WritesColored, WritesMatches}
 use Rattle.acgrep.specs.Objects.{objects_by}
 use Rattle.acgrep.specs.Printed.{colored_from, colored_line_by, head_of, line_number_at, matches_by}
 use Rattle.acgrep.specs.Written.{DoesMatch, DoesNotMatch, EachLine, HasNone, IsMatched, IsPassedOver, IsSelected, IsSettled, LineOf, SamePlace, SearchesTo, ShowsBy, ShowsLine, TellsLines, TellsOfLines, WritesLine, WritesNext, after_line, after_lines, is_full, is_numbered, next_count, one_more, place_behind, selects}
 use Rattle.acgrep.specs.declared.matches.Shape.TheVariants.{AsFields, OnLines}
-use Rattle.acgrep.specs.declared.options.Fit.{Fit}
-use Rattle.acgrep.specs.declared.options.Shown.{Shown}
-use Rattle.acgrep.specs.declared.options.Shown.TheVariants.{Lines, Matches, Objects}
-use Rattle.acgrep.specs.declared.print.Place.{Place}
-use Rattle.acgrep.specs.declared.print.Style.{Style}
-use Rattle.acgrep.specs.declared.job.Job.{Job}
-use Rattle.acgrep.specs.declared.job.State.{State}
 use Rattle.acgrep.proofs.Bools.{where_false, where_true}
 use Rattle.acgrep.proofs.LineLists.{ends_drop}
 

@@ -1,8 +1,8 @@
 -- What is told of a reader whose lines are searched, or those before the first that holds a zero byte alone.
+use Rattle.acgrep.proofs.Common.{Job, Patterns, State, and_parts}
 use Rattle.std.proofs.Common.{◌++◌, ◌==◌, ◌∙◌, ◌≡◌, Bool, List, Option, [], ap, append-nil, append_assoc, false, inl, inr, subst, sym, true, ℕ}
-use Rattle.std.proofs.lemmas.Bool.{and_parts, not-true}
+use Rattle.std.proofs.lemmas.Bool.{not-true}
 use Rattle.std.specs.Prelude.{◌&&◌, not}
-use Rattle.aho_core.specs.Patterns.{Patterns}
 use Rattle.acgrep.specs.Binary.{is_guarded, is_text, lines_by, lines_sought, takes_text}
 use Rattle.acgrep.specs.Contexts.{IsBegin, around_of}
 use Rattle.acgrep.specs.Files.{EndsFile, SearchesReader}
@@ -10,8 +10,6 @@ use Rattle.acgrep.specs.Guarded.{BeginsBinary, EndsFront, SearchesFront, Searche
 use Rattle.acgrep.specs.Lines.{EndsLine, lines}
 use Rattle.acgrep.specs.Streamed.{BeginsBehind, TextIf, course}
 use Rattle.acgrep.specs.Written.{SomeLine}
-use Rattle.acgrep.specs.declared.job.Job.{Job}
-use Rattle.acgrep.specs.declared.job.State.{State}
 use Rattle.acgrep.proofs.BinaryLines.{first_some, first_text}
 use Rattle.acgrep.proofs.BinaryTold.{lines_cut, some_behind}
 use Rattle.acgrep.proofs.FileTellings.{file_of, left_none, lines_told, settled_read, text_behind as text_read, text_told}

@@ -1,30 +1,18 @@
 -- What a message tells is one that may be told.
+use Rattle.acgrep.proofs.Common.{Errors, IsOneOf, Job, Lines, Matches, Nothing, Objects, Outcome, Seen, Shown, SinkGhosts, Source, Tells, TellsBytes, TellsSome, Unread, cases_Bool, cases_lt, common_steps, get_or, some-one, some-tells, some-then, some-weaker, take_all}
 use Rattle.std.proofs.Common.{◌++◌, ◌-◌, ◌<◌, ◌∙◌, ◌∷◌, ◌≡◌, ◌≤◌, ◌⊎◌, Bool, Bor, List, None, Option, Some, [], ap, arith, codes, drop, false, inl, inr, length, refl, subst, sym, take, true, ℕ}
-use Rattle.std.proofs.Math.ListN.{get_or}
-use Rattle.std.proofs.lemmas.Bool.{cases_Bool, cases_lt}
-use Rattle.std.proofs.lemmas.Grind.{common_steps}
-use Rattle.std.proofs.lemmas.List.{take_all}
 use Rattle.std.specs.Prelude.{IfSome, MatchBool, if◌then◌else◌, map, nat_lt, slice_index_or}
-use Rattle.aho_devices.specs.declared.device.Sink.{Ghosts as SinkGhosts}
-use Rattle.tool_parts.proofs.Lines.{some-one, some-tells, some-then, some-weaker, tells-none, tells-weaker, then-some}
+use Rattle.tool_parts.proofs.Lines.{tells-none, tells-weaker, then-some}
 use Rattle.tool_parts.specs.Messages.{message_of}
-use Rattle.tool_parts.specs.Names.{IsOneOf}
-use Rattle.tool_parts.specs.Telling.{Tells, TellsBytes, TellsSome}
-use Rattle.tool_parts.specs.declared.errors.Errors.{Errors}
 use Rattle.acgrep.specs.Arguments.{Said, origin_of}
 use Rattle.acgrep.specs.Files.{IsNamed, shown_name}
 use Rattle.acgrep.specs.Folders.{Known}
 use Rattle.acgrep.specs.InTurn.{is_enough, seen_after, status_by}
 use Rattle.acgrep.specs.Runs.{origins_of}
 use Rattle.acgrep.specs.Told.{IsMessage, IsToldCause, IsUnopened, MayName, MaySaid, MayTell, TellsIf, TellsOfOutcome, TellsOutcome, TellsStatus, files_told, names_said, shown_names, source_names}
-use Rattle.acgrep.specs.declared.arguments.Source.{Source}
 use Rattle.acgrep.specs.declared.arguments.Source.TheVariants.{File}
-use Rattle.acgrep.specs.declared.files.Outcome.{Outcome}
-use Rattle.acgrep.specs.declared.files.Outcome.TheVariants.{Searched, Stopped, Unread}
-use Rattle.acgrep.specs.declared.files.Seen.{Seen}
-use Rattle.acgrep.specs.declared.options.Shown.{Shown}
-use Rattle.acgrep.specs.declared.options.Shown.TheVariants.{Count, Lacking, Lines, Matches, Names, Nothing, Objects}
-use Rattle.acgrep.specs.declared.job.Job.{Job}
+use Rattle.acgrep.specs.declared.files.Outcome.TheVariants.{Searched, Stopped}
+use Rattle.acgrep.specs.declared.options.Shown.TheVariants.{Count, Lacking, Names}
 use Rattle.acgrep.proofs.InTurn.{enough_only}
 use Prim.Native.Nat.{zero, suc}
 

@@ -1,18 +1,10 @@
 -- Walks from line to line, one behind another.
+use Rattle.acgrep.proofs.Common.{Appends, Appends-trans, Context, Job, Patterns, Place, State, cases_Bool, common_steps, true≢false}
 use Rattle.std.proofs.Common.{◌++◌, ◌∙◌, ◌∷◌, ◌≡◌, Bool, List, Option, [], ap, append-nil, append_assoc, arith, false, inl, inr, refl, subst, sym, true, ℕ}
-use Rattle.std.proofs.KnownBytes.{Appends-trans}
-use Rattle.std.proofs.lemmas.Bool.{cases_Bool, true≢false}
-use Rattle.std.proofs.lemmas.Grind.{common_steps}
-use Rattle.std.specs.Io.KnownBytes.{Appends}
 use Rattle.std.specs.Prelude.{nat_lt}
-use Rattle.aho_core.specs.Patterns.{Patterns}
 use Rattle.acgrep.specs.Contexts.{PassesBy, PassesLine, Steps, Walk, WalksBegun, WalksLines, WalksOver, WalksText, behind_chosen, behind_passed, walk_of}
 use Rattle.acgrep.specs.Lines.{EndsLine, lines}
 use Rattle.acgrep.specs.Written.{IsPassedOver, IsSettled, TellsOfLines, after_line, is_full}
-use Rattle.acgrep.specs.declared.options.Context.{Context}
-use Rattle.acgrep.specs.declared.print.Place.{Place}
-use Rattle.acgrep.specs.declared.job.Job.{Job}
-use Rattle.acgrep.specs.declared.job.State.{State}
 use Rattle.acgrep.proofs.Begun.{begins_behind}
 use Rattle.acgrep.proofs.LineLists.{lines_append}
 

@@ -1,21 +1,18 @@
 -- What a walk through folders finds.
+use Rattle.acgrep.proofs.Common.{Ways, common_steps, get_or, length-map, name_bytes}
 use Rattle.std.proofs.Common.{◌++◌, ◌+◌, ◌-◌, ◌<◌, ◌∙◌, ◌∷◌, ◌≡◌, Bool, Bor, List, None, Option, Some, [], ap, arith, codes, drop, false, inl, inr, length, refl, subst, sym, take, true, ℕ}
-use Rattle.std.proofs.Math.ListN.{get_or}
-use Rattle.std.proofs.lemmas.Grind.{common_steps}
-use Rattle.std.proofs.lemmas.List.{append-nil, append_assoc, get_or-map, length-map, map-append}
+use Rattle.std.proofs.lemmas.List.{append-nil, append_assoc, get_or-map, map-append}
 use Rattle.std.proofs.lemmas.List.Sorted.{IsPermutation-trans}
 use Rattle.std.specs.Cmp.Lexicographic.{slice_cmp}
 use Rattle.std.specs.List.Sorted.{IsPermutation, IsSorted, IsSortedBy}
 use Rattle.std.specs.Ordering.{nat_cmp}
 use Rattle.std.specs.Prelude.{IfSome, MatchBool, map}
-use Rattle.tool_parts.specs.Names.{name_bytes}
 use Rattle.acgrep.specs.Folders.{AreBelow, AreFiles, Begins, Enters, FindsFiles, HoldsNames, IsKind, IsLost, Loses, PutsInside, Spot, Tree, entered, files_by, input, inside, is_folder, is_lost_left, is_spot_left, is_standard, left, looked, lost, missed, missed_of, none, operand, unlisted}
 use Rattle.acgrep.specs.Listed.{listed_bytes}
 use Rattle.acgrep.specs.Rules.{RuleSaid}
 use Rattle.acgrep.specs.declared.folders.Kind.{Kind}
 use Rattle.acgrep.specs.declared.folders.Kind.TheVariants.{Folder}
 use Rattle.acgrep.specs.declared.walk.Found.{Found}
-use Rattle.acgrep.specs.declared.walk.Ways.{Ways}
 
 -- a folder holds the names that were read, in order
 holds-put : (tree : Tree) (folder : List ℕ) (names ordered : List (List ℕ)) → IfSome (tree.lists folder) (λ known. IsPermutation known names) → IsPermutation names ordered

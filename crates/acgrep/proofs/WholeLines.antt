@@ -1,15 +1,7 @@
 -- The longest match that begins first tells which pattern is the whole line.
+use Rattle.acgrep.proofs.Common.{IsAnswer, IsBefore, LeftmostLongest, MatchKind, Occurrence, OccursIn, Patterns, and_from, and_parts, cases_Bool, eq-eqb, plain_search, true≢false}
 use Rattle.std.proofs.Common.{◌==◌, ◌∙◌, ◌≡◌, List, None, Some, ap, arith, eqb-true, false, inl, inr, length, subst, sym, true, ℕ}
-use Rattle.std.proofs.lemmas.Bool.{and_from, and_parts, cases_Bool, eq-eqb, true≢false}
 use Rattle.std.specs.Prelude.{◌&&◌, ◌⊎◌, Bool, if◌then◌else◌}
-use Rattle.aho_core.specs.Answer.{IsAnswer}
-use Rattle.aho_core.specs.Occurrence.{Occurrence}
-use Rattle.aho_core.specs.Occurs.{OccursIn}
-use Rattle.aho_core.specs.Order.{IsBefore}
-use Rattle.aho_core.specs.Patterns.{Patterns}
-use Rattle.aho_core.specs.Search.{plain_search}
-use Rattle.aho_core.specs.declared.search.MatchKind.{MatchKind}
-use Rattle.aho_core.specs.declared.search.MatchKind.TheVariants.{LeftmostLongest}
 use Rattle.acgrep.specs.Alone.{IsWholeLine, IsWholeOrNone, whole_of}
 
 module _ (p : Patterns) (line : List ℕ) (m : Occurrence) (kind : p.kind ≡ LeftmostLongest) (best : IsAnswer p (plain_search line) (Some m)) where

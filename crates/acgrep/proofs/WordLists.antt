@@ -1,13 +1,8 @@
 -- The patterns of sources, one after another, as the lines of one text.
+use Rattle.acgrep.proofs.Common.{Consumes, IsAtEnd, Keeps, Nowhere, StartsWith, cases_Bool, common_steps, is_input}
 use Rattle.std.proofs.Common.{◌++◌, ◌-◌, ◌<◌, ◌==◌, ◌∙◌, ◌∷◌, ◌≡◌, List, Option, [], ap, arith, codes, drop, false, inl, inr, length, refl, subst, suc, sym, true, ℕ}
 use Rattle.std.proofs.KnownBytes.{starts_with_rest}
-use Rattle.std.proofs.lemmas.Bool.{cases_Bool}
-use Rattle.std.proofs.lemmas.Grind.{common_steps}
-use Rattle.std.specs.Io.{StartsWith}
-use Rattle.std.specs.Io.KnownBytes.{Consumes, IsAtEnd, Keeps}
 use Rattle.std.specs.Prelude.{IfSome}
-use Rattle.memchr.specs.Find.{Nowhere}
-use Rattle.tool_parts.specs.Names.{is_input}
 use Rattle.acgrep.specs.Lines.{EndsLine, IsEnding, joined_to, lines}
 use Rattle.acgrep.specs.Gathered.{Adds}
 use Rattle.acgrep.specs.Loading.{AddsText}

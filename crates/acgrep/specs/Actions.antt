@@ -1,8 +1,9 @@
 -- What the arguments of `--color`, `-d`, `-D` and `--binary-files` name.
+use Rattle.acgrep.specs.Common.{bytes_eq, meant}
 use Rattle.std.specs.Prelude.{◌||◌, ◌∷◌, Bool, List, None, Option, Some, [], codes, if◌then◌else◌, ℕ}
 use Rattle.std.specs.Result.{result_ok}
-use Rattle.std.specs.Str.{bytes_eq, str_eq_ignore_ascii_case}
-use Rattle.tool_parts.specs.OptionNames.{Named, found_among, meant, named}
+use Rattle.std.specs.Str.{str_eq_ignore_ascii_case}
+use Rattle.tool_parts.specs.OptionNames.{Named, found_among, named}
 use Rattle.tool_parts.specs.declared.options.found.Found.TheVariants.{Unknown}
 use Rattle.acgrep.specs.declared.options.Color.{Color}
 use Rattle.acgrep.specs.declared.options.Color.TheVariants.{Always, Auto, Never}

@@ -1,9 +1,8 @@
 -- What the arguments, those after the program's name, say.
-use Rattle.std.specs.Char.{is_ascii_digit}
+use Rattle.acgrep.specs.Common.{LeftmostLongest, is_ascii_digit}
 use Rattle.std.specs.Prelude.{◌&&◌, ◌++◌, ◌<◌, ◌==◌, ◌^◌, ◌||◌, ◌∷◌, ◌≡◌, Bool, IfErr, IfOk, List, None, OnOk, Option, Result, Some, [], codes, false, if◌then◌else◌, is_some, length, map, nat_lt, not, option_and_then, option_map, slice_index, true, unwrap_or, ℕ}
 use Rattle.std.specs.Str.{all_ascii_digits}
 use Rattle.std.specs.Str.Parse.{digits_value}
-use Rattle.aho_core.specs.declared.search.MatchKind.TheVariants.{LeftmostLongest}
 use Rattle.tool_parts.specs.ArgumentForms.{Form, argument_form, joined_letters, long_name, long_with, no_more, no_option}
 use Rattle.tool_parts.specs.Arguments.{kind_by}
 use Rattle.acgrep.specs.Actions.{binary_named, color_named, devices_named, folders_named}

@@ -1,5 +1,5 @@
 -- A beginning of what is told of lines.
-use Rattle.std.specs.Io.KnownBytes.{Appends}
+use Rattle.acgrep.specs.Common.{Appends}
 use Rattle.std.specs.Prelude.{◌++◌, ◌≡◌, List, Option, ℕ}
 
 -- of some first ones of these lines a beginning of what is told is written, and nothing else; `Tells first all` says what that is

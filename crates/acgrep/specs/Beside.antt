@@ -1,8 +1,7 @@
 -- Which options do not go with rules.
+use Rattle.acgrep.specs.Common.{LeftmostLongest, bytes_eq}
 use Rattle.std.specs.Prelude.{◌++◌, ◌==◌, ◌∷◌, Bool, List, None, Option, Some, [], codes, false, if◌then◌else◌, is_some, not, true, ℕ}
-use Rattle.std.specs.Str.{bytes_eq}
 use Rattle.aho_core.specs.declared.search.MatchKind.{MatchKind}
-use Rattle.aho_core.specs.declared.search.MatchKind.TheVariants.{LeftmostLongest}
 use Rattle.acgrep.specs.Arguments.{Origin, Said}
 use Rattle.acgrep.specs.declared.beside.Unfit.{Unfit}
 use Rattle.acgrep.specs.declared.beside.Unfit.TheVariants.{Alone, Beside}

@@ -1,6 +1,6 @@
 -- Lines that hold a zero byte: from the first of them on a file's lines are kept from a terminal, or not searched.
+use Rattle.acgrep.specs.Common.{Patterns}
 use Rattle.std.specs.Prelude.{◌&&◌, ◌++◌, ◌==◌, ◌||◌, ◌∷◌, ◌≡◌, Bool, List, MatchBool, [], codes, false, if◌then◌else◌, not, true, ℕ}
-use Rattle.aho_core.specs.Patterns.{Patterns}
 use Rattle.acgrep.specs.Contexts.{TellsFile}
 use Rattle.acgrep.specs.Lines.{lines}
 use Rattle.acgrep.specs.Written.{IsAny, IsSelected, SomeLine, is_full}

@@ -1,8 +1,7 @@
 -- The colours that GREP_COLORS of the environment gives.
-use Rattle.std.specs.Char.{is_ascii_digit}
+use Rattle.acgrep.specs.Common.{bytes_eq, is_ascii_digit}
 use Rattle.std.specs.List.{after_first, before_first, position_or_len, slice_split}
 use Rattle.std.specs.Prelude.{◌&&◌, ◌==◌, ◌||◌, ◌∷◌, Bool, List, [], codes, false, if◌then◌else◌, length, nat_lt, true, ℕ}
-use Rattle.std.specs.Str.{bytes_eq}
 use Rattle.tool_parts.specs.ArgumentForms.{is_equals}
 use Rattle.acgrep.specs.declared.colors.Colors.{Colors}
 

@@ -1,11 +1,7 @@
 -- What is counted and written of the files that operands name.
-use Rattle.std.specs.Borrow.{Bor}
+use Rattle.acgrep.specs.Common.{Bor, Readers, Searcher, SinkGhosts, name_bytes}
 use Rattle.std.specs.Prelude.{◌<◌, List, ℕ}
-use Rattle.std.specs.declared.io.traits.Read.{Ghosts as Readers}
 use Rattle.aho_core.specs.Replacement.{pieces_of}
-use Rattle.aho_devices.specs.declared.device.Sink.{Ghosts as SinkGhosts}
-use Rattle.chromesquid.specs.Searcher.{Searcher}
-use Rattle.tool_parts.specs.Names.{name_bytes}
 use Rattle.acgrep.specs.Arguments.{Said}
 use Rattle.acgrep.specs.Folders.{known_by}
 use Rattle.acgrep.specs.Runs.{BeginsCounted, BeginsOrCounts, CountsReached, ReachesOrCounts}

@@ -1,5 +1,5 @@
 -- What a read puts behind the bytes that are held.
-use Rattle.std.specs.Io.KnownBytes.{Consumes, IsAtEnd}
+use Rattle.acgrep.specs.Common.{Consumes, IsAtEnd}
 use Rattle.std.specs.Prelude.{◌++◌, ◌∷◌, ◌≡◌, List, Option, [], drop, length, take, ℕ}
 use Rattle.acgrep.specs.declared.buffer.Buffer.{Buffer}
 use Rattle.acgrep.specs.declared.held.Held.{Held}

@@ -1,11 +1,11 @@
 -- Which files the operands of a recursive search name.
+use Rattle.acgrep.specs.Common.{bytes_eq, is_input}
 use Rattle.std.specs.Cmp.Lexicographic.{slice_cmp}
 use Rattle.std.specs.List.{ends_with}
 use Rattle.std.specs.List.Sorted.{IsPermutation, IsSorted}
 use Rattle.std.specs.Ordering.{nat_cmp}
 use Rattle.std.specs.Prelude.{◌&&◌, ◌++◌, ◌||◌, ◌∷◌, ◌≡◌, ◌⊎◌, Bool, IfSome, List, MatchBool, None, Option, [], codes, false, if◌then◌else◌, map, nat_eq, not, true, unwrap_or, ℕ}
-use Rattle.std.specs.Str.{IsUtf8, bytes_eq}
-use Rattle.tool_parts.specs.Names.{is_input}
+use Rattle.std.specs.Str.{IsUtf8}
 use Rattle.acgrep.specs.Listed.{listed_bytes}
 use Rattle.acgrep.specs.Rules.{RuleSaid, is_left_out, without_slashes}
 use Rattle.acgrep.specs.declared.folders.Folders.{Ghosts as FolderGhosts}

@@ -1,5 +1,6 @@
 -- The format by which a match is written: bytes, and fields in braces.
-use Rattle.std.specs.List.{flat_map, starts_with}
+use Rattle.acgrep.specs.Common.{flat_map}
+use Rattle.std.specs.List.{starts_with}
 use Rattle.std.specs.Prelude.{◌-◌, ◌==◌, ◌||◌, ◌∷◌, List, None, Option, Some, [], codes, if◌then◌else◌, nat_eq, option_and_then, option_map, suc, zero, ℕ}
 use Rattle.acgrep.specs.declared.format.Front.{Front}
 use Rattle.acgrep.specs.declared.format.Piece.{Piece}

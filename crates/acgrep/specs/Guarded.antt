@@ -1,7 +1,6 @@
 -- How lines are searched up to the first that holds a zero byte, and then those from it on.
-use Rattle.std.specs.Io.KnownBytes.{Appends, Consumes, IsAtEnd}
+use Rattle.acgrep.specs.Common.{Appends, Consumes, IsAtEnd, Patterns}
 use Rattle.std.specs.Prelude.{◌++◌, ◌==◌, ◌∷◌, ◌≡◌, ◌⊎◌, Bool, List, MatchBool, None, Option, Some, [], drop, false, take, true, ℕ}
-use Rattle.aho_core.specs.Patterns.{Patterns}
 use Rattle.acgrep.specs.Binary.{is_text}
 use Rattle.acgrep.specs.Lines.{lines}
 use Rattle.acgrep.specs.Streamed.{Course, ReadsSome, SearchesBehind, TextIf}

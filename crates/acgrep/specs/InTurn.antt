@@ -1,5 +1,5 @@
 -- Files that are searched one after another, whatever is searched for in them.
-use Rattle.std.specs.Io.KnownBytes.{Keeps}
+use Rattle.acgrep.specs.Common.{Keeps}
 use Rattle.std.specs.Prelude.{◌||◌, ◌∷◌, ◌≡◌, ◌⊎◌, Bool, List, MatchBool, Option, [], false, if◌then◌else◌, true, ℕ}
 use Rattle.tool_parts.specs.Answers.{status_of}
 use Rattle.acgrep.specs.declared.files.Outcome.{Outcome}

@@ -5,6 +5,7 @@ pub mod Begun
 pub mod Beside
 pub mod Binary
 pub mod Colors
+pub mod Common
 pub mod Contexts
 pub mod Counted
 pub mod Files

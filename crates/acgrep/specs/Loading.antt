@@ -1,6 +1,6 @@
 -- What a source adds to the patterns that were read before.
+use Rattle.acgrep.specs.Common.{Readers}
 use Rattle.std.specs.Prelude.{◌++◌, ◌∷◌, ◌≡◌, List, MatchBool, Option, Vec, [], true, ℕ}
-use Rattle.std.specs.declared.io.traits.Read.{Ghosts as Readers}
 use Rattle.acgrep.specs.Arguments.{Origin}
 use Rattle.acgrep.specs.Gathered.{Adds, AllGive}
 use Rattle.acgrep.specs.Lines.{lines}

@@ -1,7 +1,8 @@
 -- The long names of options, and what they mean.
+use Rattle.acgrep.specs.Common.{meant}
 use Rattle.std.specs.Prelude.{◌∷◌, List, Option, [], codes, ℕ}
 use Rattle.std.specs.Result.{result_ok}
-use Rattle.tool_parts.specs.OptionNames.{Named, found_among, meant, named, named_either}
+use Rattle.tool_parts.specs.OptionNames.{Named, found_among, named, named_either}
 use Rattle.tool_parts.specs.declared.options.found.Found.{Found}
 use Rattle.tool_parts.specs.declared.options.found.Found.TheVariants.{Begun, Several, Unknown, Whole}
 use Rattle.acgrep.specs.declared.long.Long.{Long}

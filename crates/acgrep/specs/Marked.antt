@@ -1,12 +1,8 @@
 -- What is written of a line that rules mark.
+use Rattle.acgrep.specs.Common.{Appends, Occurrence, Rule, SinkGhosts, flat_map}
 use Rattle.std.specs.Borrow.{MutBor}
-use Rattle.std.specs.Io.KnownBytes.{Appends}
-use Rattle.std.specs.List.{flat_map}
 use Rattle.std.specs.Prelude.{◌%◌, ◌&&◌, ◌++◌, ◌+◌, ◌==◌, ◌^◌, ◌||◌, ◌∷◌, ◌≡◌, ◌⊎◌, Bool, List, None, Option, Some, [], codes, false, if◌then◌else◌, length, not, slice_get, string_bytes, true, ℕ}
-use Rattle.aho_core.specs.Occurrence.{Occurrence}
 use Rattle.aho_devices.specs.Counts.{AppendsBeginning}
-use Rattle.aho_devices.specs.declared.device.Sink.{Ghosts as SinkGhosts}
-use Rattle.secret_rules.specs.declared.rule.Rule.{Rule}
 use Rattle.acgrep.specs.Objects.{FieldsTold, bytes_named, fields_by, json_escaped, number_named}
 use Rattle.acgrep.specs.Printed.{line_by, matches_by}
 use Rattle.acgrep.specs.Written.{needs_one, one_more}

@@ -1,10 +1,8 @@
 -- What is written of files whose lines rules mark, one after another.
+use Rattle.acgrep.specs.Common.{Appends, Occurrence, Rule, SinkGhosts, is_input}
 use Rattle.std.specs.Io.{StartsWith}
-use Rattle.std.specs.Io.KnownBytes.{Appends}
 use Rattle.std.specs.Prelude.{◌&&◌, ◌++◌, ◌||◌, ◌≡◌, ◌⊎◌, Bool, IfSome, List, MatchBool, OnOk, Option, Result, [], false, map, nat_lt, true, ℕ}
 use Rattle.aho_automaton.specs.declared.automaton.Automaton.{Ghosts as Automata}
-use Rattle.aho_core.specs.Occurrence.{Occurrence}
-use Rattle.aho_devices.specs.declared.device.Sink.{Ghosts as SinkGhosts}
 use Rattle.aho_devices.specs.declared.device.Source.{Ghosts as SourceGhosts}
 use Rattle.aho_stream.specs.Replacing.{MayBe, SourceGave}
 use Rattle.secret_rules.specs.Covering.{AreLineRuns, Covering, covering_by, seen_line}
@@ -14,8 +12,6 @@ use Rattle.secret_rules.specs.Ready.{CanCoverLines, CoversTheSame, most_of, rule
 use Rattle.secret_rules.specs.Visits.{AreFirstLines}
 use Rattle.secret_rules.specs.declared.error.LineError.{LineError}
 use Rattle.secret_rules.specs.declared.line_cover.LineCover.{LineCover}
-use Rattle.secret_rules.specs.declared.rule.Rule.{Rule}
-use Rattle.tool_parts.specs.Names.{is_input}
 use Rattle.acgrep.specs.Files.{BeginsTotal, EndsFile, IsNamed, known_of, shown_name, total_if}
 use Rattle.acgrep.specs.InTurn.{AreBegun, AreDoneOr, FileWork, IfBroken, IfSearched}
 use Rattle.acgrep.specs.Marked.{FileAsked, marked_lines, pass_after}

@@ -1,10 +1,6 @@
 -- The matches of a line as they are written: in the line in colour, each on a line of its own, or each with its fields.
-use Rattle.std.specs.Io.KnownBytes.{Appends}
+use Rattle.acgrep.specs.Common.{Appends, IsBuiltFrom, Occurrence, Patterns, Searcher, Writers}
 use Rattle.std.specs.Prelude.{List, OnOk, Option, Result, [], length, ℕ}
-use Rattle.std.specs.declared.io.traits.Write.{Ghosts as Writers}
-use Rattle.aho_core.specs.Occurrence.{Occurrence}
-use Rattle.aho_core.specs.Patterns.{Patterns}
-use Rattle.chromesquid.specs.Searcher.{IsBuiltFrom, Searcher}
 use Rattle.acgrep.specs.Alone.{AreShownOf}
 use Rattle.acgrep.specs.Objects.{object_by, objects_by}
 use Rattle.acgrep.specs.Printed.{behind_match, colored_by, colored_from, colored_line_by, match_by, matches_by, part_of}

@@ -1,13 +1,10 @@
 -- Which mistake is told of wrong arguments: the first one, in order.
-use Rattle.std.specs.Char.{is_ascii_digit}
+use Rattle.acgrep.specs.Common.{Errors, SinkGhosts, is_ascii_digit, meant}
 use Rattle.std.specs.List.{concat}
 use Rattle.std.specs.Prelude.{◌++◌, ◌==◌, ◌||◌, ◌∷◌, ◌≡◌, ◌⊎◌, Err, IfErr, List, None, Ok, Option, Result, Some, [], codes, if◌then◌else◌, ℕ}
-use Rattle.aho_devices.specs.declared.device.Sink.{Ghosts as SinkGhosts}
 use Rattle.tool_parts.specs.ArgumentForms.{Form, argument_form, joined_letters, long_name, long_with}
 use Rattle.tool_parts.specs.Messages.{message_by, reason_text}
-use Rattle.tool_parts.specs.OptionNames.{meant}
 use Rattle.tool_parts.specs.Telling.{TellsBytes}
-use Rattle.tool_parts.specs.declared.errors.Errors.{Errors}
 use Rattle.tool_parts.specs.declared.options.found.NotFound.{NotFound}
 use Rattle.tool_parts.specs.declared.options.misuse.Misuse.TheVariants.{NoArgument, NotFound as NoName, TakesNone, UnknownLetter}
 use Rattle.tool_parts.specs.declared.reason.Reason.TheVariants.{OutOfMemory as NoMemory}

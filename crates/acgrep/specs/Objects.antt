@@ -1,8 +1,7 @@
 -- What is written of a match with its fields: as a JSON object, or by a format.
-use Rattle.std.specs.List.{flat_map}
+use Rattle.acgrep.specs.Common.{Occurrence, flat_map}
 use Rattle.std.specs.Prelude.{◌%◌, ◌++◌, ◌+◌, ◌/◌, ◌==◌, ◌∷◌, List, [], codes, decimal, if◌then◌else◌, nat_lt, ℕ}
 use Rattle.std.specs.Str.{is_utf8}
-use Rattle.aho_core.specs.Occurrence.{Occurrence}
 use Rattle.base64.specs.Engines.{standard}
 use Rattle.base64.specs.GeneralPurpose.{encode_of}
 use Rattle.acgrep.specs.Printed.{line_number_at, offset_at, part_of}

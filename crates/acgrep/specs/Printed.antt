@@ -1,10 +1,7 @@
 -- What is written of a line, with what stands before it.
-use Rattle.std.specs.Io.KnownBytes.{Appends}
+use Rattle.acgrep.specs.Common.{Appends, Occurrence, Writers, flat_map}
 use Rattle.std.specs.Iterator.Runs.{WholeRun}
-use Rattle.std.specs.List.{flat_map}
 use Rattle.std.specs.Prelude.{◌%◌, ◌&&◌, ◌++◌, ◌+◌, ◌==◌, ◌^◌, ◌||◌, ◌∷◌, Bool, List, OnOk, Option, Result, [], codes, decimal, if◌then◌else◌, length, nat_le, nat_lt, slice_range, ℕ}
-use Rattle.std.specs.declared.io.traits.Write.{Ghosts as Writers}
-use Rattle.aho_core.specs.Occurrence.{Occurrence}
 use Rattle.acgrep.specs.declared.colors.Colors.{Colors}
 use Rattle.acgrep.specs.declared.print.Place.{Place}
 use Rattle.acgrep.specs.declared.print.Style.{Style}

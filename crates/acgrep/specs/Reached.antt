@@ -1,12 +1,7 @@
 -- What is searched and told of the files that operands name.
-use Rattle.std.specs.Borrow.{Bor}
+use Rattle.acgrep.specs.Common.{Bor, Errors, Readers, Searcher, SinkGhosts, name_bytes}
 use Rattle.std.specs.Prelude.{◌<◌, ◌≡◌, ◌⊎◌, Bool, List, false, length, true, ℕ}
-use Rattle.std.specs.declared.io.traits.Read.{Ghosts as Readers}
-use Rattle.aho_devices.specs.declared.device.Sink.{Ghosts as SinkGhosts}
-use Rattle.chromesquid.specs.Searcher.{Searcher}
-use Rattle.tool_parts.specs.Names.{name_bytes}
 use Rattle.tool_parts.specs.Telling.{Tells, TellsSome}
-use Rattle.tool_parts.specs.declared.errors.Errors.{Errors}
 use Rattle.acgrep.specs.Arguments.{Said}
 use Rattle.acgrep.specs.Folders.{known_by}
 use Rattle.acgrep.specs.Runs.{SearchesReached}

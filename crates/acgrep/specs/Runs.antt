@@ -1,13 +1,10 @@
 -- What a call searches for and in which files, by what its arguments say.
-use Rattle.std.specs.Io.KnownBytes.{Appends, Consumes, IsAtEnd, Keeps}
+use Rattle.acgrep.specs.Common.{Appends, Consumes, IsAtEnd, Keeps, LeftmostLongest, Patterns, bytes_eq, is_input}
 use Rattle.std.specs.Prelude.{◌%◌, ◌&&◌, ◌++◌, ◌+◌, ◌-◌, ◌==◌, ◌^◌, ◌||◌, ◌∷◌, ◌≡◌, ◌⊎◌, Bool, IfSome, List, MatchBool, None, Option, Some, Vec, [], codes, false, if◌then◌else◌, length, map, nat_lt, not, true, unwrap_or, ℕ}
-use Rattle.std.specs.Str.{bytes_eq}
-use Rattle.aho_core.specs.Patterns.{Patterns}
 use Rattle.aho_core.specs.declared.search.MatchKind.{MatchKind}
-use Rattle.aho_core.specs.declared.search.MatchKind.TheVariants.{LeftmostLongest}
 use Rattle.aho_devices.specs.Counts.{AppendsBeginning}
 use Rattle.tool_parts.specs.Building.{patterns_by_kind}
-use Rattle.tool_parts.specs.Names.{is_input, or_input}
+use Rattle.tool_parts.specs.Names.{or_input}
 use Rattle.acgrep.specs.Arguments.{Origin, Said, asks_counts, context_by, ending_by, fit_by, origin_of, said_by, shown_by, ways_by}
 use Rattle.acgrep.specs.Beside.{unfit_said}
 use Rattle.acgrep.specs.Binary.{is_guarded, takes_text, writes_lines}

@@ -1,18 +1,11 @@
 -- What a call does by rules, by what its arguments say.
-use Rattle.std.specs.Borrow.{Bor}
-use Rattle.std.specs.Io.KnownBytes.{Keeps}
+use Rattle.acgrep.specs.Common.{Bor, Keeps, Patterns, Readers, Rule, SinkGhosts, bytes_eq, name_bytes}
 use Rattle.std.specs.Prelude.{◌++◌, ◌<◌, ◌==◌, ◌≡◌, ◌⊎◌, Bool, List, MatchBool, Option, [], codes, decimal, false, if◌then◌else◌, unwrap_or, ℕ}
-use Rattle.std.specs.Str.{bytes_eq}
-use Rattle.std.specs.declared.io.traits.Read.{Ghosts as Readers}
 use Rattle.aho_automaton.specs.declared.automaton.Automaton.{Ghosts as Automata}
-use Rattle.aho_core.specs.Patterns.{Patterns}
 use Rattle.aho_core.specs.declared.search.MatchKind.TheVariants.{Standard}
-use Rattle.aho_devices.specs.declared.device.Sink.{Ghosts as SinkGhosts}
 use Rattle.secret_rules.specs.Covering.{Covering, covering_by}
 use Rattle.secret_rules.specs.Rules.{AreSound}
 use Rattle.secret_rules.specs.Tables.{TellsRules}
-use Rattle.secret_rules.specs.declared.rule.Rule.{Rule}
-use Rattle.tool_parts.specs.Names.{name_bytes}
 use Rattle.acgrep.specs.Arguments.{Said}
 use Rattle.acgrep.specs.Folders.{Known, known_by}
 use Rattle.acgrep.specs.Gathered.{AllGive}

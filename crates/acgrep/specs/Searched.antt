@@ -1,12 +1,6 @@
 -- What searching does, whatever patterns the searcher was built from.
-use Rattle.std.specs.Borrow.{Bor}
-use Rattle.std.specs.Io.KnownBytes.{Appends}
+use Rattle.acgrep.specs.Common.{Appends, Bor, IsBuiltFrom, Patterns, Readers, Searcher, SinkGhosts, Writers}
 use Rattle.std.specs.Prelude.{◌∷◌, ◌≡◌, Bool, IfOk, List, OnErr, OnOk, Option, Result, [], ℕ}
-use Rattle.std.specs.declared.io.traits.Read.{Ghosts as Readers}
-use Rattle.std.specs.declared.io.traits.Write.{Ghosts as Writers}
-use Rattle.aho_core.specs.Patterns.{Patterns}
-use Rattle.aho_devices.specs.declared.device.Sink.{Ghosts as SinkGhosts}
-use Rattle.chromesquid.specs.Searcher.{IsBuiltFrom, Searcher}
 use Rattle.acgrep.specs.Contexts.{BeginsLines, BeginsSearched, IsChosenBy, SearchesText, ShowsEach, ShowsGroup, WalksBegun, WalksLines, WalksText, walk_of}
 use Rattle.acgrep.specs.Files.{BeginsFile, SearchesReader}
 use Rattle.acgrep.specs.Filled.{bytes_buffered}

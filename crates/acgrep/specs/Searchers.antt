@@ -1,6 +1,5 @@
 -- What holds of the patterns that the searcher of a call was built from.
-use Rattle.aho_core.specs.Patterns.{Patterns}
-use Rattle.chromesquid.specs.Searcher.{IsBuiltFrom, Searcher}
+use Rattle.acgrep.specs.Common.{IsBuiltFrom, Patterns, Searcher}
 use Rattle.acgrep.specs.Arguments.{ending_by}
 use Rattle.acgrep.specs.Selected.{ForLines}
 use Rattle.acgrep.specs.declared.options.Flags.{Flags}

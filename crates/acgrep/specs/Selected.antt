@@ -1,10 +1,9 @@
 -- Which lines of a text are selected.
+use Rattle.acgrep.specs.Common.{Occurrence, OccursIn, Patterns, plain_search}
 use Rattle.std.specs.Prelude.{◌-◌, ◌<◌, ◌≡◌, ◌≢◌, ◌≤◌, List, None, Option, Some, false, length, slice_index, ℕ}
 use Rattle.aho_core.specs.Bytes.{folded}
-use Rattle.aho_core.specs.Occurrence.{Occurrence}
-use Rattle.aho_core.specs.Occurs.{Occurs, OccursIn}
-use Rattle.aho_core.specs.Patterns.{Patterns, pattern_at}
-use Rattle.aho_core.specs.Search.{plain_search}
+use Rattle.aho_core.specs.Occurs.{Occurs}
+use Rattle.aho_core.specs.Patterns.{pattern_at}
 use Rattle.aho_core.specs.declared.search.Anchored.TheVariants.{No}
 use Rattle.aho_core.specs.declared.search.Span.{Span}
 use Rattle.memchr.specs.Find.{Nowhere}

@@ -1,9 +1,6 @@
 -- What is written of all that a reader gives.
-use Rattle.std.specs.Io.KnownBytes.{Consumes, IsAtEnd}
+use Rattle.acgrep.specs.Common.{Consumes, IsAtEnd, Patterns, Readers, SinkGhosts}
 use Rattle.std.specs.Prelude.{◌++◌, ◌≡◌, ◌⊎◌, Bool, IfSome, List, Option, [], true, ℕ}
-use Rattle.std.specs.declared.io.traits.Read.{Ghosts as Readers}
-use Rattle.aho_core.specs.Patterns.{Patterns}
-use Rattle.aho_devices.specs.declared.device.Sink.{Ghosts as SinkGhosts}
 use Rattle.acgrep.specs.Binary.{is_text, lines_by}
 use Rattle.acgrep.specs.Contexts.{BeginsSearched, SearchesText}
 use Rattle.acgrep.specs.Lines.{EndsLine}

@@ -1,16 +1,15 @@
 -- What is told on standard error.
+use Rattle.acgrep.specs.Common.{Errors, SinkGhosts}
 use Rattle.std.specs.List.{concat}
 use Rattle.std.specs.Prelude.{◌++◌, ◌<◌, ◌∷◌, ◌≡◌, ◌⊎◌, Bool, IfSome, List, MatchBool, None, Option, Some, [], codes, false, if◌then◌else◌, map, true, ℕ}
 use Rattle.std.specs.Str.{is_utf8}
 use Rattle.aho_core.specs.Texts.{build_error_text, match_error_text}
 use Rattle.aho_core.specs.declared.error.BuildError.{BuildError}
 use Rattle.aho_core.specs.declared.error.MatchErrorKind.{MatchErrorKind}
-use Rattle.aho_devices.specs.declared.device.Sink.{Ghosts as SinkGhosts}
 use Rattle.tool_parts.specs.Messages.{Message, message_by, reason_text}
 use Rattle.tool_parts.specs.Misuses.{text_before, text_behind}
 use Rattle.tool_parts.specs.Names.{IsOneOf, or_input}
 use Rattle.tool_parts.specs.Telling.{Tells, TellsBytes, TellsSome}
-use Rattle.tool_parts.specs.declared.errors.Errors.{Errors}
 use Rattle.tool_parts.specs.declared.options.misuse.Misuse.{Misuse}
 use Rattle.tool_parts.specs.declared.options.misuse.Misuse.TheVariants.{NoArgument as Unargued, NotFound as NoName, TakesNone as Argued, UnknownLetter as NoLetter}
 use Rattle.tool_parts.specs.declared.reason.Reason.{Reason}

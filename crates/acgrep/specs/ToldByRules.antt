@@ -1,13 +1,12 @@
 -- What is told of a call by rules.
+use Rattle.acgrep.specs.Common.{Errors, SinkGhosts}
 use Rattle.std.specs.Prelude.{◌≡◌, ◌⊎◌, List, None, Some, codes, ℕ}
 use Rattle.aho_core.specs.Texts.{build_error_text}
 use Rattle.aho_core.specs.declared.error.BuildError.{BuildError}
-use Rattle.aho_devices.specs.declared.device.Sink.{Ghosts as SinkGhosts}
 use Rattle.rule_files.specs.Flaws.{IsFaultLine, IsFlawedLine}
 use Rattle.rule_files.specs.declared.fault.TextFault.{TextFault}
 use Rattle.rule_files.specs.declared.flaw.BadRule.{BadRule}
 use Rattle.tool_parts.specs.Messages.{message_of}
-use Rattle.tool_parts.specs.declared.errors.Errors.{Errors}
 use Rattle.acgrep.specs.Arguments.{Said}
 use Rattle.acgrep.specs.RunsByRules.{unwritten_line}
 use Rattle.acgrep.specs.Told.{IsMessage, TellsStatus}

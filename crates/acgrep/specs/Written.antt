@@ -1,10 +1,6 @@
 -- What is written of the lines of a text, one after another.
-use Rattle.std.specs.Io.KnownBytes.{Appends}
+use Rattle.acgrep.specs.Common.{Appends, Occurrence, OccursIn, Patterns, plain_search}
 use Rattle.std.specs.Prelude.{◌%◌, ◌&&◌, ◌++◌, ◌+◌, ◌-◌, ◌<◌, ◌^◌, ◌∷◌, ◌≡◌, ◌≤◌, ◌⊎◌, Bool, List, MatchBool, None, Option, Some, [], drop, false, if◌then◌else◌, length, min, nat_le, nat_lt, not, true, ℕ, ⊤}
-use Rattle.aho_core.specs.Occurrence.{Occurrence}
-use Rattle.aho_core.specs.Occurs.{OccursIn}
-use Rattle.aho_core.specs.Patterns.{Patterns}
-use Rattle.aho_core.specs.Search.{plain_search}
 use Rattle.acgrep.specs.Alone.{AreShownOf, IsAloneFrom}
 use Rattle.acgrep.specs.Lines.{EndsLine, lines}
 use Rattle.acgrep.specs.Objects.{objects_by}

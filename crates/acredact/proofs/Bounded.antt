@@ -1,38 +1,19 @@
 -- No number grows by more than was read.
+use Rattle.acredact.proofs.Common.{Bor, CanBegin, Consumes, Consumes-nil, CountsRunsWith, CountsThese, Ghosts, Keeps, Memory, MutBor, Occurrence, Patterns, PieceRule, SinkGhosts, SourceGhosts, StreamError, Volume, all-covers, all-made, all_runs, counted, finds-exist, is_input, length-replicate, plain_search, runs_named}
 use Rattle.std.proofs.Common.{◌≡◌, inl, inr, ℕ, ◌+◌, ◌<◌, ◌≤◌, Bool, List, [], ◌∷◌, ◌++◌, Option, true, false, length, map, refl, sym, ap, subst, ◌∙◌, arith, length-append, le_refl}
 use Rattle.std.specs.Prelude.{None, Some, Ok, Err, Result, MatchBool, nat_eq, not, replicate}
-use Rattle.std.specs.Io.KnownBytes.{Consumes, Keeps}
-use Rattle.std.proofs.lemmas.List.{length-replicate}
 use Rattle.std.proofs.lemmas.List.Filters.{length-filter_both}
 use Rattle.std.specs.Fn.{Mut}
 use Rattle.aho_core.specs.ClosureRun.{CalledOn}
-use Rattle.aho_core.specs.Occurrence.{Occurrence}
-use Rattle.aho_core.specs.Patterns.{Patterns}
-use Rattle.aho_core.specs.declared.error.stream.StreamError.{StreamError}
-use Rattle.aho_core.specs.declared.error.stream.StreamError.TheVariants.{Memory}
-use Rattle.aho_core.specs.Search.{plain_search}
-use Rattle.aho_automaton.specs.declared.automaton.Automaton.{Ghosts}
-use Rattle.aho_cover.proofs.Chosen.{all-covers, all-made}
-use Rattle.aho_devices.specs.Counts.{counted}
-use Rattle.std.specs.Borrow.{Bor, MutBor}
-use Rattle.std.proofs.KnownBytes.{Consumes-nil}
 use Rattle.aho_laws.specs.CoverLaws.{AreInOrder}
-use Rattle.aho_laws.proofs.Iterations.{finds-exist}
 use Rattle.aho_laws.proofs.SettledRuns.{few-open}
-use Rattle.aho_cover.specs.Counting.{CountsThese, runs_named}
-use Rattle.aho_cover.specs.Covers.{CountsRunsWith, CountsWrittenWith, LeavesCountedWith}
-use Rattle.aho_cover.specs.Pieces.{PieceRule}
-use Rattle.aho_cover.specs.Words.{all_runs}
-use Rattle.aho_devices.specs.declared.device.Sink.{Ghosts as SinkGhosts}
-use Rattle.aho_devices.specs.declared.device.Source.{Ghosts as SourceGhosts}
-use Rattle.aho_stream.specs.StreamRun.{CanBegin, RefusesAllUntouched, RunsAndLeaves, RunsLent}
-use Rattle.tool_parts.specs.Names.{is_input}
+use Rattle.aho_cover.specs.Covers.{CountsWrittenWith, LeavesCountedWith}
+use Rattle.aho_stream.specs.StreamRun.{RefusesAllUntouched, RunsAndLeaves, RunsLent}
 use Rattle.acredact.specs.Bounds.{Bounded, GrowAtMost, NumbersGiven, NumbersOfAll, NumbersOfName, NumbersRead, ReadInAll, ReadsSome}
 use Rattle.acredact.specs.Metering.{IsMetered, settled_left}
 use Rattle.acredact.specs.Secrets.{Redactor}
 use Rattle.acredact.specs.Streams.{StartsStream}
 use Rattle.acredact.specs.Volumes.{files_with}
-use Rattle.acredact.specs.declared.summary.Volume.{Volume}
 use Rattle.acredact.proofs.Counted.{has_counted, no_more}
 use Rattle.acredact.proofs.Covered.{few_from}
 use Rattle.acredact.proofs.Metering.{consumes_settled, metered_added}

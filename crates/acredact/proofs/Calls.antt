@@ -1,20 +1,9 @@
 -- What comes of a call, by what comes of its files.
+use Rattle.acredact.proofs.Common.{All, All-append, All-cons, All-head, All-nil, All-tail, Errors, Failure, Folders, FromWrite, Memory, Other, OutOfMemory, PositionLimit, Read, Readers, Rule, SinkGhosts, StreamError, Streams, Tells, TellsBytes, TellsSome, Volume, Write, WriteZero, Writers, bytes_left, concat, failure_of_stream, output_bytes, tells-later, tells-nothing}
 use Rattle.std.proofs.Common.{◌≡◌, inl, inr, ℕ, List, [], ◌∷◌, ◌++◌, Option, true, false, refl, sym, ap, subst, ◌∙◌, append-nil}
 use Rattle.std.specs.Prelude.{◌⊎◌, Bool, MatchBool, Result, Ok, Err, IfErr, IfOk, OnOk}
-use Rattle.std.specs.List.{All, concat}
-use Rattle.std.specs.declared.io.traits.Read.{Ghosts as Readers}
-use Rattle.std.specs.declared.io.traits.Write.{Ghosts as Writers}
-use Rattle.std.proofs.lemmas.List.Elements.{All-append, All-cons, All-head, All-nil, All-tail, All-weaker}
-use Rattle.aho_core.specs.declared.error.stream.StreamError.{StreamError}
-use Rattle.aho_core.specs.declared.error.stream.StreamError.TheVariants.{Match, Read, Write, WriteZero, Memory, PositionLimit}
-use Rattle.aho_devices.specs.declared.adapters.FromWrite.{FromWrite}
-use Rattle.aho_devices.specs.declared.device.Sink.{Ghosts as SinkGhosts}
-use Rattle.tool_parts.specs.Failures.{failure_of_stream}
-use Rattle.tool_parts.specs.Streams.{bytes_left, output_bytes}
-use Rattle.tool_parts.specs.Telling.{Tells, TellsBytes, TellsSome}
-use Rattle.tool_parts.specs.declared.errors.Errors.{Errors}
-use Rattle.tool_parts.specs.declared.failure.Failure.TheVariants.{OutOfMemory}
-use Rattle.tool_parts.proofs.Tellings.{tells-later, tells-nothing}
+use Rattle.std.proofs.lemmas.List.Elements.{All-weaker}
+use Rattle.aho_core.specs.declared.error.stream.StreamError.TheVariants.{Match}
 use Rattle.acredact.specs.Arguments.{Given, counts_asked}
 use Rattle.acredact.specs.Calls.{AreBounded, Call, CallOutcome, CannotLoadCall, IsCountsFailure, IsCountsLine, IsLineOf, IsRunFailure, IsUnreadLine, IsWordLine, MayFail, OutputFails, RestOutcome, TellsCounts, TellsNumbers, call_of, names_asked, reading_by, work_by}
 use Rattle.acredact.specs.Builds.{patterns_by_given}
@@ -28,13 +17,7 @@ use Rattle.acredact.specs.Sums.{sums_of}
 use Rattle.acredact.specs.Tables.{Secret, patterns_in, secrets_of}
 use Rattle.acredact.specs.Totals.{CountsOfNames}
 use Rattle.acredact.specs.Volumes.{ReadsVolume}
-use Rattle.acredact.specs.declared.failure.Failure.{Failure}
-use Rattle.acredact.specs.declared.failure.Failure.TheVariants.{Other}
 use Rattle.acredact.specs.declared.files.Job.{Job}
-use Rattle.acredact.specs.declared.folder.Folder.{Ghosts as Folders}
-use Rattle.acredact.specs.declared.patterns.Rule.{Rule}
-use Rattle.acredact.specs.declared.streams.Streams.{Streams}
-use Rattle.acredact.specs.declared.summary.Volume.{Volume}
 use Rattle.acredact.proofs.Done.{concat_both, cut_of, redacted_of}
 use Rattle.acredact.proofs.Totals.{totals_told}
 

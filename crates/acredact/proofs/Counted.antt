@@ -1,34 +1,18 @@
 -- What a replacement by a closure writes, where the closure writes the piece of each match.
+use Rattle.acredact.proofs.Common.{Appends, Appends-nil, Appends-trans, AreFinds, Bor, CanBegin, Consumes-nil, CountsThese, Ghosts, IsFillRefusal, Memory, MutBor, Occurrence, Patterns, PositionLimit, Read, Refused, SinkGhosts, SourceGave, SourceGhosts, StartsWith, StreamError, counted, counts_none, counts_then, finds-exist, is_read_fault, is_write_fault, is_write_of_nothing, plain_search, shortest}
 use Rattle.std.proofs.Common.{inl, inr, ◌≡◌, ◌⊎◌, ℕ, ◌≤◌, Bool, true, false, List, [], ◌∷◌, ◌++◌, Option, length, map, take, drop, refl, sym, ap, subst, ◌∙◌, append-nil, le_refl}
 use Rattle.std.specs.Prelude.{None, Some, Result, Ok, Err, IfErr, MatchBool, OnErr, OnOk, ◌&&◌, slice_index_or, slice_range}
-use Rattle.std.specs.Borrow.{Bor, MutBor}
 use Rattle.std.specs.Fn.{Mut}
-use Rattle.std.specs.Io.{StartsWith}
-use Rattle.std.specs.Io.KnownBytes.{Appends}
-use Rattle.std.proofs.KnownBytes.{Appends-nil, Appends-trans, Consumes-nil}
 use Rattle.std.proofs.lemmas.List.{append_cancel_left, length-take-le}
 use Rattle.std.proofs.Math.Bool.{and-false}
 use Rattle.aho_core.specs.ClosureRun.{CalledOn, ClosureRun}
-use Rattle.aho_core.specs.Iteration.{AreFinds}
-use Rattle.aho_core.specs.Laws.{shortest}
-use Rattle.aho_core.specs.Occurrence.{Occurrence}
-use Rattle.aho_core.specs.Patterns.{Patterns}
 use Rattle.aho_core.specs.Replacement.{replaced, replaced_from}
-use Rattle.aho_core.specs.Search.{plain_search}
-use Rattle.aho_core.specs.declared.error.stream.StreamError.{StreamError}
-use Rattle.aho_core.specs.declared.error.stream.StreamError.TheVariants.{Match as Refused, Memory, PositionLimit, Read}
-use Rattle.aho_devices.specs.Counts.{AppendsBeginning, counted}
-use Rattle.aho_devices.specs.Refusals.{IsFillRefusal, IsWriteRefusal, is_read_fault, is_write_fault, is_write_of_nothing}
-use Rattle.aho_devices.specs.declared.device.Sink.{Ghosts as SinkGhosts}
-use Rattle.aho_devices.specs.declared.device.Source.{Ghosts as SourceGhosts}
-use Rattle.aho_laws.proofs.Iterations.{finds-exist}
-use Rattle.aho_cover.specs.Counting.{CountsThese}
-use Rattle.aho_cover.proofs.Counted.{counts_none, counts_then}
-use Rattle.aho_automaton.specs.declared.automaton.Automaton.{Ghosts}
+use Rattle.aho_devices.specs.Counts.{AppendsBeginning}
+use Rattle.aho_devices.specs.Refusals.{IsWriteRefusal}
 use Rattle.aho_stream.specs.Refills.{is_limit}
-use Rattle.aho_stream.specs.Replacing.{MayBe, SourceGave}
+use Rattle.aho_stream.specs.Replacing.{MayBe}
 use Rattle.aho_stream.proofs.Called.{CalledOnFirst, run_calls}
-use Rattle.aho_stream.specs.StreamRun.{CallsOn, CanBegin, RunsAndLeaves, RunsLent, RunsOver, SinkTakes}
+use Rattle.aho_stream.specs.StreamRun.{CallsOn, RunsAndLeaves, RunsLent, RunsOver, SinkTakes}
 use Rattle.tool_parts.proofs.Beginnings.{beginning-later, beginning-more}
 use Rattle.acredact.specs.Faults.{IsStreamEnd}
 use Rattle.acredact.specs.Secrets.{BeginsRedaction, Redactor}

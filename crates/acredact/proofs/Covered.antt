@@ -1,17 +1,13 @@
 -- Each occurrence of a pattern shares a byte with a find, where no pattern is empty.
+use Rattle.acredact.proofs.Common.{AreFinds, No, Occurrence, Patterns, Standard, cases_lt, ne_eqb, shortest}
 use Rattle.std.proofs.Common.{◌≡◌, inl, inr, ℕ, ◌+◌, ◌≤◌, ◌<◌, Bool, false, List, [], ◌∷◌, length, map, Option, Some, None, refl, sym, subst, ap, arith, le_refl}
 use Rattle.std.specs.Prelude.{nat_eq, ◌&&◌}
-use Rattle.std.proofs.lemmas.Bool.{MatchBool-at_false, cases_lt, ne_eqb}
+use Rattle.std.proofs.lemmas.Bool.{MatchBool-at_false}
 use Rattle.aho_core.specs.Answer.{IsAnswer}
-use Rattle.aho_core.specs.Iteration.{AreFinds, IsNextFind, repeats_end}
-use Rattle.aho_core.specs.Laws.{shortest}
-use Rattle.aho_core.specs.Occurrence.{Occurrence}
+use Rattle.aho_core.specs.Iteration.{IsNextFind, repeats_end}
 use Rattle.aho_core.specs.Occurs.{Occurs}
 use Rattle.aho_core.specs.Order.{IsBefore}
-use Rattle.aho_core.specs.Patterns.{Patterns}
-use Rattle.aho_core.specs.declared.search.Anchored.TheVariants.{No}
 use Rattle.aho_core.specs.declared.search.MatchKind.{MatchKind}
-use Rattle.aho_core.specs.declared.search.MatchKind.TheVariants.{Standard}
 use Rattle.aho_stream.specs.After.{search_from}
 use Rattle.aho_stream.proofs.PatternLengths.{shortest_bounds}
 use Rattle.acredact.specs.Secrets.{IsTouched}

@@ -1,29 +1,12 @@
 -- What comes of files, one after another.
+use Rattle.acredact.proofs.Common.{Bor, Errors, FromWrite, Keeps, Keeps-refl, Readers, Reason, SinkGhosts, StreamError, Streams, TellsBytes, Write, WriteZero, Writers, bytes_left, concat, counted, is_write_fault, is_write_of_nothing, name_bytes, output_bytes, take-length, tells-later, tells-nothing}
 use Rattle.std.proofs.Common.{◌≡◌, inl, inr, ℕ, ◌≤◌, ◌-◌, List, [], ◌∷◌, ◌++◌, Option, true, false, length, take, drop, get_or, refl, sym, ap, subst, ◌∙◌, append-nil, append_assoc, arith}
 use Rattle.std.specs.Prelude.{Bool, ◌&&◌, None, Some, Ok, Err}
-use Rattle.std.specs.Borrow.{Bor}
-use Rattle.std.specs.Io.KnownBytes.{Keeps}
-use Rattle.std.specs.List.{concat}
-use Rattle.std.specs.declared.io.traits.Read.{Ghosts as Readers}
-use Rattle.std.specs.declared.io.traits.Write.{Ghosts as Writers}
-use Rattle.std.proofs.KnownBytes.{Keeps-refl, Keeps-trans}
-use Rattle.std.proofs.Math.Seq.{take-length}
-use Rattle.aho_core.specs.declared.error.stream.StreamError.{StreamError}
-use Rattle.aho_core.specs.declared.error.stream.StreamError.TheVariants.{Write, WriteZero}
-use Rattle.aho_devices.specs.Counts.{counted}
-use Rattle.aho_devices.specs.Refusals.{IsWriteRefusal, is_write_fault, is_write_of_nothing}
-use Rattle.aho_devices.specs.declared.adapters.FromWrite.{FromWrite}
-use Rattle.aho_devices.specs.declared.device.Sink.{Ghosts as SinkGhosts}
-use Rattle.tool_parts.specs.Names.{name_bytes}
-use Rattle.tool_parts.specs.Streams.{output_bytes, bytes_left}
-use Rattle.tool_parts.specs.Telling.{TellsBytes}
-use Rattle.tool_parts.specs.declared.errors.Errors.{Errors}
-use Rattle.tool_parts.specs.declared.reason.Reason.{Reason}
-use Rattle.tool_parts.proofs.Tellings.{tells-later, tells-nothing}
+use Rattle.std.proofs.KnownBytes.{Keeps-trans}
+use Rattle.aho_devices.specs.Refusals.{IsWriteRefusal}
 use Rattle.acredact.specs.Faults.{IsOutputEnd}
 use Rattle.acredact.specs.Files.{AreCut, AreDone, AreRedacted, FileOutcome, FilesOutcome, ToldOutcome, Work, are_none, unread_line}
 use Rattle.acredact.specs.Messages.{output_line}
-use Rattle.acredact.specs.declared.streams.Streams.{Streams}
 
 -- the lines of two
 pub concat_both : (xs ys : List (List ℕ)) → concat (xs ++ ys) ≡ concat xs ++ concat ys

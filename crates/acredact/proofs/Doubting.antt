@@ -1,15 +1,11 @@
 -- What is told of patterns of lists, one after another.
+use Rattle.acredact.proofs.Common.{All, All-append, All-cons, All-nil, Rule, common_steps, concat, get_or-map, length-map, take_rest}
 use Rattle.std.proofs.Common.{◌≡◌, ℕ, ◌-◌, ◌≤◌, ◌<◌, List, [], ◌∷◌, ◌++◌, length, take, drop, get_or, true, sym, ap, subst, ◌∙◌, append_assoc, arith}
 use Rattle.std.specs.Prelude.{codes, nat_lt, slice_index_or}
-use Rattle.std.specs.List.{concat, All}
-use Rattle.std.proofs.lemmas.Grind.{common_steps}
-use Rattle.std.proofs.lemmas.List.Elements.{All-append, All-cons, All-nil}
-use Rattle.std.proofs.lemmas.List.{get_or-map, length-map, take_rest}
 use Rattle.acredact.specs.Arguments.{Given, all_given, given_of}
 use Rattle.acredact.specs.Doubts.{list_name}
 use Rattle.acredact.specs.Tables.{Secret, secret_of, secrets_of}
 use Rattle.acredact.specs.declared.options.Item.{Item}
-use Rattle.acredact.specs.declared.patterns.Rule.{Rule}
 use Rattle.acredact.proofs.Done.{concat_both}
 
 -- what is told of one more comes behind what is told of those before it

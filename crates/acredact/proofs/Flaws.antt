@@ -1,22 +1,15 @@
 -- Why a piece is not clean, and that it is clean where nothing is found.
+use Rattle.acredact.proofs.Common.{ArePatterns, Bor, IsCleanPiece, IsMember, NoneHolds, Patterns, Rule, folded_by, get_or-map, length-map, pattern_at, pieces_of}
 use Rattle.std.proofs.Common.{◌≡◌, inl, inr, ℕ, zero, suc, ◌+◌, ◌-◌, ◌<◌, ◌≤◌, List, [], ◌∷◌, ◌++◌, true, false, length, get_or, set, refl, sym, ap, subst, ◌∙◌, arith, length-append, map}
 use Rattle.std.specs.Prelude.{Bool}
-use Rattle.std.specs.Borrow.{Bor}
 use Rattle.std.proofs.Math.Seq.{get_or-append_seam}
 use Rattle.std.proofs.lemmas.Bool.{cases_eq}
-use Rattle.std.proofs.lemmas.List.{get_or-map, get_or-set_other, get_or-set_same, length-map}
-use Rattle.aho_core.specs.Bytes.{folded_by}
-use Rattle.aho_core.specs.Listing.{IsMember}
-use Rattle.aho_core.specs.Patterns.{Patterns, pattern_at}
-use Rattle.aho_core.specs.Replacement.{pieces_of}
-use Rattle.aho_laws.specs.CoverLaws.{AreClean, IsCleanPiece}
-use Rattle.aho_laws.specs.CutLaws.{NoneHolds}
-use Rattle.tool_parts.specs.Asked.{ArePatterns}
+use Rattle.std.proofs.lemmas.List.{get_or-set_other, get_or-set_same}
+use Rattle.aho_laws.specs.CoverLaws.{AreClean}
 use Rattle.acredact.specs.Pieces.{HoldNone, IsFlaw, IsHolder, IsMarked, IsUnclean, WordsAreMarked}
 use Rattle.acredact.specs.Secrets.{NoneOccurs}
 use Rattle.acredact.specs.Spelling.{HoldsByte}
 use Rattle.acredact.specs.Tables.{piece_by, secret_of, secrets_of}
-use Rattle.acredact.specs.declared.patterns.Rule.{Rule}
 use Rattle.acredact.specs.declared.clean.Flaw.{Flaw}
 use Rattle.acredact.specs.declared.clean.Flaw.TheVariants.{Empty, Pseudonym, Spells}
 

@@ -1,10 +1,9 @@
 -- Names of forms of forms.
+use Rattle.acredact.proofs.Common.{All-head, All-tail, Nested}
 use Rattle.std.proofs.Common.{◌≡◌, ℕ, Bool, false, List, [], ◌∷◌, ◌++◌, Option, refl, ap, ◌∙◌}
 use Rattle.std.specs.Prelude.{None, Some, nat_eq, option_and_then, option_map, if◌then◌else◌}
-use Rattle.std.proofs.lemmas.List.Elements.{All-head, All-tail}
 use Rattle.acredact.specs.Forms.{form_called, nested_by, nested_called, split_first}
 use Rattle.acredact.specs.Tables.{IsWithout}
-use Rattle.acredact.specs.declared.forms.Nested.{Nested}
 
 -- the first plus sign parts a name
 abbrev with_first : ℕ → Option (List ℕ × List ℕ) → Option (List ℕ × List ℕ)

@@ -1,15 +1,13 @@
 -- The forms of rules, one after another.
+use Rattle.acredact.proofs.Common.{All-cons, All-head, All-nil, Nested, Rule, map-append, take_rest}
 use Rattle.std.proofs.Common.{◌≡◌, ◌≤◌, ℕ, ◌+◌, ◌-◌, List, [], ◌∷◌, ◌++◌, length, map, take, drop, get_or, refl, sym, ap, subst, ◌∙◌, append-nil, append_assoc, arith}
 use Rattle.std.specs.Prelude.{Bool, true, false, nat_lt, None, Some, Result, Ok, Err, OnOk, flat_map, is_ok, if◌then◌else◌}
-use Rattle.std.proofs.lemmas.List.{map-append, take_rest}
-use Rattle.std.proofs.lemmas.List.Elements.{All-cons, All-head, All-nil, filter-append}
+use Rattle.std.proofs.lemmas.List.Elements.{filter-append}
 use Rattle.secret_forms.specs.Forms.{HidesForm}
 use Rattle.secret_forms.specs.declared.form.Form.{Form as SecretForm}
 use Rattle.acredact.specs.Forms.{AskedForms, HaveForms, HideSecrets, HidesNestedForm, HidesSecret, HidesTwice, asked_forms, filled, forms_asked, forms_from, forms_named, nested_named, once_patterns}
 use Rattle.acredact.specs.Tables.{Secret, secret_of, secrets_of}
 use Rattle.acredact.specs.declared.forms.Asked.{Asked}
-use Rattle.acredact.specs.declared.forms.Nested.{Nested}
-use Rattle.acredact.specs.declared.patterns.Rule.{Rule}
 
 -- what is made of one rule more is added
 pub rules_next : (made later : List Secret → List Secret) (one : Secret → List Secret) → ((secret : Secret) (secrets : List Secret) → made (secret ∷ secrets) ≡ one secret ++ later secrets)

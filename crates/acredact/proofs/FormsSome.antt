@@ -1,8 +1,7 @@
 -- No pattern of a form is empty.
+use Rattle.acredact.proofs.Common.{All-append, All-cons, All-nil, ltb-true}
 use Rattle.std.proofs.Common.{◌≡◌, ℕ, ◌+◌, ◌≤◌, Bool, true, false, cond, List, [], ◌∷◌, length, map, refl, arith}
 use Rattle.std.specs.Prelude.{nat_lt, if◌then◌else◌}
-use Rattle.std.proofs.lemmas.Bool.{ltb-true}
-use Rattle.std.proofs.lemmas.List.Elements.{All-append, All-cons, All-nil}
 use Rattle.acredact.specs.Forms.{AskedForms, filled, form_secret, forms_from, forms_of, asked_form_patterns}
 use Rattle.acredact.specs.Tables.{HaveNoEmpty, Secret}
 

@@ -1,7 +1,7 @@
 -- Where the pieces are clean no pattern occurs in what was written of a file.
+use Rattle.acredact.proofs.Common.{is_input}
 use Rattle.std.proofs.Common.{◌≡◌, ℕ, List, [], ◌∷◌, Option, true, false}
 use Rattle.std.specs.Prelude.{Bool, MatchBool, is_some}
-use Rattle.tool_parts.specs.Names.{is_input}
 use Rattle.acredact.specs.Files.{AreFree, AreRedacted, IsFree, RedactsText, Work, WritesText}
 use Rattle.acredact.specs.Reads.{OfName}
 use Rattle.acredact.specs.Secrets.{AreCleanBy}

@@ -1,7 +1,7 @@
 -- Right arguments have nothing wrong.
+use Rattle.acredact.proofs.Common.{AsWord, Forms, Strict, same_Some}
 use Rattle.std.proofs.Common.{◌≡◌, inl, inr, ℕ, List, [], ◌∷◌, Option, refl, sym, ap, ◌∙◌}
 use Rattle.std.specs.Prelude.{◌&&◌, not, Bool, true, false, Some, None, if◌then◌else◌, option_and_then}
-use Rattle.std.proofs.lemmas.Option.{same_Some}
 use Rattle.acredact.specs.Arguments.{Given, ItemsSoFar, all_asked, by_argument, covers_asked, fitting_by, given_by, given_from, gives_rules, has, mixture_of, words_asked}
 use Rattle.acredact.specs.Mistakes.{IsMistakeOfCall, first_mistake_line, line_from, line_of_argument, line_or}
 use Rattle.acredact.specs.declared.arguments.Expects.{Expects}
@@ -10,7 +10,7 @@ use Rattle.acredact.specs.declared.mistakes.Mistake.{Mistake}
 use Rattle.acredact.specs.declared.mistakes.Mistake.TheVariants.{OutOfMemory}
 use Rattle.acredact.specs.declared.mistakes.Mixture.{Mixture}
 use Rattle.acredact.specs.declared.mistakes.Mixture.TheVariants.{CountCheck, FormsKind, OutputCheck, PseudonymKind, PseudonymTable, PseudonymWith, StrictKind, SummaryCheck, WordsForms, WordsKind}
-use Rattle.acredact.specs.declared.options.Word.TheVariants.{AsWord, Check, Count, Forms, Output, Pseudonym, Strict, Summary, Table, With}
+use Rattle.acredact.specs.declared.options.Word.TheVariants.{Check, Count, Output, Pseudonym, Summary, Table, With}
 
 -- what was given is one list alone
 pub same_given : (asked : Option (List Given)) (given items : List Given) → asked ≡ Some given → asked ≡ Some items → items ≡ given

@@ -1,21 +1,16 @@
 -- What shows a secret in a form lies in a replaced range.
+use Rattle.acredact.proofs.Common.{FromWrite, IsMember, Occurrence, Patterns, PieceRule, Writers, folded_word, ltb-true, map-append, pattern_at, plain_search}
 use Rattle.std.proofs.Common.{◌≡◌, inl, inr, ℕ, zero, suc, ◌+◌, ◌-◌, ◌<◌, ◌≤◌, Bool, true, false, cond, List, [], ◌∷◌, ◌++◌, Option, length, length-append, map, take, drop, refl, sym, ap, subst, ◌∙◌, arith}
 use Rattle.std.specs.Prelude.{All, Contains, MatchBool, chars, flat_map, if◌then◌else◌, nat_lt, slice_index_or, slice_range}
-use Rattle.std.specs.declared.io.traits.Write.{Ghosts as Writers}
-use Rattle.std.proofs.lemmas.Bool.{lt-ltb, ltb-true}
+use Rattle.std.proofs.lemmas.Bool.{lt-ltb}
 use Rattle.std.proofs.lemmas.List.Elements.{All-contains, Contains-append_left, Contains-append_right}
 use Rattle.std.proofs.Math.Seq.{drop-append_seam, take-append_seam}
-use Rattle.std.proofs.lemmas.List.{get_or_default, map-append}
+use Rattle.std.proofs.lemmas.List.{get_or_default}
 use Rattle.base64.specs.Engines.{standard, standard_no_pad, url_safe, url_safe_no_pad}
 use Rattle.base64.specs.GeneralPurpose.{encode_of}
 use Rattle.hex.specs.Hex.{encode_lower, encode_upper}
-use Rattle.aho_core.specs.Bytes.{folded_word}
 use Rattle.aho_core.specs.Cover.{IsCovered}
-use Rattle.aho_core.specs.Listing.{IsMember}
-use Rattle.aho_core.specs.Occurrence.{Occurrence}
 use Rattle.aho_core.specs.Occurs.{OccursIn}
-use Rattle.aho_core.specs.Patterns.{Patterns, pattern_at}
-use Rattle.aho_core.specs.Search.{plain_search}
 use Rattle.secret_forms.proofs.EachLaw.{Contains-flat_map}
 use Rattle.secret_forms.specs.Forms.{HidesForm, HidesNested, form_patterns}
 use Rattle.secret_forms.specs.Json.{HidesCharacters, json_spellings, json_ways}
@@ -25,13 +20,11 @@ use Rattle.secret_forms.specs.Spelling.{HidesSpelled, shell_spellings, url_spell
 use Rattle.secret_forms.specs.declared.bytewise.Spelling.{Spelling}
 use Rattle.secret_forms.specs.declared.form.Form.{Form}
 use Rattle.secret_forms.specs.declared.form.Form.TheVariants.{Base64, Hex, Url, Json, Xml, Shell, Lines}
-use Rattle.aho_devices.specs.declared.adapters.FromWrite.{FromWrite}
 use Rattle.acredact.specs.Files.{AreRedacted, RedactsText, Work, WritesText}
 use Rattle.acredact.specs.Forms.{AskedForms, HideSecrets, HidesNestedForm, HidesSecret, filled, form_secret, forms_from, forms_of, once_patterns, asked_form_patterns, twice_patterns, with_forms}
 use Rattle.acredact.specs.Hidden.{AreHidden, HidesForms, NoneShowsOnce, NoneShowsTwice, ShowsBits, SpellsEach, ShowsForm, SpellsForm}
 use Rattle.acredact.specs.Secrets.{NoByteIsKept, NoneIsWhole, Redactor}
 use Rattle.acredact.specs.Tables.{Secret, patterns_in}
-use Rattle.aho_cover.specs.Pieces.{PieceRule}
 use Rattle.aho_cover.specs.Words.{CountsIn}
 use Rattle.acredact.specs.Arguments.{covers_asked, words_asked}
 use Rattle.acredact.specs.Calls.{Call, HidesCall, RedactsCall, names_asked, work_by}

@@ -1,4 +1,5 @@
 -- each occurrence is touched by a find
+pub mod Common
 mod Covered
 -- lines that are added one after another
 mod Lines

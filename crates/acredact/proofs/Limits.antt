@@ -1,4 +1,5 @@
 -- Sums of counts that begin at zero are no greater than what was read.
+use Rattle.acredact.proofs.Common.{Rule, Volume}
 use Rattle.std.proofs.Common.{◌≡◌, ℕ, List, [], ◌∷◌, Option, true, false, refl, arith}
 use Rattle.std.specs.Prelude.{Bool}
 use Rattle.std.specs.List.{sum}
@@ -8,8 +9,6 @@ use Rattle.acredact.specs.Counts.{zeros}
 use Rattle.acredact.specs.Summaries.{no_volume}
 use Rattle.acredact.specs.Sums.{sums_of}
 use Rattle.acredact.specs.Tables.{secrets_of}
-use Rattle.acredact.specs.declared.patterns.Rule.{Rule}
-use Rattle.acredact.specs.declared.summary.Volume.{Volume}
 use Rattle.acredact.proofs.Runs.{each_least, sum_cons}
 
 sum_zeros : (counted : Bool) (rules : List Rule) → sum (zeros counted rules) ≡ 0

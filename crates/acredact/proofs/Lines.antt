@@ -1,15 +1,13 @@
 -- Lines of a text that are added one after another.
+use Rattle.acredact.proofs.Common.{Form, eq-eqb, ne_eqb, slice_split, strip_last}
 use Rattle.std.proofs.Common.{◌≡◌, ◌≢◌, ℕ, ◌+◌, ◌-◌, ◌^◌, ◌≤◌, List, [], ◌∷◌, ◌++◌, length, refl, sym, ap, ◌∙◌, append_assoc, arith}
 use Rattle.std.specs.Prelude.{Result, Ok, Err, IfErr, drop, min, nat_eq, slice_index}
-use Rattle.std.specs.Io.BufRead.{strip_last}
-use Rattle.std.specs.List.{AllZip, slice_split}
-use Rattle.std.proofs.lemmas.Bool.{ne_eqb, eq-eqb}
+use Rattle.std.specs.List.{AllZip}
 use Rattle.std.proofs.lemmas.List.Splits.{slice_split_at, slice_split_none}
 use Rattle.std.proofs.lemmas.Slice.Zip.{AllZip-long}
 use Rattle.acredact.specs.LineFaults.{IsLineFaultBy, IsListFault, NamesNone}
 use Rattle.acredact.specs.Tables.{HaveLines, HoldsBy, IsAdded, IsAddedList, IsWithout, Secret, lines_in}
 use Rattle.acredact.specs.declared.patterns.BadLine.{BadLine}
-use Rattle.acredact.specs.declared.patterns.Form.{Form}
 use Rattle.acredact.specs.declared.patterns.Place.{Place}
 
 -- what holds of two pairs of lists, place by place, holds of both together

@@ -1,12 +1,9 @@
 -- The patterns that options give, one after another.
+use Rattle.acredact.proofs.Common.{Failure, Keeps, is_input, take_rest}
 use Rattle.std.proofs.Common.{◌≡◌, inl, inr, ℕ, ◌≤◌, ◌-◌, List, [], ◌∷◌, ◌++◌, Option, length, take, drop, get_or, refl, sym, ap, subst, ◌∙◌, append-nil, append_assoc, arith}
 use Rattle.std.specs.Prelude.{Bool, MatchBool, IfSome, false}
-use Rattle.std.specs.Io.KnownBytes.{Keeps}
 use Rattle.std.proofs.KnownBytes.{Consumes-all}
-use Rattle.std.proofs.lemmas.List.{take_rest}
-use Rattle.tool_parts.specs.Names.{is_input}
 use Rattle.acredact.specs.declared.options.Item.{Item}
-use Rattle.acredact.specs.declared.failure.Failure.{Failure}
 use Rattle.acredact.specs.Arguments.{Given, all_given, given_of}
 use Rattle.acredact.specs.Loading.{CannotLoad, CannotLoadOne, EachGives, IsFileFailure, IsListedFailure, Reading}
 use Rattle.acredact.specs.Parts.{IsAddedSome}

@@ -1,19 +1,15 @@
 -- A line that is too long is one run of a number of its own.
+use Rattle.acredact.proofs.Common.{Covering, IsMember, Line, Occurrence, Patterns, eq-eqb, ltb-true, ne_eqb, runs_named, stream_lines}
 use Rattle.std.proofs.Common.{◌≡◌, inl, inr, ℕ, ◌+◌, ◌<◌, ◌≤◌, List, [], ◌∷◌, ◌++◌, Option, true, false, length, refl, sym, ap, ◌∙◌, arith, length-append}
 use Rattle.std.specs.Prelude.{Bool, filter, nat_eq, nat_lt, if◌then◌else◌}
-use Rattle.std.proofs.lemmas.Bool.{eq-eqb, ltb-false, ltb-true, ne_eqb}
+use Rattle.std.proofs.lemmas.Bool.{ltb-false}
 use Rattle.std.proofs.lemmas.List.Elements.{filter-append}
 use Rattle.std.proofs.lemmas.Option.{slice_get_within}
-use Rattle.aho_core.specs.Listing.{IsMember}
-use Rattle.aho_core.specs.Occurrence.{Occurrence}
-use Rattle.aho_core.specs.Patterns.{Patterns}
 use Rattle.aho_core.specs.Cover.{AreRunsOf}
-use Rattle.aho_cover.specs.Counting.{runs_named}
 use Rattle.aho_cover.specs.Words.{CountsIn}
 use Rattle.aho_laws.proofs.CoverRuns.{runs-unique}
-use Rattle.secret_rules.specs.Covering.{AreLineRuns, CoveredIn, Covering, seen_line, whole_line}
+use Rattle.secret_rules.specs.Covering.{AreLineRuns, CoveredIn, seen_line, whole_line}
 use Rattle.secret_rules.specs.LineCovers.{all_of}
-use Rattle.secret_rules.specs.Lines.{Line, stream_lines}
 use Rattle.secret_rules.proofs.Covered.{whole-runs}
 use Rattle.acredact.specs.LongLines.{HasLong, HaveLong, long_among, whole_number}
 use Rattle.acredact.specs.RunCounts.{HasRuns, HaveRuns}

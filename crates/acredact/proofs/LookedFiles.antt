@@ -1,24 +1,10 @@
 -- What comes of files whose lines are looked at, one after another.
+use Rattle.acredact.proofs.Common.{All-nil, Appends-nil, Appends-trans, AreSearchedFor, Automata, CanCoverLines, Covering, Errors, IfOk-weaker, Keeps, LineError, Look, Occurrence, Patterns, SinkGhosts, TellsBytes, Verdict, and-true, concat, covering_by, is_input, most_of, or-false, or_assoc, rules_of, searched_automaton, stream_lines, words_of}
 use Rattle.std.proofs.Common.{◌≡◌, inl, ℕ, List, [], ◌∷◌, Option, true, false, refl, sym, ap, subst, ◌∙◌}
 use Rattle.std.specs.Prelude.{Bool, ◌||◌, ◌&&◌, Result, Ok, Err}
-use Rattle.std.specs.Io.KnownBytes.{Keeps}
-use Rattle.std.specs.List.{concat}
-use Rattle.std.proofs.KnownBytes.{Appends-kept, Appends-nil, Appends-trans}
-use Rattle.std.proofs.Math.Bool.{and-true, and_assoc, or-false, or_assoc}
-use Rattle.std.proofs.lemmas.List.Elements.{All-nil}
-use Rattle.std.proofs.lemmas.Result.{IfOk-weaker}
-use Rattle.aho_core.specs.Occurrence.{Occurrence}
-use Rattle.aho_core.specs.Patterns.{Patterns}
-use Rattle.aho_automaton.specs.declared.automaton.Automaton.{Ghosts as Automata}
-use Rattle.aho_devices.specs.declared.device.Sink.{Ghosts as SinkGhosts}
-use Rattle.tool_parts.specs.Names.{is_input}
-use Rattle.tool_parts.specs.Telling.{TellsBytes}
-use Rattle.tool_parts.specs.declared.errors.Errors.{Errors}
-use Rattle.secret_rules.specs.Covering.{Covering, covering_by}
-use Rattle.secret_rules.specs.LineCovers.{AreSearchedFor}
-use Rattle.secret_rules.specs.Lines.{stream_lines}
-use Rattle.secret_rules.specs.Ready.{CanCoverLines, CoversTheSame, most_of, rules_of, searched_automaton, words_of}
-use Rattle.secret_rules.specs.declared.error.LineError.{LineError}
+use Rattle.std.proofs.KnownBytes.{Appends-kept}
+use Rattle.std.proofs.Math.Bool.{and_assoc}
+use Rattle.secret_rules.specs.Ready.{CoversTheSame}
 use Rattle.secret_rules.specs.declared.line_cover.LineCover.{LineCover}
 use Rattle.secret_rules.specs.declared.rule.Rule.{Rule}
 use Rattle.acredact.specs.Calls.{IsUnreadLine, TellsOfFiles}
@@ -26,9 +12,7 @@ use Rattle.acredact.specs.Checks.{look_lines}
 use Rattle.acredact.specs.Files.{unread_line}
 use Rattle.acredact.specs.Looks.{both_seen, is_unread_look, verdict_of}
 use Rattle.acredact.specs.RuledChecks.{BeginsFindings, BeginsNamedTelling, BeginsTelling, HasLineRuns, IsCoveredBy, Labels, LineQuest, LookedNamed, LookedText, SeenFile, SeenFiles, SeesAllLines, SeesNamed, SeesText, files_findings, is_some_line, lines_findings}
-use Rattle.acredact.specs.declared.look.Look.{Look}
 use Rattle.acredact.specs.declared.look.Look.TheVariants.{Unread}
-use Rattle.acredact.specs.declared.look.Verdict.{Verdict}
 use Rattle.acredact.proofs.Calls.{tells_same}
 use Rattle.acredact.proofs.Done.{both_so}
 use Rattle.acredact.proofs.OneFile.{begun_nothing, each_none, known_begun, known_read, name_unread, of_folder, of_input}

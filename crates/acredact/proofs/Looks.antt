@@ -1,29 +1,12 @@
 -- What a look at a stream says, by what the first call of an iterator over its matches answers, or by what a cover of its words counts.
+use Rattle.acredact.proofs.Common.{Consumes, Consumes-nil, CountsRunsWith, CountsThese, Ghosts, IsAtEnd, IsMember, Memory, Occurrence, Patterns, PieceRule, PositionLimit, Read, Refused, SinkGhosts, SourceGhosts, StreamError, Write, WriteZero, all-covers, all-made, all_runs, counted, eq-eqb, is_read_fault, is_write_fault, is_write_of_nothing, plain_search, runs_named, shortest}
 use Rattle.std.proofs.Common.{◌≡◌, ◌≢◌, inl, ℕ, ◌<◌, ◌≤◌, List, [], ◌∷◌, Option, true, false, length, map, refl, sym, ap, subst, ◌∙◌, arith, le_refl}
 use Rattle.std.specs.Prelude.{Bool, None, Some, Result, Ok, Err, IfOk, filter, nat_eq, slice_index}
-use Rattle.std.specs.Io.KnownBytes.{Consumes, IsAtEnd}
-use Rattle.std.proofs.KnownBytes.{Consumes-nil}
-use Rattle.std.proofs.lemmas.Bool.{eq-eqb}
 use Rattle.aho_core.specs.Answer.{IsAnswer}
 use Rattle.aho_core.specs.Iteration.{IsNextFind}
-use Rattle.aho_core.specs.Laws.{shortest}
-use Rattle.aho_core.specs.Listing.{IsMember}
-use Rattle.aho_core.specs.Occurrence.{Occurrence}
-use Rattle.aho_core.specs.Patterns.{Patterns}
-use Rattle.aho_core.specs.Search.{plain_search}
-use Rattle.aho_core.specs.declared.error.stream.StreamError.{StreamError}
-use Rattle.aho_core.specs.declared.error.stream.StreamError.TheVariants.{Match as Refused, Memory, PositionLimit, Read, Write, WriteZero}
-use Rattle.aho_cover.specs.Counting.{CountsThese, runs_named}
-use Rattle.aho_cover.specs.Covers.{CountsRunsWith, CountsWrittenWith}
-use Rattle.aho_cover.specs.Pieces.{PieceRule}
-use Rattle.aho_cover.specs.Words.{AreRunsWith, IsWordIn, all_runs}
-use Rattle.aho_cover.proofs.Chosen.{all-covers, all-made}
-use Rattle.aho_devices.specs.Counts.{counted}
+use Rattle.aho_cover.specs.Covers.{CountsWrittenWith}
+use Rattle.aho_cover.specs.Words.{AreRunsWith, IsWordIn}
 use Rattle.aho_devices.specs.Errors.{CountsErrors}
-use Rattle.aho_devices.specs.Refusals.{is_read_fault, is_write_fault, is_write_of_nothing}
-use Rattle.aho_devices.specs.declared.device.Sink.{Ghosts as SinkGhosts}
-use Rattle.aho_devices.specs.declared.device.Source.{Ghosts as SourceGhosts}
-use Rattle.aho_automaton.specs.declared.automaton.Automaton.{Ghosts}
 use Rattle.aho_stream.specs.FindRuns.{FindsAll, FindsAlong, FindsSoFar}
 use Rattle.aho_stream.specs.Finds.{FindsError, FindsNextInStream}
 use Rattle.aho_stream.specs.Iterators.{CanGoOn}

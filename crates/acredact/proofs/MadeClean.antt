@@ -1,17 +1,12 @@
 -- Clean pieces that are made of runs: nothing occurs in a text whose runs are replaced by them.
+use Rattle.acredact.proofs.Common.{IsCleanPiece, IsMember, NoneHolds, Occurrence, Patterns, PieceRule, cases_lt, folded_word, nil_from_length, pattern_at, take_rest}
 use Rattle.std.proofs.Common.{◌≡◌, inl, inr, ℕ, ◌+◌, ◌-◌, ◌<◌, ◌≤◌, List, [], ◌∷◌, ◌++◌, length, refl, sym, ap, subst, arith}
 use Rattle.std.specs.Prelude.{slice_range}
-use Rattle.std.proofs.lemmas.Bool.{cases_lt}
-use Rattle.std.proofs.lemmas.List.{nil_from_length, take_rest}
-use Rattle.aho_core.specs.Bytes.{folded_word}
 use Rattle.aho_core.specs.Cover.{AreRuns, IsCovered}
-use Rattle.aho_core.specs.Listing.{IsMember}
-use Rattle.aho_core.specs.Occurrence.{Occurrence}
-use Rattle.aho_core.specs.Patterns.{Patterns, pattern_at}
 use Rattle.aho_core.specs.Replacement.{replaced_by, replaced_from}
-use Rattle.aho_cover.specs.Pieces.{PieceRule, piece_in}
-use Rattle.aho_laws.specs.CoverLaws.{AreInOrder, IsCleanPiece}
-use Rattle.aho_laws.specs.CutLaws.{IsClear, NoneHolds, NoneIsEmpty, moved}
+use Rattle.aho_cover.specs.Pieces.{piece_in}
+use Rattle.aho_laws.specs.CoverLaws.{AreInOrder}
+use Rattle.aho_laws.specs.CutLaws.{IsClear, NoneIsEmpty, moved}
 use Rattle.aho_laws.proofs.ClearCuts.{Occurs-full}
 use Rattle.aho_laws.proofs.CoverClean.{bare_byte}
 use Rattle.aho_laws.proofs.CoverKept.{OccursHere, runs-cover}

@@ -1,23 +1,13 @@
 -- How a count of bytes goes on.
+use Rattle.acredact.proofs.Common.{Consumes, IfErr-weaker, IsAtEnd, Keeps, SinkGhosts, SourceGave, SourceGhosts, StreamError, Volume, counted, is_input, is_read_fault, on_ok_weaker, same_Some}
 use Rattle.std.proofs.Common.{◌≡◌, ◌≢◌, ℕ, ◌+◌, ◌≤◌, Bool, true, false, List, [], ◌∷◌, Option, length, refl, sym, ap, subst, ◌∙◌, arith, length-append}
 use Rattle.std.specs.Prelude.{◌^◌, ◌-◌, min, None, Some, Result, is_some}
-use Rattle.std.specs.Io.KnownBytes.{Consumes, IsAtEnd, Keeps}
-use Rattle.std.proofs.lemmas.Result.{IfErr-weaker, on_ok_weaker}
-use Rattle.std.proofs.lemmas.Option.{same_Some}
-use Rattle.aho_core.specs.declared.error.stream.StreamError.{StreamError}
 use Rattle.aho_cover.specs.Counting.{grown_count}
-use Rattle.aho_devices.specs.Counts.{counted}
-use Rattle.aho_devices.specs.Refusals.{is_read_fault}
-use Rattle.aho_devices.specs.declared.device.Sink.{Ghosts as SinkGhosts}
-use Rattle.aho_devices.specs.declared.device.Source.{Ghosts as SourceGhosts}
-use Rattle.aho_stream.specs.Replacing.{SourceGave}
-use Rattle.tool_parts.specs.Names.{is_input}
 use Rattle.acredact.specs.Metering.{IsMetered, settled_left}
 use Rattle.acredact.specs.Secrets.{Redactor}
 use Rattle.acredact.specs.Streams.{ReachesStream, RedactsStream, StreamOutcome}
 use Rattle.acredact.specs.Totals.{CountsOfStream, DoesStream}
 use Rattle.acredact.specs.Volumes.{AddsBytes, AddsName, AddsNames, AddsStream, ReadsVolume}
-use Rattle.acredact.specs.declared.summary.Volume.{Volume}
 use Rattle.acredact.proofs.OneFile.{ended_text, known_read, of_folder, of_input}
 
 -- more was given

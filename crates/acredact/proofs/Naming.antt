@@ -1,15 +1,15 @@
 -- What is loaded where a key names the secrets.
+use Rattle.acredact.proofs.Common.{Forms, PieceRule}
 use Rattle.std.proofs.Common.{◌≡◌, ℕ, Bool, true, false, List, Option, refl, sym, ap, subst, ◌∙◌}
 use Rattle.std.specs.Prelude.{Some, None, if◌then◌else◌}
 use Rattle.std.proofs.lemmas.List.Elements.{All-map}
-use Rattle.aho_cover.specs.Pieces.{PieceRule}
 use Rattle.acredact.specs.Pseudonyms.{pseudonym_rule}
 use Rattle.acredact.specs.Arguments.{Given, has}
 use Rattle.acredact.specs.Loading.{AreLoaded, Loaded, Reading, secrets_by}
 use Rattle.acredact.specs.Named.{all_named, named_secret}
 use Rattle.acredact.specs.Ruled.{AreRuledLoaded, RuledLoad}
 use Rattle.acredact.specs.Tables.{HaveNoEmpty, Secret}
-use Rattle.acredact.specs.declared.options.Word.TheVariants.{Forms, IgnoreCase}
+use Rattle.acredact.specs.declared.options.Word.TheVariants.{IgnoreCase}
 use Rattle.acredact.proofs.Ready.{IsSomeSecret, given_some}
 
 -- no pattern that is named is empty

@@ -1,20 +1,14 @@
 -- What a pseudonym can spell, and that nothing occurs in a cover where no pattern is like one.
+use Rattle.acredact.proofs.Common.{All, All-append, All-cons, All-nil, ArePatterns, IsCleanPiece, IsMember, NoneHolds, Patterns, cases_lt, folded_by, folded_word, pattern_at}
 use Rattle.std.proofs.Common.{◌≡◌, inl, inr, ℕ, zero, suc, ◌-◌, ◌<◌, ◌/◌, ◌%◌, List, [], ◌∷◌, ◌++◌, Option, true, false, length, drop, get_or, refl, sym, ap, subst, ◌∙◌, arith}
 use Rattle.std.specs.Prelude.{Bool, None, Some, ◌⊎◌, slice_range}
 use Rattle.std.specs.Int.{bytes_high_first, byte_at}
-use Rattle.std.specs.List.{All}
 use Rattle.std.proofs.Math.Nat.{mod-lt}
-use Rattle.std.proofs.lemmas.Bool.{cases_lt}
 use Rattle.std.proofs.lemmas.List.{get_or_past}
-use Rattle.std.proofs.lemmas.List.Elements.{All-append, All-cons, All-get_or, All-nil}
-use Rattle.aho_core.specs.Bytes.{folded, folded_by, folded_word}
-use Rattle.aho_core.specs.Listing.{IsMember}
-use Rattle.aho_core.specs.Patterns.{Patterns, pattern_at}
-use Rattle.aho_laws.specs.CoverLaws.{IsCleanPiece}
-use Rattle.aho_laws.specs.CutLaws.{NoneHolds}
+use Rattle.std.proofs.lemmas.List.Elements.{All-get_or}
+use Rattle.aho_core.specs.Bytes.{folded}
 use Rattle.aho_laws.proofs.Members.{member-map, member-of_map}
 use Rattle.secret_rules.proofs.Members.{member-take}
-use Rattle.tool_parts.specs.Asked.{ArePatterns}
 use Rattle.sha2.specs.Sha256.{digest_bytes, sha256}
 use Rattle.acredact.specs.Hmac.{hmac_sha256}
 use Rattle.acredact.specs.Pseudonyms.{as_compared, hex_at, hex_digit, piece_of_digest, pseudonym_rule}

@@ -1,21 +1,8 @@
 -- What comes of one file, by what comes of its stream.
+use Rattle.acredact.proofs.Common.{Appends, Appends-nil, Consumes, Consumes-nil, FromWrite, IsAtEnd, IsFillRefusal, Keeps, Keeps-refl, PositionLimit, Read, Reason, SinkGhosts, SourceGave, SourceGhosts, StreamError, Writers, counted, is_input, is_read_fault, is_write_fault, is_write_of_nothing, output_bytes, shortest}
 use Rattle.std.proofs.Common.{◌≡◌, ◌≢◌, inl, ℕ, ◌≤◌, List, [], ◌∷◌, Option, true, false, length, map, refl, sym, ap, subst, ◌∙◌, arith}
 use Rattle.std.specs.Prelude.{Bool, MatchBool, None, Some, Result, Ok, Err, IfErr, OnOk}
-use Rattle.std.specs.Io.KnownBytes.{Appends, Consumes, IsAtEnd, Keeps}
-use Rattle.std.specs.declared.io.traits.Write.{Ghosts as Writers}
-use Rattle.std.proofs.KnownBytes.{Appends-nil, Consumes-nil, Keeps-refl}
-use Rattle.aho_core.specs.Laws.{shortest}
-use Rattle.aho_core.specs.declared.error.stream.StreamError.{StreamError}
-use Rattle.aho_core.specs.declared.error.stream.StreamError.TheVariants.{Match, Read, PositionLimit}
-use Rattle.aho_devices.specs.Counts.{counted}
-use Rattle.aho_devices.specs.Refusals.{IsFillRefusal, is_read_fault, is_write_fault, is_write_of_nothing}
-use Rattle.aho_devices.specs.declared.adapters.FromWrite.{FromWrite}
-use Rattle.aho_devices.specs.declared.device.Sink.{Ghosts as SinkGhosts}
-use Rattle.aho_devices.specs.declared.device.Source.{Ghosts as SourceGhosts}
-use Rattle.aho_stream.specs.Replacing.{SourceGave}
-use Rattle.tool_parts.specs.Names.{is_input}
-use Rattle.tool_parts.specs.Streams.{output_bytes}
-use Rattle.tool_parts.specs.declared.reason.Reason.{Reason}
+use Rattle.aho_core.specs.declared.error.stream.StreamError.TheVariants.{Match}
 use Rattle.acredact.specs.Faults.{IsOutputEnd, IsStreamEnd, is_unread, reading_of}
 use Rattle.acredact.specs.Files.{BeginsNamed, BeginsText, BeginsWriting, ComesOfFile, ComesOfText, ReachesText, RedactsText, TextDone, Work, WritesText}
 use Rattle.acredact.specs.Reads.{EachName, OfName, ReadsText}

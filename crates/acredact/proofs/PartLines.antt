@@ -1,6 +1,6 @@
 -- The lines of a pattern, one after another.
+use Rattle.acredact.proofs.Common.{flat_map}
 use Rattle.std.proofs.Common.{◌≡◌, ℕ, Bool, false, List, [], ◌∷◌, ◌++◌, refl, sym, ap, subst, ◌∙◌, append_assoc}
-use Rattle.std.specs.List.{flat_map}
 use Rattle.acredact.specs.Parts.{ArePartsBy, GivesPattern, IsAddedSome, line_secrets}
 use Rattle.acredact.specs.Tables.{Holds, IsAdded, Secret}
 use Rattle.acredact.specs.declared.patterns.Place.{Place}

@@ -1,19 +1,8 @@
 -- What becomes of files that are replaced in place, one after another, and of a call that replaces them.
+use Rattle.acredact.proofs.Common.{All, All-cons, All-nil, CountsThese, Errors, Failure, Other, OutOfMemory, Readers, Rule, SinkGhosts, StreamError, Streams, Strict, Tells, TellsBytes, TellsSome, Volume, Writers, bytes_left, failure_of_stream, output_bytes}
 use Rattle.std.proofs.Common.{◌≡◌, inl, inr, ℕ, List, [], ◌∷◌, ◌++◌, Option, true, false, refl, sym, ap, subst, ◌∙◌, append-nil, arith}
-use Rattle.std.specs.List.{All}
 use Rattle.std.specs.Prelude.{Bool, ◌&&◌, Result, Ok, Err, IfOk, OnOk, is_some, ◌⊎◌, MatchBool, IfErr}
-use Rattle.std.specs.declared.io.traits.Read.{Ghosts as Readers}
-use Rattle.std.specs.declared.io.traits.Write.{Ghosts as Writers}
-use Rattle.std.proofs.lemmas.List.Elements.{All-cons, All-nil}
-use Rattle.aho_cover.specs.Counting.{CountsThese}
-use Rattle.tool_parts.specs.Failures.{failure_of_stream}
 use Rattle.tool_parts.specs.Names.{IsOneOf}
-use Rattle.tool_parts.specs.Streams.{bytes_left, output_bytes}
-use Rattle.tool_parts.specs.Telling.{Tells, TellsBytes, TellsSome}
-use Rattle.aho_core.specs.declared.error.stream.StreamError.{StreamError}
-use Rattle.aho_devices.specs.declared.device.Sink.{Ghosts as SinkGhosts}
-use Rattle.tool_parts.specs.declared.errors.Errors.{Errors}
-use Rattle.tool_parts.specs.declared.failure.Failure.TheVariants.{OutOfMemory}
 use Rattle.acredact.specs.Arguments.{counts_asked, has}
 use Rattle.acredact.specs.Calls.{Call, IsCountsFailure, IsCountsLine, MayFail, TellsCounts, names_asked, reading_by, redactor_by_given, work_by}
 use Rattle.acredact.specs.Counts.{zeros}
@@ -29,13 +18,7 @@ use Rattle.acredact.specs.Ready.{CannotPrepare}
 use Rattle.acredact.specs.Secrets.{AreCleanBy}
 use Rattle.acredact.specs.Summaries.{no_volume}
 use Rattle.acredact.specs.Tables.{secrets_of}
-use Rattle.acredact.specs.declared.options.Word.TheVariants.{Strict}
-use Rattle.acredact.specs.declared.failure.Failure.{Failure}
-use Rattle.acredact.specs.declared.failure.Failure.TheVariants.{Other}
 use Rattle.acredact.specs.declared.outputs.Outputs.{Ghosts as Places}
-use Rattle.acredact.specs.declared.patterns.Rule.{Rule}
-use Rattle.acredact.specs.declared.streams.Streams.{Streams}
-use Rattle.acredact.specs.declared.summary.Volume.{Volume}
 use Rattle.acredact.proofs.Calls.{may_fail, none_are, some_all, some_behind, some_then, some_told, some_weaker, tells_both, tells_last, tells_same, tells_weaker}
 use Rattle.acredact.proofs.Done.{both_so, cut_of, redacted_of}
 use Rattle.acredact.proofs.Free.{free_of}

@@ -1,20 +1,11 @@
 -- What is loaded can be searched for.
+use Rattle.acredact.proofs.Common.{All-append, All-cons, All-head, All-nil, All-tail, AsWord, Bor, CanBegin, Folders, Form, No, Patterns, Standard, filter_map, flat_map, length-map, pieces_of, shortest, slice_split, strip_last}
 use Rattle.std.proofs.Common.{◌≡◌, inl, inr, ℕ, ◌≤◌, Bool, false, true, List, [], ◌∷◌, Option, length, map, refl, sym, ap, subst, ◌∙◌, arith}
 use Rattle.std.specs.Prelude.{MatchBool, ◌||◌, ◌&&◌, codes, if◌then◌else◌, nat_eq, nat_lt, option_and_then, unwrap_or, IsOk, Some, None}
-use Rattle.std.specs.Io.BufRead.{strip_last}
-use Rattle.std.specs.Borrow.{Bor}
-use Rattle.std.specs.List.{AllZip, filter_map, flat_map, slice_split}
+use Rattle.std.specs.List.{AllZip}
 use Rattle.std.proofs.lemmas.Bool.{ltb-false, or_parts}
-use Rattle.std.proofs.lemmas.List.{length-map}
 use Rattle.std.proofs.lemmas.Slice.Eq.{bytes_eq-Decides}
-use Rattle.std.proofs.lemmas.List.Elements.{All-append, All-cons, All-head, All-nil, All-tail}
-use Rattle.aho_core.specs.Laws.{shortest}
-use Rattle.aho_core.specs.Patterns.{Patterns}
-use Rattle.aho_core.specs.Replacement.{pieces_of}
-use Rattle.aho_core.specs.declared.search.Anchored.TheVariants.{No}
 use Rattle.aho_core.specs.declared.search.MatchKind.{MatchKind}
-use Rattle.aho_core.specs.declared.search.MatchKind.TheVariants.{Standard}
-use Rattle.aho_stream.specs.StreamRun.{CanBegin}
 use Rattle.chromesquid.proofs.Built.{count_of, finds_by, shortest_of, start_of}
 use Rattle.chromesquid.specs.Searcher.{Answers, IsBuiltFrom, Searcher}
 use Rattle.chromesquid.specs.contracts.automaton.AhoCorasickAutomaton.TheImpl.{ghosts as of_searcher}
@@ -32,10 +23,8 @@ use Rattle.acredact.specs.Secrets.{CanRedact}
 use Rattle.acredact.specs.Tables.{HaveNoEmpty, HoldsBy, Secret, patterns_in}
 use Rattle.acredact.specs.Values.{GiveEach, no_bytes, value_of_entry, whole_in}
 use Rattle.acredact.specs.declared.options.Word.{Word}
-use Rattle.acredact.specs.declared.options.Word.TheVariants.{AsWord, Env, EnvFile, Kind, Pattern, Patterns as PatternFile, Table, Whole}
-use Rattle.acredact.specs.declared.folder.Folder.{Ghosts as Folders}
+use Rattle.acredact.specs.declared.options.Word.TheVariants.{Env, EnvFile, Kind, Pattern, Patterns as PatternFile, Table, Whole}
 use Rattle.acredact.specs.declared.load.Lists.{Lists}
-use Rattle.acredact.specs.declared.patterns.Form.{Form}
 use Rattle.acredact.specs.declared.prepare.Ready.{Ready}
 use Rattle.acredact.proofs.FormsSome.{all_forms_some}
 

@@ -1,42 +1,26 @@
 -- What a cover or a replacement of a stream writes is a redaction, and what it begins is begun.
+use Rattle.acredact.proofs.Common.{Appends, AreFinds, CanBegin, CountsRunsWith, Ghosts, IfErr-weaker, IsFillRefusal, Memory, No, Occurrence, Patterns, Refused, SinkGhosts, SourceGhosts, StartsWith, StreamError, all-covers, all-made, all_runs, finds-exist, on_ok_weaker, plain_search, shortest, take-length}
 use Rattle.std.proofs.Common.{◌≡◌, ◌≢◌, ◌⊎◌, inl, inr, ℕ, suc, ◌<◌, ◌≤◌, ◌∷◌, ◌++◌, List, [], true, false, length, map, refl, sym, ap, subst, ◌∙◌, append-nil, arith, le_refl}
 use Rattle.std.specs.Prelude.{Bool, MatchBool, Option, None, Some, Result, Ok, Err, IfErr, OnErr, OnOk, is_some, slice_index_or}
-use Rattle.std.specs.Io.{StartsWith}
-use Rattle.std.specs.Io.KnownBytes.{Appends}
-use Rattle.std.proofs.Math.Seq.{take-length}
-use Rattle.std.proofs.lemmas.Result.{IfErr-weaker, on_err_weaker, on_ok_weaker}
+use Rattle.std.proofs.lemmas.Result.{on_err_weaker}
 use Rattle.aho_core.specs.Cover.{AreRuns, AreRunsOf}
-use Rattle.aho_core.specs.Iteration.{AreFinds}
-use Rattle.aho_core.specs.Laws.{shortest}
-use Rattle.aho_core.specs.Occurrence.{Occurrence}
-use Rattle.aho_core.specs.Patterns.{Patterns}
 use Rattle.aho_core.specs.Replacement.{replaced, replaced_by}
-use Rattle.aho_core.specs.Search.{plain_search}
 use Rattle.aho_core.specs.declared.error.MatchErrorKind.{MatchErrorKind}
-use Rattle.aho_core.specs.declared.error.stream.StreamError.{StreamError}
-use Rattle.aho_core.specs.declared.error.stream.StreamError.TheVariants.{Match as Refused, Memory}
-use Rattle.aho_core.specs.declared.search.Anchored.TheVariants.{No}
 use Rattle.aho_devices.specs.Errors.{CountsErrors}
-use Rattle.aho_devices.specs.Refusals.{IsFillRefusal}
-use Rattle.aho_devices.specs.declared.device.Sink.{Ghosts as SinkGhosts}
-use Rattle.aho_devices.specs.declared.device.Source.{Ghosts as SourceGhosts}
 use Rattle.aho_laws.proofs.CoverClean.{cover-free}
 use Rattle.aho_laws.proofs.CoverKept.{kept-uncovered}
 use Rattle.aho_laws.proofs.CoverRuns.{Covers}
-use Rattle.aho_laws.proofs.Iterations.{finds-exist}
-use Rattle.aho_automaton.specs.declared.automaton.Automaton.{Ghosts}
 use Rattle.aho_backward.specs.Searcher.{IsBackwardOf}
 use Rattle.aho_backward.specs.declared.backward.Backward.{Backward}
 use Rattle.aho_stream.specs.After.{greatest_position}
 use Rattle.aho_stream.specs.Refills.{is_limit}
 use Rattle.aho_stream.specs.Replacing.{BeginsReplacing, GaveAsMany, IsStreamFault, MayBe, ReplacesStream}
-use Rattle.aho_stream.specs.StreamRun.{CanBegin}
 use Rattle.acredact.specs.Faults.{IsStreamEnd}
-use Rattle.aho_cover.specs.Covers.{BeginsCoveringWith, CountsRunsWith, CoversStreamUpToWith, CoversStreamWith, IsUnbegunWith, LeavesCoveredWith}
+use Rattle.aho_cover.specs.Covers.{BeginsCoveringWith, CoversStreamUpToWith, CoversStreamWith, IsUnbegunWith, LeavesCoveredWith}
 use Rattle.aho_cover.specs.declared.progress.CoverProgress.{CoverProgress}
 use Rattle.aho_cover.specs.Pieces.{IsCoverWith, piece_in}
-use Rattle.aho_cover.specs.Words.{AreRunsWith, all_runs}
-use Rattle.aho_cover.proofs.Chosen.{all-are, all-covers, all-made}
+use Rattle.aho_cover.specs.Words.{AreRunsWith}
+use Rattle.aho_cover.proofs.Chosen.{all-are}
 use Rattle.acredact.specs.Pseudonyms.{pseudonym_rule}
 use Rattle.acredact.specs.Secrets.{AreCleanBy, AreReplaced, BeginsRedaction, CountsFor, IsRedaction, Keyed, NoByteIsKept, NoneIsWhole, NoneOccurs, Redactor, rule_by, rule_of}
 use Rattle.acredact.specs.Streams.{ReachesStream, RedactsStream, StartsStream, StreamOutcome}

@@ -1,16 +1,7 @@
 -- What comes of a check by rules, from what is seen of its files up to its status.
+use Rattle.acredact.proofs.Common.{AsWord, Errors, FromWrite, Keeps, Keeps-refl, LineError, SinkGhosts, Tells, Verdict, Writers, covering_by, output_bytes}
 use Rattle.std.proofs.Common.{◌≡◌, inl, inr, ℕ, List, Option, true, false, refl, sym, subst, arith}
 use Rattle.std.specs.Prelude.{Bool, ◌≤◌, Result, Ok, Err, IsErr}
-use Rattle.std.specs.Io.KnownBytes.{Keeps}
-use Rattle.std.specs.declared.io.traits.Write.{Ghosts as Writers}
-use Rattle.std.proofs.KnownBytes.{Keeps-refl}
-use Rattle.aho_devices.specs.declared.adapters.FromWrite.{FromWrite}
-use Rattle.aho_devices.specs.declared.device.Sink.{Ghosts as SinkGhosts}
-use Rattle.tool_parts.specs.Streams.{output_bytes}
-use Rattle.tool_parts.specs.Telling.{Tells}
-use Rattle.tool_parts.specs.declared.errors.Errors.{Errors}
-use Rattle.secret_rules.specs.Covering.{covering_by}
-use Rattle.secret_rules.specs.declared.error.LineError.{LineError}
 use Rattle.secret_rules.specs.declared.rule.Rule.{Rule}
 use Rattle.acredact.specs.Arguments.{has}
 use Rattle.acredact.specs.Calls.{Call, IsUnreadLine, names_asked, reading_by}
@@ -20,8 +11,7 @@ use Rattle.acredact.specs.Ruled.{AreRulesGiven, IsRuledTold, patterns_by_case}
 use Rattle.acredact.specs.RuledChecks.{BeginAllTelling, BeginsLoadedCheck, BeginsRuledCheck, CheckLoad, CheckedLines, LineQuest, RuledCheck, RuledCheckStatus, SeesByRules, SeenFiles, line_quest_by}
 use Rattle.acredact.specs.Statuses.{check_status}
 use Rattle.acredact.specs.Tables.{patterns_in}
-use Rattle.acredact.specs.declared.options.Word.TheVariants.{AsWord, Summary}
-use Rattle.acredact.specs.declared.look.Verdict.{Verdict}
+use Rattle.acredact.specs.declared.options.Word.TheVariants.{Summary}
 use Rattle.acredact.specs.declared.ruled_failure.RuledFailure.{RuledFailure}
 use Rattle.acredact.proofs.Calls.{some_behind, some_weaker, tells_both, tells_same}
 use Rattle.acredact.proofs.Checks.{says_seen}

@@ -1,15 +1,8 @@
 -- What comes of files that are redacted line by line, one after another.
+use Rattle.acredact.proofs.Common.{Errors, Keeps, LineError, Reason, SinkGhosts, Tells, TellsSome, and-true, counts_none, counts_then, is_input}
 use Rattle.std.proofs.Common.{◌≡◌, inl, inr, ℕ, List, [], ◌∷◌, ◌++◌, Option, true, false, refl, sym, ap, subst, ◌∙◌}
 use Rattle.std.specs.Prelude.{Bool, ◌&&◌, None, Some, Result, Ok, Err, IfOk}
-use Rattle.std.specs.Io.KnownBytes.{Keeps}
-use Rattle.std.proofs.Math.Bool.{and-true, and_assoc}
-use Rattle.aho_cover.proofs.Counted.{counts_none, counts_then}
-use Rattle.aho_devices.specs.declared.device.Sink.{Ghosts as SinkGhosts}
-use Rattle.tool_parts.specs.Names.{is_input}
-use Rattle.tool_parts.specs.Telling.{Tells, TellsSome}
-use Rattle.tool_parts.specs.declared.errors.Errors.{Errors}
-use Rattle.tool_parts.specs.declared.reason.Reason.{Reason}
-use Rattle.secret_rules.specs.declared.error.LineError.{LineError}
+use Rattle.std.proofs.Math.Bool.{and_assoc}
 use Rattle.acredact.specs.Calls.{IsUnreadLine, TellsOfFiles}
 use Rattle.acredact.specs.Ruled.{AreBegun, AreRuled, BeginsLinesRedaction, LinedFile, LinedFiles, LinesOutcome, NamedOutcome, RedactsLines, RuledWork, WritesLines, WritesRuled}
 use Rattle.acredact.specs.RunCounts.{CountsAllRuns, HasRuns}

@@ -1,26 +1,13 @@
 -- What comes of a text, by what a cover of its lines leaves.
+use Rattle.acredact.proofs.Common.{AreSearchedFor, Automata, CanCoverLines, Covering, IfErr-weaker, IsAtEnd, Keeps, Line, LineError, Occurrence, Patterns, PieceRule, Read, SinkGhosts, SourceGave, SourceGhosts, StartsWith, Stream, covering_by, most_of, on_ok_weaker, rules_of, searched_automaton, stream_lines, words_of}
 use Rattle.std.proofs.Common.{◌≡◌, ◌≢◌, inl, inr, ℕ, List, [], ◌∷◌, ◌++◌, Option, true, false, length, map, refl, sym, ap, subst, ◌∙◌, arith}
 use Rattle.std.specs.Prelude.{Bool, None, OnErr, OnOk, Result, Ok, Err}
-use Rattle.std.specs.Io.{StartsWith}
-use Rattle.std.specs.Io.KnownBytes.{IsAtEnd, Keeps}
-use Rattle.std.proofs.lemmas.Result.{IfErr-weaker, on_ok_weaker}
-use Rattle.aho_core.specs.Occurrence.{Occurrence}
-use Rattle.aho_core.specs.Patterns.{Patterns}
-use Rattle.aho_core.specs.declared.error.stream.StreamError.TheVariants.{Read}
-use Rattle.aho_automaton.specs.declared.automaton.Automaton.{Ghosts as Automata}
-use Rattle.aho_cover.specs.Pieces.{PieceRule}
 use Rattle.aho_cover.specs.declared.pieces.Pieces.{Ghosts as PieceGhosts}
 use Rattle.aho_cover.proofs.Copied.{begins_longer}
-use Rattle.aho_devices.specs.declared.device.Sink.{Ghosts as SinkGhosts}
-use Rattle.aho_devices.specs.declared.device.Source.{Ghosts as SourceGhosts}
-use Rattle.aho_stream.specs.Replacing.{SourceGave}
-use Rattle.secret_rules.specs.Covering.{Covering, covering_by, lines_cover}
-use Rattle.secret_rules.specs.LineCovers.{AreSearchedFor, BeginsLines, BeginsNextLine, CoversLines, CoversWholeLines, LeavesLines, all_of}
-use Rattle.secret_rules.specs.Lines.{Line, stream_lines}
-use Rattle.secret_rules.specs.Ready.{CanCoverLines, CoversTheSame, most_of, rules_of, searched_automaton, words_of}
+use Rattle.secret_rules.specs.Covering.{lines_cover}
+use Rattle.secret_rules.specs.LineCovers.{BeginsLines, BeginsNextLine, CoversLines, CoversWholeLines, LeavesLines, all_of}
+use Rattle.secret_rules.specs.Ready.{CoversTheSame}
 use Rattle.secret_rules.specs.Writing.{line_cover}
-use Rattle.secret_rules.specs.declared.error.LineError.{LineError}
-use Rattle.secret_rules.specs.declared.error.LineError.TheVariants.{Stream}
 use Rattle.secret_rules.specs.declared.rule.Rule.{Rule}
 use Rattle.secret_rules.proofs.LineRuns.{lines_cover-append}
 use Rattle.acredact.specs.Ruled.{BeginsLinesText, IsLined, LeavesLined, LinesOutcome, RedactsLines, Ruling, WritesLines, ruling_as, unread_of}

@@ -1,12 +1,10 @@
 -- Sums are no greater than all counts, and these grow by no more than there are runs.
+use Rattle.acredact.proofs.Common.{CountsThese, Occurrence, common_steps, runs_named}
 use Rattle.std.proofs.Common.{◌≡◌, ℕ, ◌+◌, ◌-◌, ◌<◌, ◌≤◌, Bool, true, false, List, [], ◌∷◌, length, refl, sym, subst, arith, suc}
 use Rattle.std.specs.Prelude.{◌^◌, min, nat_eq, nat_lt, not, slice_index, if◌then◌else◌}
 use Rattle.std.specs.List.{filter, fold, sum}
-use Rattle.std.proofs.lemmas.Grind.{common_steps}
 use Rattle.std.proofs.lemmas.List.Filters.{length-filter_both}
 use Rattle.std.proofs.lemmas.List.FromFn.{get_or-map-range_with_len, length-map-range_with_len}
-use Rattle.aho_core.specs.Occurrence.{Occurrence}
-use Rattle.aho_cover.specs.Counting.{CountsThese, runs_named}
 use Rattle.acredact.specs.Sums.{counts_for, given_count, share, sum_for, sums_of}
 use Rattle.acredact.specs.Tables.{Secret}
 

@@ -1,10 +1,8 @@
 -- How arguments are set apart, one after another, and what the status says behind what was told of them.
+use Rattle.acredact.proofs.Common.{ne_eqb, same_Some, texts}
 use Rattle.std.proofs.Common.{◌≡◌, inl, inr, ℕ, List, [], ◌∷◌, ◌++◌, Option, true, refl, sym, ◌∙◌, append-nil, append_assoc, arith}
 use Rattle.std.specs.Prelude.{◌⊎◌, ◌==◌, None, Some, Vec, length}
 use Rattle.std.specs.Str.{IsUtf8}
-use Rattle.std.proofs.lemmas.Bool.{ne_eqb}
-use Rattle.std.proofs.lemmas.Option.{same_Some}
-use Rattle.tool_parts.specs.Arguments.{texts}
 use Rattle.acredact.specs.Apart.{AreSetApart, HaveNoName, IsWrong, PutsName, PutsText, has_none, names_file, next_behind, status_behind}
 use Rattle.acredact.specs.Reads.{bytes_of_names}
 use Rattle.acredact.specs.declared.apart.Apart.{Apart}

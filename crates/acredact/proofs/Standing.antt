@@ -1,9 +1,7 @@
 -- What stands for a searcher can do what the searcher can.
+use Rattle.acredact.proofs.Common.{Automata, Bor, shortest}
 use Rattle.std.proofs.Common.{◌≤◌, ◌∙◌, ℕ, Bool, List, ap, length, subst, sym}
 use Rattle.std.specs.Prelude.{IsOk}
-use Rattle.std.specs.Borrow.{Bor}
-use Rattle.aho_core.specs.Laws.{shortest}
-use Rattle.aho_automaton.specs.declared.automaton.Automaton.{Ghosts as Automata}
 use Rattle.chromesquid.specs.Searcher.{Searcher, StandsFor}
 use Rattle.chromesquid.specs.contracts.automaton.AhoCorasickAutomaton.TheImpl.{ghosts as of_searcher}
 use Rattle.secret_rules.specs.OpenLines.{CanSearch}

@@ -1,35 +1,17 @@
 -- How an automaton redacts streams.
+use Rattle.acredact.proofs.Common.{CanBegin, Folders, Ghosts, Keeps-refl, Memory, No, Patterns, PieceRule, Readers, Refused, SinkGhosts, Standard, StreamError, Streams, Volume, Writers, ne_eqb, pieces_of, shortest, tells-nothing}
 use Rattle.std.proofs.Common.{◌≡◌, inl, ℕ, ◌≤◌, List, [], ◌∷◌, Option, true, false, length, map, refl, sym, ap, subst, ◌∙◌, arith}
 use Rattle.std.specs.Prelude.{Bool, ◌&&◌, None, Some, Ok, Err, if◌then◌else◌}
-use Rattle.std.specs.declared.io.traits.Read.{Ghosts as Readers}
-use Rattle.std.specs.declared.io.traits.Write.{Ghosts as Writers}
-use Rattle.std.proofs.KnownBytes.{Keeps-refl}
-use Rattle.std.proofs.lemmas.Bool.{ne_eqb}
-use Rattle.aho_core.specs.Laws.{shortest}
-use Rattle.aho_core.specs.Patterns.{Patterns}
-use Rattle.aho_core.specs.Replacement.{pieces_of}
 use Rattle.aho_core.specs.declared.error.MatchErrorKind.TheVariants.{UnsupportedEmpty}
-use Rattle.aho_core.specs.declared.error.stream.StreamError.{StreamError}
-use Rattle.aho_core.specs.declared.error.stream.StreamError.TheVariants.{Match as Refused, Memory}
-use Rattle.aho_core.specs.declared.search.Anchored.TheVariants.{No}
-use Rattle.aho_core.specs.declared.search.MatchKind.TheVariants.{Standard}
 use Rattle.aho_automaton.specs.Covering.{cover_refusal}
-use Rattle.aho_automaton.specs.declared.automaton.Automaton.{Ghosts}
 use Rattle.aho_cover.specs.Covers.{IsUnbegunWith, RefusesStreamCover}
-use Rattle.aho_cover.specs.Pieces.{PieceRule}
 use Rattle.aho_cover.specs.declared.progress.CoverProgress.{CoverProgress}
-use Rattle.aho_devices.specs.declared.device.Sink.{Ghosts as SinkGhosts}
 use Rattle.aho_stream.specs.Replacing.{IsMakingRefusal}
-use Rattle.aho_stream.specs.StreamRun.{CanBegin}
-use Rattle.tool_parts.proofs.Tellings.{tells-nothing}
 use Rattle.acredact.specs.Back.{DoesJob}
 use Rattle.acredact.specs.Files.{AreCut, CanDo, FilesOutcome, Work, key_for, redactor_of, rule_for, work_of}
 use Rattle.acredact.specs.Secrets.{CanRedact, Redactor}
 use Rattle.acredact.specs.Ways.{IsCovering, IsRedactor}
 use Rattle.acredact.specs.declared.files.Job.{Job}
-use Rattle.acredact.specs.declared.folder.Folder.{Ghosts as Folders}
-use Rattle.acredact.specs.declared.streams.Streams.{Streams}
-use Rattle.acredact.specs.declared.summary.Volume.{Volume}
 use Rattle.acredact.proofs.OneFile.{named_none}
 use Rattle.acredact.proofs.Redactions.{some_of}
 

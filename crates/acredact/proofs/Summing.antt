@@ -1,12 +1,12 @@
 -- Counts are added to sums, one after another.
+use Rattle.acredact.proofs.Common.{Rule, get_or-replicate, length-replicate, take_rest}
 use Rattle.std.proofs.Common.{◌≡◌, ℕ, ◌+◌, ◌-◌, ◌<◌, ◌≤◌, List, [], ◌∷◌, ◌++◌, length, take, drop, get_or, refl, sym, ap, ◌∙◌, arith}
 use Rattle.std.specs.Prelude.{◌^◌, min, replicate, slice_index}
 use Rattle.std.proofs.Math.Seq.{take-append_seam}
-use Rattle.std.proofs.lemmas.List.{ext_get_or, get_or-replicate, length-replicate, take_rest}
+use Rattle.std.proofs.lemmas.List.{ext_get_or}
 use Rattle.std.proofs.lemmas.List.FromFn.{get_or-map-range_with_len, length-map-range_with_len}
 use Rattle.acredact.specs.Sums.{HaveGrown, counts_for, given_count, share, sum_for, sums_of}
 use Rattle.acredact.specs.Tables.{Secret, secret_of, secrets_of}
-use Rattle.acredact.specs.declared.patterns.Rule.{Rule}
 
 -- what was added, and then more
 pub grown_then : (few more both : ℕ → ℕ) (one two three : List ℕ) → ((number : ℕ) → both number ≡ few number + more number) → HaveGrown few one two → HaveGrown more two three → HaveGrown both one three

@@ -1,26 +1,10 @@
 -- What is told of lines, one after another, by what a visitor of them leaves.
+use Rattle.acredact.proofs.Common.{Appends, Appends-nil, Appends-trans, Covering, IfOk-weaker, IsAtEnd, Line, LineError, MutBor, Occurrence, Patterns, PositionLimit, Read, SinkGhosts, SourceGhosts, StartsWith, Stream, StreamError, covering_by, or-false, or_assoc, stream_lines, take-length}
 use Rattle.std.proofs.Common.{◌++◌, ◌∙◌, ◌∷◌, ◌≡◌, ◌≢◌, List, Option, [], ap, append-nil, append_assoc, drop, false, inl, inr, refl, subst, sym, take, true, ℕ}
 use Rattle.std.specs.Prelude.{Bool, ◌||◌, Result, Ok, Err, IfOk}
-use Rattle.std.specs.Borrow.{MutBor}
-use Rattle.std.specs.Io.{StartsWith}
-use Rattle.std.specs.Io.KnownBytes.{Appends, IsAtEnd}
-use Rattle.std.proofs.KnownBytes.{Appends-nil, Appends-trans}
-use Rattle.std.proofs.Math.Bool.{or-false, or_assoc}
-use Rattle.std.proofs.Math.Seq.{take-length}
 use Rattle.std.proofs.lemmas.List.{take-append-drop}
-use Rattle.std.proofs.lemmas.Result.{IfOk-weaker}
-use Rattle.aho_core.specs.Occurrence.{Occurrence}
-use Rattle.aho_core.specs.Patterns.{Patterns}
-use Rattle.aho_core.specs.declared.error.stream.StreamError.{StreamError}
-use Rattle.aho_core.specs.declared.error.stream.StreamError.TheVariants.{Read, PositionLimit}
-use Rattle.aho_devices.specs.declared.device.Sink.{Ghosts as SinkGhosts}
-use Rattle.aho_devices.specs.declared.device.Source.{Ghosts as SourceGhosts}
 use Rattle.aho_cover.proofs.Copied.{begins_with}
-use Rattle.secret_rules.specs.Covering.{Covering, covering_by}
-use Rattle.secret_rules.specs.Lines.{Line, stream_lines}
 use Rattle.secret_rules.specs.Visits.{BeginsVisiting, LeavesVisited, StopsWithin, VisitsEach, VisitsLines, taken_line}
-use Rattle.secret_rules.specs.declared.error.LineError.{LineError}
-use Rattle.secret_rules.specs.declared.error.LineError.TheVariants.{Stream}
 use Rattle.secret_rules.specs.declared.rule.Rule.{Rule}
 use Rattle.secret_rules.specs.declared.visitor.LineVisitor.{Ghosts as VisitorGhosts}
 use Rattle.acredact.specs.Looks.{verdict_of}

@@ -1,15 +1,7 @@
 -- How counts grow by the ranges that are replaced, file after file.
+use Rattle.acredact.proofs.Common.{CountsThese, Errors, IsAtEnd, Keeps, Occurrence, Rule, SinkGhosts, SourceGhosts, Volume, counts_none, counts_then, is_input, length-map}
 use Rattle.std.proofs.Common.{◌≡◌, ◌≢◌, ℕ, zero, suc, ◌<◌, true, false, List, [], ◌∷◌, ◌++◌, Option, length, refl, sym, ap, subst, ◌∙◌, append-nil, append_assoc, arith}
 use Rattle.std.specs.Prelude.{slice_index}
-use Rattle.std.specs.Io.KnownBytes.{IsAtEnd, Keeps}
-use Rattle.std.proofs.lemmas.List.{length-map}
-use Rattle.aho_core.specs.Occurrence.{Occurrence}
-use Rattle.aho_cover.specs.Counting.{CountsThese}
-use Rattle.aho_cover.proofs.Counted.{counts_none, counts_then}
-use Rattle.aho_devices.specs.declared.device.Sink.{Ghosts as SinkGhosts}
-use Rattle.aho_devices.specs.declared.device.Source.{Ghosts as SourceGhosts}
-use Rattle.tool_parts.specs.Names.{is_input}
-use Rattle.tool_parts.specs.declared.errors.Errors.{Errors}
 use Rattle.acredact.specs.Arguments.{Given}
 use Rattle.acredact.specs.Calls.{TellsCounts, TellsTotals}
 use Rattle.acredact.specs.Counts.{zeros}
@@ -17,8 +9,6 @@ use Rattle.acredact.specs.Files.{Work}
 use Rattle.acredact.specs.Secrets.{Redactor}
 use Rattle.acredact.specs.Tables.{secret_of, secrets_of}
 use Rattle.acredact.specs.Totals.{AreTotals, CountsOfName, CountsOfNames, CountsOfStream, CountsOfText, HasRanges, NameHasRanges, NamesHaveRanges}
-use Rattle.acredact.specs.declared.patterns.Rule.{Rule}
-use Rattle.acredact.specs.declared.summary.Volume.{Volume}
 use Rattle.acredact.proofs.OneFile.{ended_text, known_read, of_folder}
 
 -- a stream that has ended gave a text

@@ -1,18 +1,12 @@
 -- Values of variables, one after another.
+use Rattle.acredact.proofs.Common.{All-head, All-tail, Bor, Form, Rule, common_steps, get_or-map, length-map, pieces_of, take_rest}
 use Rattle.std.proofs.Common.{◌≡◌, ℕ, ◌+◌, ◌-◌, ◌^◌, ◌<◌, ◌≤◌, Bool, true, false, List, [], ◌∷◌, ◌++◌, Option, length, take, drop, get_or, refl, sym, ap, subst, ◌∙◌, append-nil, append_assoc, arith}
 use Rattle.std.specs.Prelude.{Some, None, if◌then◌else◌, min, nat_eq, nat_lt, slice_index_or}
 use Rattle.std.specs.List.{cons_option}
-use Rattle.std.specs.Borrow.{Bor}
-use Rattle.std.proofs.lemmas.Grind.{common_steps}
-use Rattle.std.proofs.lemmas.List.{get_or-map, length-map, take_rest}
-use Rattle.std.proofs.lemmas.List.Elements.{All-head, All-tail}
-use Rattle.aho_core.specs.Replacement.{pieces_of}
 use Rattle.acredact.specs.Parts.{IsAddedSome}
 use Rattle.acredact.specs.Tables.{IsWithout, Secret, patterns_in, secret_of, secrets_of, stripped_by}
 use Rattle.acredact.specs.Values.{GiveEach, GivesValue, bad_or, before_equals, behind_equals, fault_of_line, first_fault, is_named, value_of_entry, values_with}
-use Rattle.acredact.specs.declared.patterns.Form.{Form}
 use Rattle.acredact.specs.declared.patterns.LineFault.{LineFault}
-use Rattle.acredact.specs.declared.patterns.Rule.{Rule}
 
 -- the first equals sign parts a text
 pub behind_at : (front rest : List ℕ) → IsWithout 61 front → behind_equals (front ++ (61 ∷ rest)) ≡ Some rest

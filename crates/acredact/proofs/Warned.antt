@@ -1,18 +1,8 @@
 -- What comes of a call whose pieces were looked at.
+use Rattle.acredact.proofs.Common.{All, All-cons, All-nil, Errors, Failure, FromWrite, IsMember, Patterns, Readers, SinkGhosts, Streams, Strict, Tells, Writers, bytes_left}
 use Rattle.std.proofs.Common.{◌≡◌, inl, inr, ℕ, List, [], ◌∷◌, Option, true, false, refl, sym, subst, ◌∙◌}
 use Rattle.std.specs.Prelude.{◌⊎◌, Bool, None, Some, Result, Err, Vec, is_some, option_map}
-use Rattle.std.specs.List.{All}
-use Rattle.std.specs.declared.io.traits.Read.{Ghosts as Readers}
-use Rattle.std.specs.declared.io.traits.Write.{Ghosts as Writers}
-use Rattle.std.proofs.lemmas.List.Elements.{All-cons, All-nil}
 use Rattle.std.proofs.lemmas.Result.{on_err_weaker}
-use Rattle.aho_core.specs.Listing.{IsMember}
-use Rattle.aho_core.specs.Patterns.{Patterns}
-use Rattle.aho_devices.specs.declared.adapters.FromWrite.{FromWrite}
-use Rattle.aho_devices.specs.declared.device.Sink.{Ghosts as SinkGhosts}
-use Rattle.tool_parts.specs.Streams.{bytes_left}
-use Rattle.tool_parts.specs.Telling.{Tells}
-use Rattle.tool_parts.specs.declared.errors.Errors.{Errors}
 use Rattle.acredact.specs.Arguments.{Given, has}
 use Rattle.acredact.specs.Calls.{Call, CallOutcome, IsLineOf, IsWarningLine, IsWordLine, MayFail, OutputFails, RestOutcome, TellsAnyNumbers, TellsNumbers, keyed_as, names_asked, reading_by, redactor_by_given, work_by}
 use Rattle.acredact.specs.Doubts.{TellsDoubts, all_doubt_lines}
@@ -22,10 +12,7 @@ use Rattle.acredact.specs.Pieces.{IsJudgedBy, TellsOfPieces}
 use Rattle.acredact.specs.Ready.{CannotPrepare}
 use Rattle.acredact.specs.Secrets.{AreCleanBy, Redactor, key_of_cover}
 use Rattle.acredact.specs.Tables.{Secret}
-use Rattle.acredact.specs.declared.options.Word.TheVariants.{Strict}
 use Rattle.acredact.specs.declared.clean.Unclean.{Unclean}
-use Rattle.acredact.specs.declared.failure.Failure.{Failure}
-use Rattle.acredact.specs.declared.streams.Streams.{Streams}
 use Rattle.acredact.proofs.Calls.{call_ended, may_fail, some_behind, tells_both, tells_line, tells_same}
 use Rattle.acredact.proofs.Free.{free_of}
 

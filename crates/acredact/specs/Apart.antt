@@ -1,11 +1,9 @@
 -- Arguments that are not UTF-8: which of them name files, and what is told of these.
+use Rattle.acredact.specs.Common.{Form, OtherFailure, OutOfMemory, argument_form, concat, joined_letters, long_name, long_with, no_more, no_option}
 use Rattle.std.specs.Prelude.{◌≡◌, ◌⊎◌, ℕ, ◌++◌, ◌||◌, not, Bool, true, false, List, [], ◌∷◌, Option, Some, None, Result, IfOk, codes, map, if◌then◌else◌}
-use Rattle.std.specs.List.{concat}
 use Rattle.std.specs.Str.{IsUtf8}
-use Rattle.tool_parts.specs.ArgumentForms.{Form, argument_form, joined_letters, long_name, long_with, no_more, no_option}
 use Rattle.tool_parts.specs.Arguments.{texts}
-use Rattle.tool_parts.specs.declared.failure.Failure.{Failure as OtherFailure}
-use Rattle.tool_parts.specs.declared.failure.Failure.TheVariants.{OutOfMemory, Usage}
+use Rattle.tool_parts.specs.declared.failure.Failure.TheVariants.{Usage}
 use Rattle.acredact.specs.Arguments.{Given, ItemsSoFar, all_asked, by_argument, has}
 use Rattle.acredact.specs.Calls.{gives_pattern}
 use Rattle.acredact.specs.Messages.{line_about}

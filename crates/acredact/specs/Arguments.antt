@@ -1,10 +1,8 @@
 -- What the arguments, those after the program's name, ask for.
+use Rattle.acredact.specs.Common.{Form, Standard, argument_form, bytes_eq, joined_letters, long_name, long_with, no_more, no_option}
 use Rattle.std.specs.Prelude.{◌≡◌, ◌⊎◌, ℕ, ◌==◌, ◌++◌, ◌||◌, ◌&&◌, not, Bool, true, false, List, [], ◌∷◌, Option, Some, None, Result, IfOk, codes, is_some, map, option_and_then, unwrap_or, String, Vec, if◌then◌else◌}
-use Rattle.std.specs.Str.{bytes_eq}
 use Rattle.aho_core.specs.declared.search.MatchKind.{MatchKind}
-use Rattle.aho_core.specs.declared.search.MatchKind.TheVariants.{Standard}
 use Rattle.tool_parts.specs.Arguments.{kind_by, texts}
-use Rattle.tool_parts.specs.ArgumentForms.{Form, argument_form, joined_letters, long_name, long_with, no_more, no_option}
 use Rattle.acredact.specs.Forms.{are_forms}
 use Rattle.acredact.specs.Long.{word_by_name}
 use Rattle.acredact.specs.LineSizes.{is_size}

@@ -1,14 +1,8 @@
 -- What comes of the files of a job, and by what a stream is redacted by a walk backward.
+use Rattle.acredact.specs.Common.{Bor, Ghosts, Patterns, Readers, SinkGhosts, StreamError, Writers}
 use Rattle.std.specs.Prelude.{◌≡◌, ℕ, Bool, List, OnOk, Result, true}
-use Rattle.std.specs.Borrow.{Bor}
-use Rattle.std.specs.declared.io.traits.Read.{Ghosts as Readers}
-use Rattle.std.specs.declared.io.traits.Write.{Ghosts as Writers}
-use Rattle.aho_core.specs.Patterns.{Patterns}
-use Rattle.aho_core.specs.declared.error.stream.StreamError.{StreamError}
-use Rattle.aho_automaton.specs.declared.automaton.Automaton.{Ghosts}
 use Rattle.aho_backward.specs.Searcher.{IsBackwardOf}
 use Rattle.aho_backward.specs.declared.backward.Backward.{Backward}
-use Rattle.aho_devices.specs.declared.device.Sink.{Ghosts as SinkGhosts}
 use Rattle.acredact.specs.Bounds.{JobNumbers}
 use Rattle.acredact.specs.Files.{FilesOutcome, redactor_of, work_of}
 use Rattle.acredact.specs.Secrets.{Redactor}

@@ -1,13 +1,7 @@
 -- How great the numbers are that are told: none has grown by more than the bytes that were read, whether all were read or not.
+use Rattle.acredact.specs.Common.{Consumes, FromRead, Readers, SourceGave, SourceGhosts, bytes_left, name_bytes}
 use Rattle.std.specs.Prelude.{◌≡◌, ℕ, ◌+◌, ◌<◌, ◌≤◌, Bool, List, [], ◌∷◌, Option, length, slice_index}
-use Rattle.std.specs.Io.KnownBytes.{Consumes}
 use Rattle.std.specs.List.{sum}
-use Rattle.std.specs.declared.io.traits.Read.{Ghosts as Readers}
-use Rattle.aho_devices.specs.declared.adapters.FromRead.{FromRead}
-use Rattle.aho_devices.specs.declared.device.Source.{Ghosts as SourceGhosts}
-use Rattle.aho_stream.specs.Replacing.{SourceGave}
-use Rattle.tool_parts.specs.Names.{name_bytes}
-use Rattle.tool_parts.specs.Streams.{bytes_left}
 use Rattle.acredact.specs.Reads.{OfName}
 use Rattle.acredact.specs.declared.files.Job.{Job}
 use Rattle.acredact.specs.declared.folder.Folder.{Ghosts as Folders}

@@ -1,6 +1,6 @@
 -- The patterns that a call asks for.
+use Rattle.acredact.specs.Common.{Patterns}
 use Rattle.std.specs.Prelude.{ℕ, List}
-use Rattle.aho_core.specs.Patterns.{Patterns}
 use Rattle.tool_parts.specs.Building.{patterns_by_kind}
 use Rattle.acredact.specs.Arguments.{Given, has, kind_asked}
 use Rattle.acredact.specs.declared.options.Word.TheVariants.{IgnoreCase}

@@ -1,22 +1,10 @@
 -- What a call does, by what its arguments ask for, and what it tells.
+use Rattle.acredact.specs.Common.{Errors, FromWrite, IsMember, Occurrence, OtherFailure, OutOfMemory, Patterns, Readers, Reason, SinkGhosts, Tells, TellsBytes, TellsSome, Writers, bytes_left, counted, output_bytes}
 use Rattle.std.specs.Prelude.{◌≡◌, ◌⊎◌, ℕ, ◌<◌, ◌≤◌, slice_index, ◌||◌, Bool, MatchBool, true, false, List, [], ◌∷◌, Option, Result, Ok, Err, IfErr, OnErr, codes, is_some, length, map, option_map, unwrap_or, if◌then◌else◌}
-use Rattle.std.specs.declared.io.traits.Read.{Ghosts as Readers}
-use Rattle.std.specs.declared.io.traits.Write.{Ghosts as Writers}
-use Rattle.aho_core.specs.Listing.{IsMember}
-use Rattle.aho_core.specs.Occurrence.{Occurrence}
-use Rattle.aho_core.specs.Patterns.{Patterns}
 use Rattle.aho_core.specs.declared.error.BuildError.{BuildError}
-use Rattle.aho_devices.specs.Counts.{counted}
-use Rattle.aho_devices.specs.declared.adapters.FromWrite.{FromWrite}
-use Rattle.aho_devices.specs.declared.device.Sink.{Ghosts as SinkGhosts}
 use Rattle.tool_parts.specs.Building.{RefusesPatterns}
 use Rattle.tool_parts.specs.Names.{IsOneOf, or_input}
-use Rattle.tool_parts.specs.Streams.{output_bytes, bytes_left}
-use Rattle.tool_parts.specs.Telling.{Tells, TellsBytes, TellsSome}
-use Rattle.tool_parts.specs.declared.errors.Errors.{Errors}
-use Rattle.tool_parts.specs.declared.failure.Failure.{Failure as OtherFailure}
-use Rattle.tool_parts.specs.declared.failure.Failure.TheVariants.{Build, OutOfMemory, Write, WriteZero}
-use Rattle.tool_parts.specs.declared.reason.Reason.{Reason}
+use Rattle.tool_parts.specs.declared.failure.Failure.TheVariants.{Build, Write, WriteZero}
 use Rattle.acredact.specs.Arguments.{Given, GivesNoPattern, RefusesUnclean, all_given, counts_asked, covers_asked, has, is_same, last_value, words_asked}
 use Rattle.acredact.specs.Bounds.{ReadInAll}
 use Rattle.acredact.specs.Builds.{patterns_by_given}

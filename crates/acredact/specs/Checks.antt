@@ -1,17 +1,6 @@
 -- What a check sees of files, one after another, and what it tells.
+use Rattle.acredact.specs.Common.{All, Errors, FromRead, IsMember, OutOfMemory, Patterns, Readers, Reason, SinkGhosts, Tells, TellsBytes, bytes_left, concat, name_bytes}
 use Rattle.std.specs.Prelude.{◌≡◌, ◌⊎◌, ℕ, ◌<◌, ◌≤◌, ◌||◌, Bool, true, false, List, [], ◌∷◌, ◌++◌, Option, Result, IfErr, IfOk, OnErr}
-use Rattle.std.specs.List.{All, concat}
-use Rattle.std.specs.declared.io.traits.Read.{Ghosts as Readers}
-use Rattle.aho_core.specs.Listing.{IsMember}
-use Rattle.aho_core.specs.Patterns.{Patterns}
-use Rattle.aho_devices.specs.declared.adapters.FromRead.{FromRead}
-use Rattle.aho_devices.specs.declared.device.Sink.{Ghosts as SinkGhosts}
-use Rattle.tool_parts.specs.Names.{name_bytes}
-use Rattle.tool_parts.specs.Streams.{bytes_left}
-use Rattle.tool_parts.specs.Telling.{Tells, TellsBytes}
-use Rattle.tool_parts.specs.declared.errors.Errors.{Errors}
-use Rattle.tool_parts.specs.declared.failure.Failure.TheVariants.{OutOfMemory}
-use Rattle.tool_parts.specs.declared.reason.Reason.{Reason}
 use Rattle.acredact.specs.Arguments.{AsksToCheck, Given, GivesNoPattern, has, words_asked}
 use Rattle.acredact.specs.Builds.{patterns_by_given}
 use Rattle.acredact.specs.Calls.{Call, IsBuildRefusal, IsUnreadLine, call_of, gives_pattern, names_asked, reading_by}

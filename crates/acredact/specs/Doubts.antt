@@ -1,9 +1,6 @@
 -- Which patterns of lists may be meant otherwise than they stand there, which are too short for forms, and what is told of them.
+use Rattle.acredact.specs.Common.{All, Errors, SinkGhosts, TellsBytes, concat, flat_map}
 use Rattle.std.specs.Prelude.{◌≡◌, ◌⊎◌, ℕ, ◌-◌, ◌==◌, ◌&&◌, ◌||◌, Bool, MatchBool, true, List, [], ◌∷◌, ◌++◌, Option, Some, None, codes, get_or, map, if◌then◌else◌, length, nat_lt, slice_index}
-use Rattle.std.specs.List.{All, concat, flat_map}
-use Rattle.aho_devices.specs.declared.device.Sink.{Ghosts as SinkGhosts}
-use Rattle.tool_parts.specs.Telling.{TellsBytes}
-use Rattle.tool_parts.specs.declared.errors.Errors.{Errors}
 use Rattle.acredact.specs.Arguments.{Given}
 use Rattle.acredact.specs.Failures.{bad_line}
 use Rattle.acredact.specs.Messages.{told_line}

@@ -1,11 +1,10 @@
 -- Why a call ends early, and how that is told.
+use Rattle.acredact.specs.Common.{OtherFailure, Reason}
 use Rattle.std.specs.Prelude.{◌≡◌, ◌⊎◌, ℕ, Bool, true, false, List, Some, codes}
 use Rattle.tool_parts.specs.Failures.{failure_text}
 use Rattle.tool_parts.specs.Messages.{Message, reason_text}
-use Rattle.tool_parts.specs.declared.failure.Failure.{Failure as OtherFailure}
 use Rattle.tool_parts.specs.declared.failure.Failure.TheVariants.{Write, WriteZero}
 use Rattle.acredact.specs.LineFaults.{line_fault_text}
-use Rattle.tool_parts.specs.declared.reason.Reason.{Reason}
 use Rattle.acredact.specs.Messages.{about, alone, line_about, message_about, numbered_line, told_line, unclean_line}
 use Rattle.acredact.specs.Mistakes.{mistake_line}
 use Rattle.acredact.specs.declared.failure.Failure.{Failure}

@@ -1,9 +1,7 @@
 -- Why the redaction of a stream or of all files ends early.
+use Rattle.acredact.specs.Common.{Memory, PositionLimit, Read, ReadFault, Reason, StreamError, TooLong}
 use Rattle.std.specs.Prelude.{Bool, true, false, Option, Some, None, Result, Ok, Err}
-use Rattle.aho_core.specs.declared.error.stream.StreamError.{StreamError}
-use Rattle.aho_core.specs.declared.error.stream.StreamError.TheVariants.{Match, Read, Write, WriteZero, Memory, PositionLimit}
-use Rattle.tool_parts.specs.declared.reason.Reason.{Reason}
-use Rattle.tool_parts.specs.declared.reason.Reason.TheVariants.{PositionLimit as TooLong, ReadFault}
+use Rattle.aho_core.specs.declared.error.stream.StreamError.TheVariants.{Match, Write, WriteZero}
 
 -- a stream's: a device fails, it is too long, or memory runs out
 abbrev pub IsStreamEnd : StreamError → Type 0

@@ -1,24 +1,8 @@
 -- What is written of files, one after another, and what is told of those that cannot be read.
+use Rattle.acredact.specs.Common.{Appends, Consumes, FromRead, FromWrite, Ghosts, IsAtEnd, Keeps, Patterns, PieceRule, Readers, Reason, SinkGhosts, StreamError, TellsBytes, Writers, bytes_left, concat, counted, name_bytes, output_bytes, pieces_of}
 use Rattle.std.specs.Prelude.{◌≡◌, ◌⊎◌, ℕ, ◌≤◌, ◌&&◌, length, Bool, true, false, List, [], ◌∷◌, ◌++◌, Option, None, Some, Result, Ok, Err, IfErr, IfOk, OnErr, option_map}
-use Rattle.std.specs.Io.KnownBytes.{Appends, Consumes, IsAtEnd, Keeps}
-use Rattle.std.specs.List.{concat}
-use Rattle.std.specs.declared.io.traits.Read.{Ghosts as Readers}
-use Rattle.std.specs.declared.io.traits.Write.{Ghosts as Writers}
-use Rattle.aho_core.specs.Patterns.{Patterns}
-use Rattle.aho_core.specs.Replacement.{pieces_of}
-use Rattle.aho_core.specs.declared.error.stream.StreamError.{StreamError}
-use Rattle.aho_automaton.specs.declared.automaton.Automaton.{Ghosts}
-use Rattle.aho_cover.specs.Pieces.{PieceRule}
-use Rattle.aho_devices.specs.Counts.{counted}
 use Rattle.aho_devices.specs.Refusals.{is_write_fault, is_write_of_nothing}
-use Rattle.aho_devices.specs.declared.adapters.FromRead.{FromRead}
-use Rattle.aho_devices.specs.declared.adapters.FromWrite.{FromWrite}
-use Rattle.aho_devices.specs.declared.device.Sink.{Ghosts as SinkGhosts}
 use Rattle.tool_parts.specs.Messages.{reason_text}
-use Rattle.tool_parts.specs.Names.{name_bytes}
-use Rattle.tool_parts.specs.Streams.{output_bytes, bytes_left}
-use Rattle.tool_parts.specs.Telling.{TellsBytes}
-use Rattle.tool_parts.specs.declared.reason.Reason.{Reason}
 use Rattle.acredact.specs.Faults.{IsOutputEnd, IsReadReason}
 use Rattle.acredact.specs.Messages.{line_about, output_line}
 use Rattle.acredact.specs.Reads.{EachName, OfName, ReadsText}

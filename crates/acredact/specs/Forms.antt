@@ -1,7 +1,7 @@
 -- Forms of patterns: which are asked for, and which patterns they are.
+use Rattle.acredact.specs.Common.{All, bytes_eq, slice_split}
 use Rattle.std.specs.Prelude.{◌≡◌, ℕ, ◌+◌, ◌≤◌, ◌||◌, Bool, List, [], ◌∷◌, ◌++◌, Option, Some, None, codes, flat_map, is_some, length, map, nat_eq, nat_lt, option_and_then, option_map, if◌then◌else◌}
-use Rattle.std.specs.List.{All, filter, filter_map, list_all, list_any, slice_split}
-use Rattle.std.specs.Str.{bytes_eq}
+use Rattle.std.specs.List.{filter, filter_map, list_all, list_any}
 use Rattle.secret_forms.specs.Forms.{HidesForm, HidesNested, form_patterns, forms_patterns, inner_patterns, nested_patterns}
 use Rattle.secret_forms.specs.Patterns.{added_all}
 use Rattle.secret_forms.specs.declared.form.Form.{Form as SecretForm}

@@ -1,12 +1,10 @@
 -- What shows a secret in a form, and that none of it stays.
+use Rattle.acredact.specs.Common.{IsMember, Keeps, Occurrence}
 use Rattle.std.specs.Prelude.{◌≡◌, ◌⊎◌, ℕ, ◌+◌, ◌<◌, ◌≤◌, Contains, IsUtf8, List, [], ◌∷◌, ◌++◌, Option, chars, flat_map, length}
 use Rattle.base64.specs.Engines.{standard, standard_no_pad, url_safe, url_safe_no_pad}
 use Rattle.base64.specs.GeneralPurpose.{encode_of}
 use Rattle.hex.specs.Hex.{encode_lower, encode_upper}
-use Rattle.std.specs.Io.KnownBytes.{Keeps}
 use Rattle.aho_core.specs.Cover.{IsCovered}
-use Rattle.aho_core.specs.Listing.{IsMember}
-use Rattle.aho_core.specs.Occurrence.{Occurrence}
 use Rattle.secret_forms.specs.Forms.{form_patterns}
 use Rattle.secret_forms.specs.Json.{json_char, json_spellings, json_ways}
 use Rattle.secret_forms.specs.Law.{HoldsBit, IsOfBytes}

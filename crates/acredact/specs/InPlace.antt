@@ -1,18 +1,7 @@
 -- What becomes of files that are replaced in place: of each a new one is filled, and takes its place where all was done.
+use Rattle.acredact.specs.Common.{Errors, FromWrite, Memory, Occurrence, OutOfMemory, Readers, Reason, SinkGhosts, StreamError, Tells, TellsBytes, TellsSome, Writers, bytes_left, is_input, output_bytes}
 use Rattle.std.specs.Prelude.{◌≡◌, ◌⊎◌, ℕ, Bool, true, false, List, [], ◌∷◌, Option, Result, Ok, Err, IfSome}
-use Rattle.std.specs.declared.io.traits.Read.{Ghosts as Readers}
-use Rattle.std.specs.declared.io.traits.Write.{Ghosts as Writers}
-use Rattle.aho_core.specs.Occurrence.{Occurrence}
-use Rattle.aho_core.specs.declared.error.stream.StreamError.{StreamError}
-use Rattle.aho_core.specs.declared.error.stream.StreamError.TheVariants.{Memory}
-use Rattle.aho_devices.specs.declared.adapters.FromWrite.{FromWrite}
-use Rattle.aho_devices.specs.declared.device.Sink.{Ghosts as SinkGhosts}
-use Rattle.tool_parts.specs.Names.{IsOneOf, is_input}
-use Rattle.tool_parts.specs.Streams.{bytes_left, output_bytes}
-use Rattle.tool_parts.specs.Telling.{Tells, TellsBytes, TellsSome}
-use Rattle.tool_parts.specs.declared.errors.Errors.{Errors}
-use Rattle.tool_parts.specs.declared.failure.Failure.TheVariants.{OutOfMemory}
-use Rattle.tool_parts.specs.declared.reason.Reason.{Reason}
+use Rattle.tool_parts.specs.Names.{IsOneOf}
 use Rattle.acredact.specs.Arguments.{Given, RefusesUnclean, all_given, counts_asked, has}
 use Rattle.acredact.specs.Calls.{Call, IsLineOf, MayFail, TellsTotals, WarnsCall, call_of, names_asked, reading_by, redactor_by_given, work_by}
 use Rattle.acredact.specs.Doubts.{TellsWarnings}

@@ -1,14 +1,6 @@
 -- What becomes of a file that is named for the output: a new one is filled, and takes its place where all was done.
+use Rattle.acredact.specs.Common.{Errors, FromWrite, Readers, Reason, SinkGhosts, TellsBytes, TellsSome, Writers, is_input, output_bytes}
 use Rattle.std.specs.Prelude.{◌≡◌, ◌⊎◌, ℕ, List, [], IfSome, Option, false, true}
-use Rattle.std.specs.declared.io.traits.Read.{Ghosts as Readers}
-use Rattle.std.specs.declared.io.traits.Write.{Ghosts as Writers}
-use Rattle.aho_devices.specs.declared.device.Sink.{Ghosts as SinkGhosts}
-use Rattle.aho_devices.specs.declared.adapters.FromWrite.{FromWrite}
-use Rattle.tool_parts.specs.Names.{is_input}
-use Rattle.tool_parts.specs.Streams.{output_bytes}
-use Rattle.tool_parts.specs.Telling.{TellsBytes, TellsSome}
-use Rattle.tool_parts.specs.declared.errors.Errors.{Errors}
-use Rattle.tool_parts.specs.declared.reason.Reason.{Reason}
 use Rattle.acredact.specs.Arguments.{Given, RefusesUnclean, counts_asked}
 use Rattle.acredact.specs.Calls.{CountsAsked, IsLineOf, LeavesNoneAsked, OutputFails, RedactsAsked, WarnsAsked, call_of}
 use Rattle.acredact.specs.Files.{unread_line}

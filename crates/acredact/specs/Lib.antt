@@ -1,4 +1,5 @@
 -- what the arguments ask for, and what is told of wrong ones
+pub mod Common
 pub mod Long
 pub mod LineSizes
 pub mod Arguments

@@ -1,6 +1,6 @@
 -- Why a line of a file of patterns or of a table holds no secret.
+use Rattle.acredact.specs.Common.{ends_with_byte}
 use Rattle.std.specs.Prelude.{◌≡◌, ◌⊎◌, ℕ, ◌+◌, ◌-◌, ◌^◌, min, Bool, MatchBool, true, false, List, [], ◌∷◌, ◌++◌, Option, Some, None, codes, if◌then◌else◌, length, nat_eq}
-use Rattle.std.specs.Io.BufRead.{ends_with_byte}
 use Rattle.std.specs.List.{starts_with}
 use Rattle.acredact.specs.Tables.{IsWithout, in_table, stripped_by}
 use Rattle.acredact.specs.declared.patterns.BadLine.{BadLine}

@@ -1,13 +1,9 @@
 -- The rules that options give, and how long a line may be by them.
+use Rattle.acredact.specs.Common.{FromRead, Readers, Rule, bytes_eq, bytes_left}
 use Rattle.std.specs.Prelude.{◌≡◌, ℕ, Bool, MatchBool, List, [], ◌∷◌, Option, Vec, codes, option_and_then, string_bytes, unwrap_or, None}
-use Rattle.std.specs.Str.{bytes_eq}
-use Rattle.std.specs.declared.io.traits.Read.{Ghosts as Readers}
-use Rattle.aho_devices.specs.declared.adapters.FromRead.{FromRead}
-use Rattle.tool_parts.specs.Streams.{bytes_left}
 use Rattle.secret_rules.specs.After.{after_expression}
 use Rattle.secret_rules.specs.Rules.{keywords_of, regex_of}
 use Rattle.secret_rules.specs.Tables.{TellsRules}
-use Rattle.secret_rules.specs.declared.rule.Rule.{Rule}
 use Rattle.acredact.specs.Arguments.{Given, last_value}
 use Rattle.acredact.specs.LineSizes.{size_in}
 use Rattle.acredact.specs.Loading.{EachGives, Reading, reading_of_lists}

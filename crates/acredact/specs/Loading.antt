@@ -1,11 +1,9 @@
 -- What the options give, one after another, and why they do not.
+use Rattle.acredact.specs.Common.{Bor, ReadFault, Reason, is_input}
 use Rattle.std.specs.Prelude.{◌≡◌, ◌⊎◌, ℕ, ◌<◌, ◌≤◌, Bool, true, false, List, [], ◌∷◌, ◌++◌, Option, Some, None, IfSome, Result, Err, if◌then◌else◌, length, option_map, Vec}
-use Rattle.std.specs.Borrow.{Bor}
 use Rattle.std.specs.List.{AllZip, filter_map}
-use Rattle.tool_parts.specs.Names.{is_input}
 use Rattle.tool_parts.specs.declared.failure.Failure.TheVariants.{OutOfMemory as NoMemory}
-use Rattle.tool_parts.specs.declared.reason.Reason.{Reason}
-use Rattle.tool_parts.specs.declared.reason.Reason.TheVariants.{OutOfMemory, ReadFault}
+use Rattle.tool_parts.specs.declared.reason.Reason.TheVariants.{OutOfMemory}
 use Rattle.acredact.specs.Pseudonyms.{pseudonym_rule}
 use Rattle.acredact.specs.Arguments.{Given, has, last_value}
 use Rattle.acredact.specs.Forms.{AskedForms, HideSecrets, forms_asked, with_forms}

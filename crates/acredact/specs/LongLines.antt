@@ -1,10 +1,7 @@
 -- How many lines are too long, and so covered whole.
+use Rattle.acredact.specs.Common.{Covering, Errors, SinkGhosts, TellsBytes, stream_lines}
 use Rattle.std.specs.Prelude.{◌≡◌, ℕ, ◌+◌, ◌-◌, ◌^◌, ◌==◌, min, nat_lt, List, [], ◌∷◌, Option, filter, if◌then◌else◌, length}
-use Rattle.aho_devices.specs.declared.device.Sink.{Ghosts as SinkGhosts}
-use Rattle.tool_parts.specs.Telling.{TellsBytes}
-use Rattle.tool_parts.specs.declared.errors.Errors.{Errors}
-use Rattle.secret_rules.specs.Covering.{Covering}
-use Rattle.secret_rules.specs.Lines.{Line, stream_lines}
+use Rattle.secret_rules.specs.Lines.{Line}
 use Rattle.acredact.specs.Reads.{OfName, ReadsText}
 use Rattle.acredact.specs.RuleLines.{too_long_line}
 

@@ -1,20 +1,10 @@
 -- Whether something counts in what is read: what a check looks for.
+use Rattle.acredact.specs.Common.{Consumes, Ghosts, IsAtEnd, MayBe, Memory, Occurrence, Patterns, PositionLimit, Read, ReadFault, Reason, SourceGave, SourceGhosts, Standard, StreamError, TooLong, counted}
 use Rattle.std.specs.Prelude.{◌≡◌, ℕ, ◌||◌, ◌&&◌, not, Bool, true, false, List, [], Option, Some, Result, Ok, Err, IfErr, alloc_error}
-use Rattle.std.specs.Io.KnownBytes.{Consumes, IsAtEnd}
 use Rattle.std.specs.declared.alloc.AllocError.{AllocError}
-use Rattle.aho_core.specs.Occurrence.{Occurrence}
-use Rattle.aho_core.specs.Patterns.{Patterns}
-use Rattle.aho_core.specs.declared.error.stream.StreamError.{StreamError}
-use Rattle.aho_core.specs.declared.error.stream.StreamError.TheVariants.{Match, Read, Write, WriteZero, Memory, PositionLimit}
-use Rattle.aho_core.specs.declared.search.MatchKind.TheVariants.{Standard}
-use Rattle.aho_automaton.specs.declared.automaton.Automaton.{Ghosts}
-use Rattle.aho_devices.specs.Counts.{counted}
+use Rattle.aho_core.specs.declared.error.stream.StreamError.TheVariants.{Match, Write, WriteZero}
 use Rattle.aho_devices.specs.Refusals.{is_read_fault}
-use Rattle.aho_devices.specs.declared.device.Source.{Ghosts as SourceGhosts}
-use Rattle.aho_stream.specs.Replacing.{MayBe, SourceGave}
 use Rattle.aho_stream.specs.StreamRun.{CanBegin}
-use Rattle.tool_parts.specs.declared.reason.Reason.{Reason}
-use Rattle.tool_parts.specs.declared.reason.Reason.TheVariants.{PositionLimit as TooLong, ReadFault}
 use Rattle.acredact.specs.Faults.{is_unread}
 use Rattle.acredact.specs.Reads.{ReadsText}
 use Rattle.acredact.specs.Secrets.{CountsFor, Redactor, redactor_by}

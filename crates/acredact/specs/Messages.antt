@@ -1,7 +1,7 @@
 -- The lines on standard error.
+use Rattle.acredact.specs.Common.{as_shown}
 use Rattle.std.specs.Prelude.{ℕ, List, ◌++◌, Option, None, Some, codes, decimal}
 use Rattle.tool_parts.specs.Messages.{Message, message_by}
-use Rattle.rule_files.specs.Messages.{as_shown}
 use Rattle.acredact.specs.declared.clean.Flaw.{Flaw}
 use Rattle.acredact.specs.declared.clean.Flaw.TheVariants.{Empty, Pseudonym, Spells}
 use Rattle.acredact.specs.declared.clean.Unclean.{Unclean}

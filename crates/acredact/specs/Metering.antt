@@ -1,6 +1,6 @@
 -- How many bytes a source gave.
+use Rattle.acredact.specs.Common.{Consumes, Keeps}
 use Rattle.std.specs.Prelude.{◌≡◌, ℕ, ◌+◌, ◌-◌, ◌≤◌, ◌^◌, min, Bool, true, List, Option, None, Some, Result, MatchResult, is_some, length, take, if◌then◌else◌}
-use Rattle.std.specs.Io.KnownBytes.{Consumes, Keeps}
 
 -- of these bytes, where they are known, so many are left, and all others were added to a number; that stops at the greatest
 abbrev pub IsMetered : (whole left : Option (List ℕ)) → (start bytes : ℕ) → Type 0

@@ -1,15 +1,14 @@
 -- What is wrong with arguments, and how it is told.
+use Rattle.acredact.specs.Common.{Form, argument_form, as_shown, joined_letters, long_name, long_with, no_more, no_option}
 use Rattle.std.specs.Prelude.{◌≡◌, ◌⊎◌, ℕ, ◌==◌, ◌++◌, List, [], ◌∷◌, Option, Some, None, Result, Ok, Err, IfErr, codes, Vec, if◌then◌else◌}
 use Rattle.tool_parts.specs.OptionNames.{meant}
 use Rattle.tool_parts.specs.declared.options.found.NotFound.{NotFound as WhyNotFound}
-use Rattle.tool_parts.specs.ArgumentForms.{Form, argument_form, joined_letters, long_name, long_with, no_more, no_option}
 use Rattle.tool_parts.specs.Misuses.{text_before, text_behind}
 use Rattle.tool_parts.specs.declared.options.misuse.Misuse.{Misuse}
 use Rattle.tool_parts.specs.declared.options.misuse.Misuse.TheVariants.{UnknownLetter as NoLetter, NotFound as NoName, NoArgument, TakesNone as Argued}
 use Rattle.acredact.specs.Arguments.{Given, ItemsSoFar, all_given, by_argument, given_by, is_same, mixture_of, option_name, takes_value}
 use Rattle.acredact.specs.Long.{found_of_name, word_by_name}
 use Rattle.acredact.specs.Messages.{alone, told_line}
-use Rattle.rule_files.specs.Messages.{as_shown}
 use Rattle.acredact.specs.declared.arguments.Expects.{Expects}
 use Rattle.acredact.specs.declared.arguments.Expects.TheVariants.{Any, Value, Name}
 use Rattle.acredact.specs.declared.options.Item.{Item}

@@ -1,6 +1,6 @@
 -- Secrets that are named by a key: a form has the pseudonym of its secret.
+use Rattle.acredact.specs.Common.{PieceRule}
 use Rattle.std.specs.Prelude.{ℕ, List, Option, Some, None, get_or, map}
-use Rattle.aho_cover.specs.Pieces.{PieceRule}
 use Rattle.acredact.specs.Tables.{Secret, patterns_in}
 
 -- the pattern of the secret of this number, or one's own

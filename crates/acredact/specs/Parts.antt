@@ -1,7 +1,6 @@
 -- The lines of a pattern that is an argument and has line ends.
+use Rattle.acredact.specs.Common.{flat_map, slice_split, strip_last}
 use Rattle.std.specs.Prelude.{◌≡◌, ◌⊎◌, ℕ, Bool, MatchBool, false, List, [], ◌∷◌, ◌++◌, None, Vec, if◌then◌else◌, length, nat_eq, nat_lt}
-use Rattle.std.specs.Io.BufRead.{strip_last}
-use Rattle.std.specs.List.{flat_map, slice_split}
 use Rattle.acredact.specs.LineFaults.{HasByte}
 use Rattle.acredact.specs.Tables.{Holds, IsWithout, Secret, secrets_of}
 use Rattle.acredact.specs.declared.patterns.Rule.{Rule}

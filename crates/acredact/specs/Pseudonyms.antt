@@ -1,7 +1,6 @@
 -- The piece of a run by a key.
+use Rattle.acredact.specs.Common.{PieceRule, folded_by}
 use Rattle.std.specs.Prelude.{ℕ, ◌+◌, ◌/◌, ◌%◌, Bool, List, [], ◌∷◌, ◌++◌, codes, map, nat_lt, slice_index_or, if◌then◌else◌}
-use Rattle.aho_core.specs.Bytes.{folded_by}
-use Rattle.aho_cover.specs.Pieces.{PieceRule}
 use Rattle.sha2.specs.Hashers.{Holds256}
 use Rattle.acredact.specs.Hmac.{hmac_by, hmac_sha256}
 use Rattle.acredact.specs.declared.pseudonym.Pseudonyms.{Pseudonyms}

@@ -1,7 +1,6 @@
 -- What is read of the file of a name.
+use Rattle.acredact.specs.Common.{Consumes, IsAtEnd, Keeps, is_input}
 use Rattle.std.specs.Prelude.{◌≡◌, ℕ, MatchBool, List, [], ◌∷◌, Option, Vec, map}
-use Rattle.std.specs.Io.KnownBytes.{Consumes, IsAtEnd, Keeps}
-use Rattle.tool_parts.specs.Names.{is_input}
 
 -- the bytes of each of some texts
 abbrev pub bytes_of_names : {Z : Type 0} → List (Vec ℕ Z) → List (List ℕ)

@@ -1,9 +1,8 @@
 -- What is ready before any file is read, and why it is not.
+use Rattle.acredact.specs.Common.{name_bytes, pieces_of}
 use Rattle.std.specs.Prelude.{◌≡◌, ◌⊎◌, List}
-use Rattle.aho_core.specs.Replacement.{pieces_of}
 use Rattle.aho_core.specs.declared.search.Anchored.TheVariants.{No}
 use Rattle.chromesquid.specs.Searcher.{Answers, IsBuiltFrom}
-use Rattle.tool_parts.specs.Names.{name_bytes}
 use Rattle.acredact.specs.Arguments.{Given, all_given, has}
 use Rattle.acredact.specs.Builds.{patterns_by_given}
 use Rattle.acredact.specs.Calls.{IsStrictFailure, names_asked, pieces_asked, redactor_by_given}

@@ -1,39 +1,16 @@
 -- What a call with rules does: each line is redacted by what rules mark in it and patterns hold.
+use Rattle.acredact.specs.Common.{AreLineRuns, Bor, Covering, Errors, FromRead, FromWrite, IsMember, Keeps, MayBe, Occurrence, Patterns, PieceRule, PositionLimit, Read, ReadFault, Readers, Reason, Rule, SinkGhosts, SourceGhosts, Standard, StartsWith, Tells, TellsSome, TooLong, Writers, bytes_left, name_bytes, output_bytes, pieces_of, stream_lines}
 use Rattle.std.specs.Prelude.{◌≡◌, ◌⊎◌, ℕ, Bool, true, false, List, [], ◌∷◌, ◌++◌, Option, None, Some, Result, Ok, Err, IfOk, if◌then◌else◌, length, map, option_map, string_bytes, unwrap_or, Vec}
-use Rattle.std.specs.Borrow.{Bor}
-use Rattle.std.specs.Io.{StartsWith}
-use Rattle.std.specs.Io.KnownBytes.{Keeps}
-use Rattle.std.specs.declared.io.traits.Read.{Ghosts as Readers}
-use Rattle.std.specs.declared.io.traits.Write.{Ghosts as Writers}
-use Rattle.aho_core.specs.Listing.{IsMember}
-use Rattle.aho_core.specs.Occurrence.{Occurrence}
-use Rattle.aho_core.specs.Patterns.{Patterns}
-use Rattle.aho_core.specs.Replacement.{pieces_of}
-use Rattle.aho_core.specs.declared.error.stream.StreamError.TheVariants.{Read, PositionLimit}
-use Rattle.aho_core.specs.declared.search.MatchKind.TheVariants.{Standard}
 use Rattle.aho_automaton.specs.declared.automaton.Automaton.{Ghosts as Automata}
-use Rattle.aho_cover.specs.Pieces.{PieceRule, fixed_rule}
+use Rattle.aho_cover.specs.Pieces.{fixed_rule}
 use Rattle.aho_cover.specs.declared.pieces.Pieces.{Ghosts as PieceGhosts}
-use Rattle.aho_devices.specs.declared.adapters.FromRead.{FromRead}
-use Rattle.aho_devices.specs.declared.adapters.FromWrite.{FromWrite}
-use Rattle.aho_devices.specs.declared.device.Sink.{Ghosts as SinkGhosts}
-use Rattle.aho_devices.specs.declared.device.Source.{Ghosts as SourceGhosts}
-use Rattle.aho_stream.specs.Replacing.{MayBe}
 use Rattle.chromesquid.specs.Searcher.{IsBuiltFrom}
-use Rattle.tool_parts.specs.Names.{name_bytes}
-use Rattle.tool_parts.specs.Streams.{bytes_left, output_bytes}
-use Rattle.tool_parts.specs.Telling.{Tells, TellsSome}
-use Rattle.tool_parts.specs.declared.errors.Errors.{Errors}
-use Rattle.tool_parts.specs.declared.reason.Reason.{Reason}
-use Rattle.tool_parts.specs.declared.reason.Reason.TheVariants.{PositionLimit as TooLong, ReadFault}
-use Rattle.secret_rules.specs.Covering.{AreLineRuns, Covering, covering_by, lines_cover}
+use Rattle.secret_rules.specs.Covering.{covering_by, lines_cover}
 use Rattle.secret_rules.specs.LineCovers.{AreSearchedFor, LeavesLines}
-use Rattle.secret_rules.specs.Lines.{stream_lines}
 use Rattle.secret_rules.specs.Ready.{CanCoverLines, most_of, rules_of, searched_automaton, words_of}
 use Rattle.secret_rules.specs.Rules.{AreSound}
 use Rattle.secret_rules.specs.declared.error.LineError.{LineError}
 use Rattle.secret_rules.specs.declared.error.LineError.TheVariants.{Stream}
-use Rattle.secret_rules.specs.declared.rule.Rule.{Rule}
 use Rattle.acredact.specs.Arguments.{AsksForRules, Given, all_given, counts_asked, has, last_value}
 use Rattle.acredact.specs.Calls.{Call, IsUnreadLine, TellsOfFiles, call_of, keyed_as, names_asked, pieces_asked, reading_by, text_asked}
 use Rattle.acredact.specs.Doubts.{TellsDoubts, all_doubt_lines}

@@ -1,32 +1,17 @@
 -- What a check by rules sees in the lines of files, and what it writes of that.
+use Rattle.acredact.specs.Common.{Appends, AreLineRuns, Bor, Covering, Errors, FromRead, Keeps, MayBe, Occurrence, PositionLimit, Read, ReadFault, Readers, Rule, SinkGhosts, SourceGave, SourceGhosts, StartsWith, TellsSome, TooLong, Writers, as_shown, bytes_left, name_bytes, output_bytes, stream_lines}
 use Rattle.std.specs.Prelude.{◌≡◌, ◌⊎◌, ℕ, ◌+◌, ◌-◌, ◌<◌, ◌^◌, min, nat_lt, ◌&&◌, ◌||◌, not, Bool, true, false, List, [], ◌∷◌, ◌++◌, Option, None, Some, Result, Ok, Err, IfOk, codes, decimal, if◌then◌else◌, length, replicate, slice_get, slice_index_or, slice_set, string_bytes}
-use Rattle.std.specs.Borrow.{Bor, MutBor}
-use Rattle.std.specs.Io.{StartsWith}
-use Rattle.std.specs.Io.KnownBytes.{Appends, Keeps}
-use Rattle.std.specs.declared.io.traits.Read.{Ghosts as Readers}
-use Rattle.std.specs.declared.io.traits.Write.{Ghosts as Writers}
-use Rattle.aho_core.specs.Occurrence.{Occurrence}
-use Rattle.aho_core.specs.declared.error.stream.StreamError.TheVariants.{Read, PositionLimit}
+use Rattle.std.specs.Borrow.{MutBor}
 use Rattle.aho_automaton.specs.declared.automaton.Automaton.{Ghosts as Automata}
 use Rattle.aho_devices.specs.Counts.{AppendsBeginning}
-use Rattle.aho_devices.specs.declared.adapters.FromRead.{FromRead}
-use Rattle.aho_devices.specs.declared.device.Sink.{Ghosts as SinkGhosts}
-use Rattle.aho_devices.specs.declared.device.Source.{Ghosts as SourceGhosts}
-use Rattle.aho_stream.specs.Replacing.{MayBe, SourceGave}
-use Rattle.tool_parts.specs.Names.{name_bytes}
-use Rattle.tool_parts.specs.Streams.{bytes_left, output_bytes}
-use Rattle.tool_parts.specs.Telling.{TellsSome}
-use Rattle.tool_parts.specs.declared.errors.Errors.{Errors}
-use Rattle.tool_parts.specs.declared.reason.Reason.TheVariants.{PositionLimit as TooLong, ReadFault}
-use Rattle.secret_rules.specs.Covering.{AreLineRuns, Covering, covering_by}
+use Rattle.secret_rules.specs.Covering.{covering_by}
 use Rattle.secret_rules.specs.LineCovers.{AreSearchedFor}
-use Rattle.secret_rules.specs.Lines.{Line, stream_lines}
+use Rattle.secret_rules.specs.Lines.{Line}
 use Rattle.secret_rules.specs.Ready.{CanCoverLines, most_of, rules_of, searched_automaton, words_of}
 use Rattle.secret_rules.specs.Visits.{AreFirstLines}
 use Rattle.secret_rules.specs.declared.error.LineError.{LineError}
 use Rattle.secret_rules.specs.declared.error.LineError.TheVariants.{Stream}
 use Rattle.secret_rules.specs.declared.line_cover.LineCover.{LineCover}
-use Rattle.secret_rules.specs.declared.rule.Rule.{Rule}
 use Rattle.acredact.specs.Arguments.{AsksForRulesCheck, Given, all_given, has}
 use Rattle.acredact.specs.Calls.{Call, TellsOfFiles, call_of, names_asked, reading_by}
 use Rattle.acredact.specs.Checks.{CheckSays}
@@ -35,7 +20,6 @@ use Rattle.acredact.specs.Doubts.{TellsDoubts}
 use Rattle.acredact.specs.Files.{BeginsWriting}
 use Rattle.acredact.specs.LineRules.{most_asked}
 use Rattle.acredact.specs.Looks.{all_seen, verdict_of}
-use Rattle.rule_files.specs.Messages.{as_shown}
 use Rattle.acredact.specs.Reads.{EachName, OfName, ReadsText}
 use Rattle.rule_files.specs.Flaws.{name_or_number}
 use Rattle.acredact.specs.Ruled.{AreRulesGiven, AreRulesGivenBy, Between, IsRuledTold, TellsRuled, ruling_by}

@@ -1,17 +1,10 @@
 -- How many runs have the number of each pattern and of each rule, file after file, and how that and a summary are told.
+use Rattle.acredact.specs.Common.{AreLineRuns, Covering, Errors, Occurrence, Rule, SinkGhosts, TellsBytes, as_shown, stream_lines}
 use Rattle.std.specs.Prelude.{◌≡◌, ℕ, ◌+◌, MatchBool, true, false, List, [], ◌∷◌, ◌++◌, Option, codes, decimal, drop, if◌then◌else◌, length, string_bytes}
-use Rattle.aho_core.specs.Occurrence.{Occurrence}
 use Rattle.aho_cover.specs.Counting.{CountsThese}
-use Rattle.aho_devices.specs.declared.device.Sink.{Ghosts as SinkGhosts}
-use Rattle.tool_parts.specs.Telling.{TellsBytes}
-use Rattle.tool_parts.specs.declared.errors.Errors.{Errors}
-use Rattle.secret_rules.specs.Covering.{AreLineRuns, Covering}
 use Rattle.secret_rules.specs.LineCovers.{all_of}
-use Rattle.secret_rules.specs.Lines.{stream_lines}
-use Rattle.secret_rules.specs.declared.rule.Rule.{Rule}
 use Rattle.acredact.specs.Arguments.{Given, all_given, counts_asked, counts_given, has}
 use Rattle.acredact.specs.Counts.{counts_text, secret_lines}
-use Rattle.rule_files.specs.Messages.{as_shown}
 use Rattle.acredact.specs.Reads.{OfName, ReadsText}
 use Rattle.acredact.specs.RunSummaries.{run_summary_text}
 use Rattle.acredact.specs.Sums.{sums_of}

@@ -1,6 +1,6 @@
 -- What is written in the place of a run of a call with rules.
+use Rattle.acredact.specs.Common.{PieceRule}
 use Rattle.std.specs.Prelude.{ℕ, List, Option, None, Some, if◌then◌else◌, nat_lt}
-use Rattle.aho_cover.specs.Pieces.{PieceRule}
 use Rattle.acredact.specs.Pseudonyms.{pseudonym_rule}
 use Rattle.acredact.specs.Secrets.{Keyed}
 

@@ -1,7 +1,6 @@
 -- How much was read and replaced by rules, as one object of JSON.
+use Rattle.acredact.specs.Common.{Rule, flat_map}
 use Rattle.std.specs.Prelude.{◌++◌, ◌==◌, ◌||◌, ◌∷◌, List, [], codes, decimal, if◌then◌else◌, nat_lt, string_bytes, ℕ}
-use Rattle.std.specs.List.{flat_map}
-use Rattle.secret_rules.specs.declared.rule.Rule.{Rule}
 use Rattle.acredact.specs.Doubts.{last_of}
 use Rattle.rule_files.specs.Messages.{digits_in}
 use Rattle.acredact.specs.Summaries.{amounts_text}

@@ -1,26 +1,18 @@
 -- What a redaction is, and what it means that no secret is passed on.
+use Rattle.acredact.specs.Common.{Appends, Bor, Ghosts, IsMember, MayBe, Occurrence, Patterns, PieceRule, Standard, StartsWith, pieces_of}
 use Rattle.std.specs.Prelude.{◌≡◌, ℕ, ◌<◌, ◌≤◌, Bool, MatchBool, List, Option, Some, None, false, is_some, length, true}
-use Rattle.std.specs.Borrow.{Bor}
-use Rattle.std.specs.Io.{StartsWith}
-use Rattle.std.specs.Io.KnownBytes.{Appends}
 use Rattle.aho_core.specs.Cover.{AreRunsOf, IsCovered}
 use Rattle.aho_core.specs.Iteration.{AreFinds}
-use Rattle.aho_core.specs.Listing.{IsMember}
-use Rattle.aho_core.specs.Occurrence.{Occurrence}
 use Rattle.aho_core.specs.Occurs.{Occurs, OccursIn}
-use Rattle.aho_core.specs.Patterns.{Patterns}
-use Rattle.aho_core.specs.Replacement.{pieces_of, replaced_by}
+use Rattle.aho_core.specs.Replacement.{replaced_by}
 use Rattle.aho_core.specs.Search.{plain_search}
 use Rattle.aho_core.specs.declared.search.Anchored.TheVariants.{No}
-use Rattle.aho_core.specs.declared.search.MatchKind.TheVariants.{Standard}
 use Rattle.aho_laws.specs.CoverLaws.{AreClean, kept, uncovered}
 use Rattle.aho_cover.specs.Covers.{MayGoOn, covered_up_to}
-use Rattle.aho_cover.specs.Pieces.{PieceRule, fixed_rule, piece_in}
+use Rattle.aho_cover.specs.Pieces.{fixed_rule, piece_in}
 use Rattle.aho_cover.specs.Words.{CountsIn, decided_of}
-use Rattle.aho_automaton.specs.declared.automaton.Automaton.{Ghosts}
 use Rattle.acredact.specs.Pseudonyms.{pseudonym_rule}
 use Rattle.acredact.specs.Spelling.{NoneAreSpelled}
-use Rattle.aho_stream.specs.Replacing.{MayBe}
 use Rattle.aho_stream.specs.StreamRun.{CanBegin}
 
 -- two ranges share a byte

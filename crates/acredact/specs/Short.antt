@@ -1,6 +1,6 @@
 -- Patterns that are too short for forms, and what is told of them.
+use Rattle.acredact.specs.Common.{All}
 use Rattle.std.specs.Prelude.{◌≡◌, ℕ, ◌+◌, ◌&&◌, Bool, true, false, List, [], ◌∷◌, ◌++◌, if◌then◌else◌, is_some, length, nat_lt, not}
-use Rattle.std.specs.List.{All}
 use Rattle.acredact.specs.Arguments.{Given, has}
 use Rattle.acredact.specs.Failures.{short_line}
 use Rattle.acredact.specs.Tables.{Secret}

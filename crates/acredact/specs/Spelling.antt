@@ -1,7 +1,6 @@
 -- Which patterns a pseudonym can spell with what stands beside it, and which it cannot.
+use Rattle.acredact.specs.Common.{IsMember, folded_by}
 use Rattle.std.specs.Prelude.{◌≡◌, ◌⊎◌, ℕ, ◌+◌, ◌<◌, ◌&&◌, ◌||◌, Bool, true, false, List, [], Option, Some, None, length, nat_eq, nat_le, slice_index_or}
-use Rattle.aho_core.specs.Bytes.{folded_by}
-use Rattle.aho_core.specs.Listing.{IsMember}
 use Rattle.acredact.specs.declared.clean.Flaw.TheVariants.{Pseudonym}
 use Rattle.acredact.specs.declared.clean.Unclean.{Unclean}
 

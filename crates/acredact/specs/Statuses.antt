@@ -1,10 +1,6 @@
 -- What the exit status of a call says.
+use Rattle.acredact.specs.Common.{Readers, SinkGhosts, TellsSome, Writers, bytes_left}
 use Rattle.std.specs.Prelude.{◌≡◌, ℕ, true, false, List, if◌then◌else◌}
-use Rattle.std.specs.declared.io.traits.Read.{Ghosts as Readers}
-use Rattle.std.specs.declared.io.traits.Write.{Ghosts as Writers}
-use Rattle.aho_devices.specs.declared.device.Sink.{Ghosts as SinkGhosts}
-use Rattle.tool_parts.specs.Streams.{bytes_left}
-use Rattle.tool_parts.specs.Telling.{TellsSome}
 use Rattle.acredact.specs.Arguments.{AsksToRedact, Given, GivesNoPattern, RefusesUnclean, counts_asked}
 use Rattle.acredact.specs.Calls.{BeginsCall, Call, CountsCall, IsLineOf, LeavesNone, OfCall, OutputFails, RedactsCall, TellsUpToEnd, WarnsCall, call_of}
 use Rattle.acredact.specs.Checks.{SaysOfCheck}

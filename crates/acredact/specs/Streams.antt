@@ -1,15 +1,12 @@
 -- What the redaction of one stream reads and writes.
+use Rattle.acredact.specs.Common.{Appends, SinkGhosts, SourceGave, SourceGhosts, StreamError, counted}
 use Rattle.std.specs.Prelude.{◌≡◌, ℕ, ◌≤◌, length, Bool, List, Result, IfErr, OnErr, OnOk, true}
-use Rattle.std.specs.Io.KnownBytes.{Appends}
-use Rattle.aho_core.specs.declared.error.stream.StreamError.{StreamError}
-use Rattle.aho_devices.specs.Counts.{AppendsBeginning, counted}
+use Rattle.aho_devices.specs.Counts.{AppendsBeginning}
 use Rattle.aho_devices.specs.Errors.{CountsErrors}
 use Rattle.aho_devices.specs.Refusals.{IsFillRefusal, IsWriteRefusal, is_write_fault, is_write_of_nothing}
-use Rattle.aho_devices.specs.declared.device.Sink.{Ghosts as SinkGhosts}
-use Rattle.aho_devices.specs.declared.device.Source.{Ghosts as SourceGhosts}
 use Rattle.aho_stream.specs.After.{greatest_position}
 use Rattle.aho_stream.specs.Refills.{is_limit}
-use Rattle.aho_stream.specs.Replacing.{GaveAsMany, SourceGave}
+use Rattle.aho_stream.specs.Replacing.{GaveAsMany}
 use Rattle.acredact.specs.Secrets.{BeginsRedaction, IsPromptUpTo, IsRedaction, IsWrittenUpTo, Redactor}
 use Rattle.acredact.specs.Faults.{IsStreamEnd}
 

@@ -1,7 +1,7 @@
 -- What the lines of a file of patterns and of a table hold.
+use Rattle.acredact.specs.Common.{All, ends_with_byte, flat_map, slice_split, strip_last}
 use Rattle.std.specs.Prelude.{◌≡◌, ℕ, ◌+◌, ◌-◌, ◌^◌, ◌≤◌, min, Bool, true, false, List, [], ◌∷◌, ◌++◌, Option, Some, None, Vec, codes, length, map, nat_eq, option_map, unwrap_or, if◌then◌else◌}
-use Rattle.std.specs.Io.BufRead.{ends_with_byte, strip_last}
-use Rattle.std.specs.List.{All, AllZip, flat_map, slice_split}
+use Rattle.std.specs.List.{AllZip}
 use Rattle.acredact.specs.declared.patterns.Form.{Form}
 use Rattle.acredact.specs.declared.patterns.Place.{Place}
 use Rattle.acredact.specs.declared.patterns.Rule.{Rule}

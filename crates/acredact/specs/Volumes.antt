@@ -1,13 +1,7 @@
 -- How much of files was read: how many of them, and how many bytes.
+use Rattle.acredact.specs.Common.{Bor, FromRead, Readers, SourceGave, SourceGhosts, bytes_left, name_bytes}
 use Rattle.std.specs.Prelude.{◌≡◌, ℕ, ◌+◌, ◌-◌, ◌^◌, min, true, List, [], ◌∷◌, Bool, Option, Result, Ok, if◌then◌else◌, is_some, length}
-use Rattle.std.specs.Borrow.{Bor}
-use Rattle.std.specs.declared.io.traits.Read.{Ghosts as Readers}
 use Rattle.aho_cover.specs.Counting.{grown_count}
-use Rattle.aho_devices.specs.declared.adapters.FromRead.{FromRead}
-use Rattle.aho_devices.specs.declared.device.Source.{Ghosts as SourceGhosts}
-use Rattle.aho_stream.specs.Replacing.{SourceGave}
-use Rattle.tool_parts.specs.Names.{name_bytes}
-use Rattle.tool_parts.specs.Streams.{bytes_left}
 use Rattle.acredact.specs.Reads.{OfName, ReadsText}
 use Rattle.acredact.specs.declared.files.Job.{Job}
 use Rattle.acredact.specs.declared.folder.Folder.{Ghosts as Folders}

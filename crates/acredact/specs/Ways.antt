@@ -1,9 +1,7 @@
 -- By what a stream is redacted.
+use Rattle.acredact.specs.Common.{Bor, Ghosts, PieceRule}
 use Rattle.std.specs.Prelude.{◌≡◌, ℕ, false, true, List}
-use Rattle.std.specs.Borrow.{Bor}
-use Rattle.aho_automaton.specs.declared.automaton.Automaton.{Ghosts}
 use Rattle.aho_cover.specs.Covers.{IsUnbegunWith}
-use Rattle.aho_cover.specs.Pieces.{PieceRule}
 use Rattle.aho_cover.specs.declared.progress.CoverProgress.{CoverProgress}
 use Rattle.acredact.specs.Secrets.{CanRedact, Redactor, redactor_by, rule_of}
 use Rattle.acredact.specs.declared.ways.Way.{Ghosts as Ways}

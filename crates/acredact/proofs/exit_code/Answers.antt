@@ -1,8 +1,8 @@
 -- The status is that of the call, but for what was told of names.
+use Rattle.acredact.proofs.Common.{texts}
 use Rattle.std.proofs.Common.{◌≡◌, ℕ, List, IfOk, sym, subst, ◌∙◌}
 use Rattle.std.specs.Prelude.{Some}
 use Rattle.std.specs.Process.{exit_status}
-use Rattle.tool_parts.specs.Arguments.{texts}
 use Rattle.acredact.specs.Arguments.{AsksForRules, AsksForRulesCheck, AsksToCheck, AsksToRedact, Given, all_asked}
 use Rattle.acredact.proofs.SetApart.{behind_one, behind_two, behind_zero}
 use Rattle.acredact.proofs.exit_code.Goals.{After-drop-apart-in-Ok}

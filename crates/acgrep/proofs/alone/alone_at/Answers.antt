@@ -1,9 +1,7 @@
 -- The longest is tried first, and then the shorter ones, one after another.
+use Rattle.acgrep.proofs.Common.{IsBestOrNone, LeftmostLongest, Occurrence}
 use Rattle.std.proofs.Common.{◌<◌, ◌∙◌, ◌≡◌, ◌≤◌, Option, ap, arith, false, subst, sym}
 use Rattle.std.specs.Prelude.{IfSome}
-use Rattle.aho_core.specs.Best.{IsBestOrNone}
-use Rattle.aho_core.specs.Occurrence.{Occurrence}
-use Rattle.aho_core.specs.declared.search.MatchKind.TheVariants.{LeftmostLongest}
 use Rattle.acgrep.specs.Alone.{IsShorter, begins_alone, ends_alone}
 use Rattle.acgrep.proofs.AloneTried.{tried_alone, tried_next, tried_none}
 use Rattle.acgrep.proofs.alone.alone_at.Goals as goal

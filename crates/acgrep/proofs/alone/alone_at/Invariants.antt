@@ -1,8 +1,6 @@
 -- What begins there and stands alone is the match that is tried, or is tried behind it.
+use Rattle.acgrep.proofs.Common.{IsBuiltFrom, LeftmostLongest, Patterns}
 use Rattle.std.proofs.Common.{◌≡◌, ◌≤◌, length}
-use Rattle.aho_core.specs.Patterns.{Patterns}
-use Rattle.aho_core.specs.declared.search.MatchKind.TheVariants.{LeftmostLongest}
-use Rattle.chromesquid.specs.Searcher.{IsBuiltFrom}
 use Rattle.acgrep.specs.Alone.{IsLongestThere}
 use Rattle.acgrep.proofs.AloneTried.{IsTried}
 use Rattle.acgrep.proofs.alone.alone_at.Given as goal

@@ -1,10 +1,7 @@
 -- Nothing that stands alone is passed: what the search finds first is tried, and then what begins behind it.
+use Rattle.acgrep.proofs.Common.{IsAnswer, IsBestOrNone, LeftmostLongest, Occurrence}
 use Rattle.std.proofs.Common.{◌≤◌, None, Option, Some, arith, length, subst}
 use Rattle.std.specs.Prelude.{IfSome}
-use Rattle.aho_core.specs.Answer.{IsAnswer}
-use Rattle.aho_core.specs.Best.{IsBestOrNone}
-use Rattle.aho_core.specs.Occurrence.{Occurrence}
-use Rattle.aho_core.specs.declared.search.MatchKind.TheVariants.{LeftmostLongest}
 use Rattle.aho_laws.specs.CutLaws.{span_search}
 use Rattle.acgrep.specs.Alone.{IsAloneAt}
 use Rattle.acgrep.proofs.AloneTried.{alone_found, alone_later, alone_none, begins_at, longest_there}

@@ -1,8 +1,6 @@
 -- Nothing that stands alone begins before the place that was reached.
+use Rattle.acgrep.proofs.Common.{IsBuiltFrom, LeftmostLongest, Patterns}
 use Rattle.std.proofs.Common.{◌+◌, ◌-◌, ◌≡◌, ◌≤◌, length}
-use Rattle.aho_core.specs.Patterns.{Patterns}
-use Rattle.aho_core.specs.declared.search.MatchKind.TheVariants.{LeftmostLongest}
-use Rattle.chromesquid.specs.Searcher.{IsBuiltFrom}
 use Rattle.acgrep.proofs.AloneTried.{BeginsBehind}
 use Rattle.acgrep.proofs.alone.longest_alone.Given as goal
 

@@ -1,6 +1,6 @@
 -- What was read is what the digits mean.
+use Rattle.acgrep.proofs.Common.{get_or}
 use Rattle.std.proofs.Common.{arith}
-use Rattle.std.proofs.Math.ListN.{get_or}
 use Rattle.std.proofs.lemmas.Bool.Decides.{not_from_Decides}
 use Rattle.std.proofs.lemmas.Str.Pattern.{starts_char}
 use Rattle.std.specs.Prelude.{◌≢◌}

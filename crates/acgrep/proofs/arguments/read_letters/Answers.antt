@@ -1,8 +1,8 @@
 -- A letter that is no digit turns something on.
+use Rattle.acgrep.proofs.Common.{Flags}
 use Rattle.std.proofs.Common.{◌∙◌, ◌∷◌, ◌≡◌, List, None, Some, ap, arith, rules, subst, sym, ℕ}
 use Rattle.acgrep.specs.Arguments.{AreDigits, letters_by, said, switch_by, valued_letter}
 use Rattle.acgrep.specs.Mistakes.{wrong_letters}
-use Rattle.acgrep.specs.declared.options.Flags.{Flags}
 use Rattle.acgrep.proofs.Digits.{letter_first, letter_switch, wrong_first, wrong_switch}
 use Rattle.acgrep.proofs.arguments.read_letters.Goals as goal
 

@@ -1,9 +1,9 @@
 -- The digits at the front are a number.
+use Rattle.acgrep.proofs.Common.{Around}
 use Rattle.std.proofs.Common.{◌∙◌, List, ap, sym, ℕ}
 use Rattle.aho_build.proofs.StoppedBuilds.{IfErr-given}
 use Rattle.acgrep.specs.Arguments.{AreRefused, letters_by, said, with_number}
 use Rattle.acgrep.specs.Mistakes.{IsTold, wrong_letters}
-use Rattle.acgrep.specs.declared.all_options.Valued.TheVariants.{Around}
 use Rattle.acgrep.proofs.Digits.{digits_behind, digits_read, digits_refused, digits_wrong}
 use Rattle.acgrep.proofs.NoneInLines.{slice_back}
 use Rattle.acgrep.proofs.arguments.take_digits.Goals as goal

@@ -1,12 +1,11 @@
 -- The operands were chosen, or what is below them was found.
+use Rattle.acgrep.proofs.Common.{Ways, name_bytes, or_input}
 use Rattle.std.proofs.Common.{List, subst}
-use Rattle.tool_parts.specs.Names.{name_bytes, or_input}
 use Rattle.acgrep.specs.Arguments.{said}
 use Rattle.acgrep.specs.Folders.{AreChosen, missed_of, tree_of}
 use Rattle.acgrep.specs.Listed.{listed_bytes}
 use Rattle.acgrep.specs.Rules.{rules_said}
 use Rattle.acgrep.specs.declared.rules.Rule.{Rule}
-use Rattle.acgrep.specs.declared.walk.Ways.{Ways}
 use Rattle.acgrep.proofs.Choosing.{reached-chosen}
 use Rattle.acgrep.proofs.below.found_by.Goals as goal
 

@@ -1,8 +1,6 @@
 -- What was found was searched, and what cannot be read was told before.
+use Rattle.acgrep.proofs.Common.{Patterns, name_bytes, some-weaker}
 use Rattle.std.proofs.Common.{◌∙◌, ◌≡◌, [], ap, inl, inr, refl, subst, sym, ℕ}
-use Rattle.aho_core.specs.Patterns.{Patterns}
-use Rattle.tool_parts.proofs.Lines.{some-weaker}
-use Rattle.tool_parts.specs.Names.{name_bytes}
 use Rattle.acgrep.specs.Arguments.{ending_by, said, shown_by}
 use Rattle.acgrep.specs.Folders.{missed_of}
 use Rattle.acgrep.specs.Listed.{listed_bytes}

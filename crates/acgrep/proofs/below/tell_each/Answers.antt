@@ -1,6 +1,6 @@
 -- A name more was told.
+use Rattle.acgrep.proofs.Common.{nil_from_length}
 use Rattle.std.proofs.Common.{◌∷◌, ◌≡◌, Bool, List, [], ap, length, subst, sym, ℕ}
-use Rattle.std.proofs.lemmas.List.{nil_from_length}
 use Rattle.acgrep.specs.Folders.{missed_of}
 use Rattle.acgrep.specs.Reached.{TellsMissed}
 use Rattle.acgrep.specs.Told.{TellsOfFile}

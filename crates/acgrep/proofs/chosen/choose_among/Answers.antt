@@ -1,7 +1,6 @@
 -- A name more was looked at.
+use Rattle.acgrep.proofs.Common.{common_steps, name_bytes}
 use Rattle.std.proofs.Common.{◌<◌, ◌≡◌, Bor, List, [], arith, length, ℕ}
-use Rattle.std.proofs.lemmas.Grind.{common_steps}
-use Rattle.tool_parts.specs.Names.{name_bytes}
 use Rattle.acgrep.specs.Folders.{tree_of}
 use Rattle.acgrep.specs.Rules.{rules_said}
 use Rattle.acgrep.proofs.Choosing.{chosen-end, chosen-more}

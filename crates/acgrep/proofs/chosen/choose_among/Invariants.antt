@@ -1,6 +1,6 @@
 -- What was chosen so far.
+use Rattle.acgrep.proofs.Common.{name_bytes}
 use Rattle.std.proofs.Common.{length}
-use Rattle.tool_parts.specs.Names.{name_bytes}
 use Rattle.acgrep.specs.Folders.{tree_of}
 use Rattle.acgrep.specs.Rules.{rules_said}
 use Rattle.acgrep.proofs.Choosing.{AreSoFar}

@@ -1,6 +1,6 @@
 -- No colon so far.
+use Rattle.acgrep.proofs.Common.{get_or}
 use Rattle.std.proofs.Common.{◌-◌, ◌<◌, ◌≡◌, ◌≤◌, false, length, ℕ}
-use Rattle.std.proofs.Math.ListN.{get_or}
 use Rattle.acgrep.specs.Colors.{is_colon}
 use Rattle.acgrep.proofs.colors.first_colon.Given as goal
 

@@ -1,6 +1,6 @@
 -- A line is selected or not.
+use Rattle.acgrep.proofs.Common.{Appends-nil}
 use Rattle.std.proofs.Common.{◌∷◌, [], refl, subst}
-use Rattle.std.proofs.KnownBytes.{Appends-nil}
 use Rattle.acgrep.specs.Contexts.{IsChosenBy, WalksSome, walk_of}
 use Rattle.acgrep.proofs.Beginnings.{on_err}
 use Rattle.acgrep.proofs.Begun.{begins_nothing}

@@ -1,6 +1,6 @@
 -- A line that is passed over is held.
+use Rattle.acgrep.proofs.Common.{Appends-nil}
 use Rattle.std.proofs.Common.{◌∷◌, ◌≡◌, [], ap, arith, refl}
-use Rattle.std.proofs.KnownBytes.{Appends-nil}
 use Rattle.acgrep.specs.Contexts.{Holding, WalksSome, walk_of}
 use Rattle.acgrep.proofs.Beginnings.{on_err}
 use Rattle.acgrep.proofs.Begun.{begins_nothing}

@@ -1,8 +1,6 @@
 -- What was put together of a selected line and those before it is written, or a beginning of it.
+use Rattle.acgrep.proofs.Common.{Appends, Appends-nil, AppendsBeginning}
 use Rattle.std.proofs.Common.{◌∷◌, ◌≡◌, [], refl, subst}
-use Rattle.std.proofs.KnownBytes.{Appends-nil}
-use Rattle.std.specs.Io.KnownBytes.{Appends}
-use Rattle.aho_devices.specs.Counts.{AppendsBeginning}
 use Rattle.acgrep.specs.Contexts.{WalksSome, walk_of}
 use Rattle.acgrep.proofs.Beginnings.{on_err, page_bytes}
 use Rattle.acgrep.proofs.Begun.{begins_nothing}

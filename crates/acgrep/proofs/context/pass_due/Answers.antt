@@ -1,10 +1,8 @@
 -- A line that is due is written.
+use Rattle.acgrep.proofs.Common.{Appends-nil, AppendsBeginning, Job}
 use Rattle.std.proofs.Common.{◌∷◌, ◌≡◌, Some, [], refl, subst}
-use Rattle.std.proofs.KnownBytes.{Appends-nil}
-use Rattle.aho_devices.specs.Counts.{AppendsBeginning}
 use Rattle.acgrep.specs.Contexts.{WalksSome, walk_of}
 use Rattle.acgrep.specs.Written.{WritesLine}
-use Rattle.acgrep.specs.declared.job.Job.{Job}
 use Rattle.acgrep.proofs.Beginnings.{on_err, page_bytes, page_writes}
 use Rattle.acgrep.proofs.Begun.{begins_nothing}
 use Rattle.acgrep.proofs.Stepped.{due_begun, due_lines, walk_same}

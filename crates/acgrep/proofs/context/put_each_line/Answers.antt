@@ -1,8 +1,8 @@
 -- One line more is put together.
+use Rattle.acgrep.proofs.Common.{Place}
 use Rattle.std.proofs.Common.{◌+◌, ◌<◌, ◌≡◌, List, [], ap, arith, drop, length, subst, sym, ℕ}
 use Rattle.std.proofs.lemmas.List.{drop_all}
 use Rattle.acgrep.specs.Filled.{cut_by, held_lines}
-use Rattle.acgrep.specs.declared.print.Place.{Place}
 use Rattle.acgrep.proofs.HeldLines.{cut_left, sum_left}
 use Rattle.acgrep.proofs.Stepped.{ShowsTo, shows_end, shows_step}
 use Rattle.acgrep.proofs.context.put_each_line.Goals as goal

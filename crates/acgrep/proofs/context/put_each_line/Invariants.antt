@@ -1,8 +1,6 @@
 -- The lines so far are put together.
+use Rattle.acgrep.proofs.Common.{IsBuiltFrom, Patterns, sum}
 use Rattle.std.proofs.Common.{◌≡◌, drop, length}
-use Rattle.std.specs.List.{sum}
-use Rattle.aho_core.specs.Patterns.{Patterns}
-use Rattle.chromesquid.specs.Searcher.{IsBuiltFrom}
 use Rattle.acgrep.specs.Filled.{cut_by, held_lines}
 use Rattle.acgrep.proofs.Stepped.{ShowsTo}
 use Rattle.acgrep.proofs.context.put_each_line.Given as goal

@@ -1,10 +1,8 @@
 -- A selected line follows those that are held before it.
+use Rattle.acgrep.proofs.Common.{Appends, Job, on_ok_weaker}
 use Rattle.std.proofs.Common.{List, subst, ℕ}
-use Rattle.std.proofs.lemmas.Result.{on_ok_weaker}
-use Rattle.std.specs.Io.KnownBytes.{Appends}
 use Rattle.acgrep.specs.Contexts.{ShowsEach, walk_of}
 use Rattle.acgrep.specs.Filled.{held_lines}
-use Rattle.acgrep.specs.declared.job.Job.{Job}
 use Rattle.acgrep.proofs.Stepped.{group_put}
 use Rattle.acgrep.proofs.context.put_group.Goals as goal
 

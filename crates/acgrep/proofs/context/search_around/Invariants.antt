@@ -1,7 +1,6 @@
 -- The lines so far are searched.
+use Rattle.acgrep.proofs.Common.{IsBuiltFrom, Patterns}
 use Rattle.std.proofs.Common.{length}
-use Rattle.aho_core.specs.Patterns.{Patterns}
-use Rattle.chromesquid.specs.Searcher.{IsBuiltFrom}
 use Rattle.acgrep.specs.Contexts.{walk_of}
 use Rattle.acgrep.proofs.Stepped.{WalksTo}
 use Rattle.acgrep.proofs.context.search_around.Given as goal

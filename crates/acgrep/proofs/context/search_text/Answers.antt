@@ -1,18 +1,12 @@
 -- Lines around selected ones are written where they are asked for.
+use Rattle.acgrep.proofs.Common.{AnyPart, Context, Fit, Job, Patterns, State, on_ok_weaker}
 use Rattle.std.proofs.Common.{◌++◌, ◌∙◌, ◌≡◌, Bool, List, None, Option, Some, [], ap, append-nil, arith, false, inl, inr, subst, sym, ℕ}
-use Rattle.std.proofs.lemmas.Result.{on_ok_weaker}
 use Rattle.std.specs.Prelude.{OnErr, OnOk}
-use Rattle.aho_core.specs.Patterns.{Patterns}
 use Rattle.acgrep.specs.Begun.{BeginsOf}
 use Rattle.acgrep.specs.Contexts.{SearchesIn, TellsFrom, WalksText, around_of, walk_of}
 use Rattle.acgrep.specs.Lines.{lines}
 use Rattle.acgrep.specs.Selected.{HoldNoEnding, IsNoneSelected}
 use Rattle.acgrep.specs.Written.{EachLine, HasNone, IsPassedOver}
-use Rattle.acgrep.specs.declared.options.Context.{Context}
-use Rattle.acgrep.specs.declared.options.Fit.{Fit}
-use Rattle.acgrep.specs.declared.options.Fit.TheVariants.{AnyPart}
-use Rattle.acgrep.specs.declared.job.Job.{Job}
-use Rattle.acgrep.specs.declared.job.State.{State}
 use Rattle.acgrep.proofs.FileTellings.{tells_each}
 use Rattle.acgrep.proofs.NoneInLines.{none_by_lines}
 use Rattle.acgrep.proofs.Tellings.{settled_some}

@@ -1,9 +1,6 @@
 -- What was put down of the search is counted.
+use Rattle.acgrep.proofs.Common.{Appends, AppendsBeginning, name_bytes, pieces_of}
 use Rattle.std.proofs.Common.{◌<◌, ◌∙◌, ◌≡◌, ◌≤◌, List, Option, Some, [], ap, arith, inl, inr, subst, sym, ℕ}
-use Rattle.std.specs.Io.KnownBytes.{Appends}
-use Rattle.aho_core.specs.Replacement.{pieces_of}
-use Rattle.aho_devices.specs.Counts.{AppendsBeginning}
-use Rattle.tool_parts.specs.Names.{name_bytes}
 use Rattle.acgrep.specs.Arguments.{said, shown_by}
 use Rattle.acgrep.specs.Folders.{known_by}
 use Rattle.acgrep.specs.Runs.{BeginsOrKeeps, SearchesReached}

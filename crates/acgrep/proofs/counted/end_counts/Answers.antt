@@ -1,5 +1,5 @@
 -- The whole is a beginning.
-use Rattle.aho_core.specs.Replacement.{pieces_of}
+use Rattle.acgrep.proofs.Common.{pieces_of}
 use Rattle.tool_parts.proofs.Beginnings.{beginning-whole}
 use Rattle.acgrep.specs.Tallies.{counts_table}
 use Rattle.acgrep.proofs.counted.end_counts.Goals as goal

@@ -1,7 +1,6 @@
 -- The rows of the counts are those that are told.
+use Rattle.acgrep.proofs.Common.{on_ok_weaker, pieces_of}
 use Rattle.std.proofs.Common.{◌++◌, ◌∙◌, List, ap, subst, ℕ}
-use Rattle.std.proofs.lemmas.Result.{on_ok_weaker}
-use Rattle.aho_core.specs.Replacement.{pieces_of}
 use Rattle.acgrep.specs.Lines.{lines}
 use Rattle.acgrep.specs.Tallies.{CountsLines, zeros_of}
 use Rattle.acgrep.proofs.Tallied.{table-told}

@@ -1,7 +1,6 @@
 -- What was put together is written, or a beginning of it.
+use Rattle.acgrep.proofs.Common.{Appends, AppendsBeginning}
 use Rattle.std.proofs.Common.{subst}
-use Rattle.std.specs.Io.KnownBytes.{Appends}
-use Rattle.aho_devices.specs.Counts.{AppendsBeginning}
 use Rattle.acgrep.proofs.Beginnings.{on_err, page_bytes}
 use Rattle.acgrep.proofs.OrCounted.{beginning-none}
 use Rattle.acgrep.proofs.counted.write_counts.Goals as goal

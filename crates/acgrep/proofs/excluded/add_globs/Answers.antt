@@ -1,6 +1,6 @@
 -- The rule of a line more is added.
+use Rattle.acgrep.proofs.Common.{common_steps}
 use Rattle.std.proofs.Common.{◌++◌, ◌<◌, ◌∙◌, ◌≡◌, [], add-one, ap, append_assoc, arith, drop, length, suc, sym, take}
-use Rattle.std.proofs.lemmas.Grind.{common_steps}
 use Rattle.acgrep.specs.Lines.{lines}
 use Rattle.acgrep.specs.Rules.{glob_of_line, rule_before, rules_in, rules_of_lines, rules_said}
 use Rattle.acgrep.proofs.FirstLines.{lines_first}

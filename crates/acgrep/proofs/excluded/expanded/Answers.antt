@@ -1,6 +1,6 @@
 -- No text is left.
+use Rattle.acgrep.proofs.Common.{nil_from_length}
 use Rattle.std.proofs.Common.{◌++◌, ◌∙◌, ◌≡◌, [], ap, append-nil, sym}
-use Rattle.std.proofs.lemmas.List.{nil_from_length}
 use Rattle.acgrep.specs.Listed.{listed_bytes}
 use Rattle.acgrep.specs.Rules.{expanded, rules_said}
 use Rattle.acgrep.proofs.RuleTexts.{expanded_none}

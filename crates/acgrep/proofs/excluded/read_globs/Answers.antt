@@ -1,8 +1,6 @@
 -- The text of a rule more was read.
+use Rattle.acgrep.proofs.Common.{Errors, TellsSome, common_steps}
 use Rattle.std.proofs.Common.{◌<◌, ◌∙◌, ◌∷◌, ◌≡◌, [], arith, length, refl, subst}
-use Rattle.std.proofs.lemmas.Grind.{common_steps}
-use Rattle.tool_parts.specs.Telling.{TellsSome}
-use Rattle.tool_parts.specs.declared.errors.Errors.{Errors}
 use Rattle.acgrep.specs.Loading.{GivesText}
 use Rattle.acgrep.specs.Rules.{rule_said, rules_said}
 use Rattle.acgrep.specs.Told.{IsMessage, rule_files}

@@ -1,7 +1,6 @@
 -- What was put together is written, or a beginning of it.
+use Rattle.acgrep.proofs.Common.{Appends, Keeps-refl}
 use Rattle.std.proofs.Common.{◌≡◌, subst}
-use Rattle.std.proofs.KnownBytes.{Keeps-refl}
-use Rattle.std.specs.Io.KnownBytes.{Appends}
 use Rattle.tool_parts.proofs.Beginnings.{beginning-whole}
 use Rattle.acgrep.specs.Files.{total_if}
 use Rattle.acgrep.proofs.Beginnings.{page_bytes}

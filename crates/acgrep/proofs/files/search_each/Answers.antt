@@ -1,9 +1,9 @@
 -- A file more was searched.
+use Rattle.acgrep.proofs.Common.{Seen}
 use Rattle.std.proofs.Common.{◌-◌, ◌∷◌, ◌≡◌, List, ap, drop, length, refl, subst, sym, take, ℕ}
 use Rattle.acgrep.specs.Files.{search_work}
 use Rattle.acgrep.specs.Listed.{listed_bytes}
 use Rattle.acgrep.specs.Told.{IsMessage, TellsIf, files_told}
-use Rattle.acgrep.specs.declared.files.Seen.{Seen}
 use Rattle.acgrep.proofs.InTurn.{SoFar, ends_by, names_cut, so_far_end, so_far_start, so_far_step}
 use Rattle.acgrep.proofs.NamesSearched.{name_has}
 use Rattle.acgrep.proofs.Told.{if-more, told-cut}

@@ -1,7 +1,6 @@
 -- The files so far were searched.
+use Rattle.acgrep.proofs.Common.{IsBuiltFrom, Patterns}
 use Rattle.std.proofs.Common.{length}
-use Rattle.aho_core.specs.Patterns.{Patterns}
-use Rattle.chromesquid.specs.Searcher.{IsBuiltFrom}
 use Rattle.acgrep.specs.Files.{search_work}
 use Rattle.acgrep.specs.Listed.{listed_bytes}
 use Rattle.acgrep.specs.Selected.{HoldNoEnding}

@@ -1,11 +1,8 @@
 -- The name that is told is that of the file, and its bytes are those of its reader.
+use Rattle.acgrep.proofs.Common.{Job, Patterns, Unread, is_input}
 use Rattle.std.proofs.Common.{◌∙◌, ◌≡◌, ap, false, refl, subst, sym, true, ℕ}
-use Rattle.aho_core.specs.Patterns.{Patterns}
-use Rattle.tool_parts.specs.Names.{is_input}
 use Rattle.acgrep.specs.Files.{IsNamed, SearchesReader, known_of, shown_name}
 use Rattle.acgrep.specs.Selected.{HoldNoEnding}
-use Rattle.acgrep.specs.declared.files.Outcome.TheVariants.{Unread}
-use Rattle.acgrep.specs.declared.job.Job.{Job}
 use Rattle.acgrep.proofs.FilesBegun.{file_known, file_none, file_read}
 use Rattle.acgrep.proofs.InTurn.{if_broken, if_searched}
 use Rattle.acgrep.proofs.NamesSearched.{leaves_none}

@@ -1,6 +1,6 @@
 -- The status tells what was seen.
+use Rattle.acgrep.proofs.Common.{Keeps-refl}
 use Rattle.std.proofs.Common.{◌<◌, false, subst, sym, ℕ}
-use Rattle.std.proofs.KnownBytes.{Keeps-refl}
 use Rattle.acgrep.specs.Files.{AreSearchedOr, search_work}
 use Rattle.acgrep.specs.Listed.{listed_bytes}
 use Rattle.acgrep.specs.Told.{IsMessage, TellsStatus, files_told}

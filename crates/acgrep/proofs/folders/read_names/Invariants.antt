@@ -1,6 +1,6 @@
 -- What was read so far is what the folder gave.
+use Rattle.acgrep.proofs.Common.{Consumes}
 use Rattle.std.proofs.Common.{◌<◌, length}
-use Rattle.std.specs.Io.KnownBytes.{Consumes}
 use Rattle.acgrep.proofs.folders.read_names.Given as goal
 
 abbrev pub invariant-loop : goal.invariant-loop

@@ -1,9 +1,8 @@
 -- A piece more was read.
+use Rattle.acgrep.proofs.Common.{Piece, common_steps}
 use Rattle.std.proofs.Common.{◌++◌, ◌-◌, ◌<◌, ◌∙◌, ◌∷◌, ◌≡◌, List, Option, Some, [], ap, arith, drop, length, sym, take, ℕ}
-use Rattle.std.proofs.lemmas.Grind.{common_steps}
 use Rattle.std.specs.Prelude.{option_map}
 use Rattle.acgrep.specs.Formats.{format_pieces, front_by, unknown_in}
-use Rattle.acgrep.specs.declared.format.Piece.{Piece}
 use Rattle.acgrep.proofs.FormatTexts.{whole_text}
 use Rattle.acgrep.proofs.Formatted.{pieces_end, pieces_more, pieces_step, rest_behind, unknown_step}
 use Rattle.acgrep.proofs.format.read_format.Goals as goal

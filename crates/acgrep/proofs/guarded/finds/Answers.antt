@@ -1,8 +1,8 @@
 -- What is sought is what is selected, and of it nothing is written.
+use Rattle.acgrep.proofs.Common.{Job}
 use Rattle.std.proofs.Common.{subst, sym, take}
 use Rattle.acgrep.specs.Selected.{HoldNoEnding}
 use Rattle.acgrep.specs.Streamed.{course}
-use Rattle.acgrep.specs.declared.job.Job.{Job}
 use Rattle.acgrep.proofs.Beginnings.{on_err}
 use Rattle.acgrep.proofs.BinaryTold.{begins_sought, finds_sought, past_all}
 use Rattle.acgrep.proofs.guarded.finds.Goals as goal

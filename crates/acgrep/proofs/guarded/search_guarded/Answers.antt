@@ -1,11 +1,7 @@
 -- The lines before the first that holds a zero byte, and whether one of the others is selected.
+use Rattle.acgrep.proofs.Common.{IsBuiltFrom, Keeps-refl, Patterns, or-false, or_right}
 use Rattle.std.proofs.Common.{◌∙◌, Bool, [], ap, false, refl, sym, take, true}
-use Rattle.std.proofs.KnownBytes.{Keeps-refl}
-use Rattle.std.proofs.Math.Bool.{or-false}
-use Rattle.std.proofs.lemmas.Bool.{or_right}
 use Rattle.std.specs.Prelude.{◌||◌, nat_lt}
-use Rattle.aho_core.specs.Patterns.{Patterns}
-use Rattle.chromesquid.specs.Searcher.{IsBuiltFrom}
 use Rattle.acgrep.specs.Binary.{takes_text}
 use Rattle.acgrep.specs.Files.{total_if}
 use Rattle.acgrep.specs.Guarded.{EndsFront}

@@ -1,6 +1,6 @@
 -- The test that bytes are UTF-8 is that of std.
+use Rattle.acgrep.proofs.Common.{cases_Bool}
 use Rattle.std.proofs.Common.{inl, inr, sym}
-use Rattle.std.proofs.lemmas.Bool.{cases_Bool}
 use Rattle.std.proofs.lemmas.Str.{IsUtf8-from_is_utf8, is_utf8-from_IsUtf8}
 use Rattle.std.specs.Str.{is_utf8}
 use Rattle.acgrep.proofs.json.is_text.Goals as goal

@@ -1,8 +1,6 @@
 -- Bytes that are no text are written in base64.
+use Rattle.acgrep.proofs.Common.{Appends, Appends-trans, on_ok_weaker}
 use Rattle.std.proofs.Common.{◌++◌, ◌∙◌, ◌≡◌, List, ap, codes, false, subst, sym, ℕ}
-use Rattle.std.proofs.KnownBytes.{Appends-trans}
-use Rattle.std.proofs.lemmas.Result.{on_ok_weaker}
-use Rattle.std.specs.Io.KnownBytes.{Appends}
 use Rattle.std.specs.Str.{is_utf8}
 use Rattle.base64.specs.Engines.{standard}
 use Rattle.base64.specs.GeneralPurpose.{encode_of}

@@ -1,6 +1,6 @@
 -- The bytes that came so far were written.
+use Rattle.acgrep.proofs.Common.{Appends}
 use Rattle.std.proofs.Common.{take}
-use Rattle.std.specs.Io.KnownBytes.{Appends}
 use Rattle.acgrep.specs.Objects.{json_escaped}
 use Rattle.acgrep.proofs.json.put_escaped.Given as goal
 

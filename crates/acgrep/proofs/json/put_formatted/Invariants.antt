@@ -1,6 +1,6 @@
 -- What the pieces that came so far stand for was written.
+use Rattle.acgrep.proofs.Common.{Appends}
 use Rattle.std.proofs.Common.{take}
-use Rattle.std.specs.Io.KnownBytes.{Appends}
 use Rattle.std.specs.List.{flat_map}
 use Rattle.acgrep.specs.Objects.{fields_told, stands_for}
 use Rattle.acgrep.proofs.json.put_formatted.Given as goal

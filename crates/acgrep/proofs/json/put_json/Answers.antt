@@ -1,5 +1,5 @@
 -- Its parts, one after another.
-use Rattle.std.proofs.KnownBytes.{Appends-trans}
+use Rattle.acgrep.proofs.Common.{Appends-trans}
 use Rattle.acgrep.proofs.json.put_json.Goals as goal
 
 pub returns : goal.returns

@@ -1,12 +1,9 @@
 -- The patterns of a source more were read.
+use Rattle.acgrep.proofs.Common.{Errors, Source, TellsSome, common_steps}
 use Rattle.std.proofs.Common.{◌<◌, ◌≡◌, [], arith, length, rules, subst}
-use Rattle.std.proofs.lemmas.Grind.{common_steps}
-use Rattle.tool_parts.specs.Telling.{TellsSome}
-use Rattle.tool_parts.specs.declared.errors.Errors.{Errors}
 use Rattle.acgrep.specs.Arguments.{origin_of}
 use Rattle.acgrep.specs.Runs.{AreOf, origins_of}
 use Rattle.acgrep.specs.Told.{IsMessage, source_names}
-use Rattle.acgrep.specs.declared.arguments.Source.{Source}
 use Rattle.acgrep.specs.declared.arguments.Source.TheVariants.{Text}
 use Rattle.acgrep.proofs.Gathered.{all_given, next_given}
 use Rattle.acgrep.proofs.Told.{sources-cut}

@@ -1,10 +1,10 @@
 -- The lines of the text are added.
+use Rattle.acgrep.proofs.Common.{Source}
 use Rattle.std.proofs.Common.{subst, sym}
 use Rattle.acgrep.specs.Arguments.{origin_of}
 use Rattle.acgrep.specs.Gathered.{Adds}
 use Rattle.acgrep.specs.Lines.{lines}
 use Rattle.acgrep.specs.Runs.{AreOf}
-use Rattle.acgrep.specs.declared.arguments.Source.{Source}
 use Rattle.acgrep.proofs.WordLists.{text_words}
 use Rattle.acgrep.proofs.keys.read_source.Goals as goal
 

@@ -1,8 +1,7 @@
 -- An option more was looked at.
+use Rattle.acgrep.proofs.Common.{found_among, nil_from_length}
 use Rattle.std.proofs.Common.{◌∙◌, ◌≡◌, List, [], ap, sym}
-use Rattle.std.proofs.lemmas.List.{nil_from_length}
 use Rattle.std.specs.Prelude.{map}
-use Rattle.tool_parts.specs.OptionNames.{found_among}
 use Rattle.tool_parts.specs.declared.options.found.Found.{Found}
 use Rattle.acgrep.specs.Long.{named_by}
 use Rattle.acgrep.specs.declared.long.Long.{Long}

@@ -1,7 +1,7 @@
 -- What the name means with the options so far, and then with the others, is what it means with all.
+use Rattle.acgrep.proofs.Common.{found_among}
 use Rattle.std.proofs.Common.{◌≡◌, length}
 use Rattle.std.specs.Prelude.{map}
-use Rattle.tool_parts.specs.OptionNames.{found_among}
 use Rattle.tool_parts.specs.declared.options.found.Found.TheVariants.{Unknown}
 use Rattle.acgrep.specs.Long.{named_by}
 use Rattle.acgrep.proofs.long.among.Given as goal

@@ -1,6 +1,6 @@
 -- The options that grep has too go before the others.
+use Rattle.acgrep.proofs.Common.{found_among}
 use Rattle.std.proofs.Common.{◌∙◌, ◌≡◌, List, ap, ℕ}
-use Rattle.tool_parts.specs.OptionNames.{found_among}
 use Rattle.tool_parts.specs.declared.options.found.Found.{Found}
 use Rattle.tool_parts.specs.declared.options.found.Found.TheVariants.{Unknown}
 use Rattle.acgrep.specs.Long.{or_own, shared_by, shared_options}

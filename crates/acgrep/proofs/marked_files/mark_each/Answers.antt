@@ -1,17 +1,13 @@
 -- A file more was searched.
+use Rattle.acgrep.proofs.Common.{Covering, Job, Seen, is_input, stream_lines}
 use Rattle.std.proofs.Common.{◌-◌, ◌∙◌, ◌∷◌, ◌≡◌, Bool, List, Option, [], ap, append-nil, drop, false, inl, inr, length, refl, subst, sym, take, true, ℕ}
 use Rattle.std.proofs.lemmas.Bool.{or_parts}
 use Rattle.std.specs.Prelude.{◌&&◌}
-use Rattle.secret_rules.specs.Covering.{Covering}
-use Rattle.secret_rules.specs.Lines.{stream_lines}
-use Rattle.tool_parts.specs.Names.{is_input}
 use Rattle.acgrep.specs.Files.{known_of}
 use Rattle.acgrep.specs.Listed.{listed_bytes}
 use Rattle.acgrep.specs.MarkedFiles.{HasMarkedLine, MarksFile, MarksInput, MarksName, mark_work}
 use Rattle.acgrep.specs.Told.{TellsIf}
 use Rattle.acgrep.specs.ToldByRules.{IsMarkTold}
-use Rattle.acgrep.specs.declared.files.Seen.{Seen}
-use Rattle.acgrep.specs.declared.job.Job.{Job}
 use Rattle.acgrep.proofs.FilesMarked.{still_marks}
 use Rattle.acgrep.proofs.InTurn.{SoFar, ends_by, if_searched, names_cut, so_far_end, so_far_start, so_far_step}
 use Rattle.acgrep.proofs.Told.{if-more}

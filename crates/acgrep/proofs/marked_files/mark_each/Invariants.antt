@@ -1,6 +1,6 @@
 -- The files so far were searched.
+use Rattle.acgrep.proofs.Common.{Covering}
 use Rattle.std.proofs.Common.{◌≡◌, false, length}
-use Rattle.secret_rules.specs.Covering.{Covering}
 use Rattle.acgrep.specs.Listed.{listed_bytes}
 use Rattle.acgrep.specs.MarkedFiles.{IsMarking, MarksBy, mark_work}
 use Rattle.acgrep.specs.Told.{TellsIf}

@@ -1,12 +1,9 @@
 -- The name is that of standard input, or of a file.
+use Rattle.acgrep.proofs.Common.{Keeps, Keeps-refl, Unread, is_input}
 use Rattle.std.proofs.Common.{◌∙◌, ◌≡◌, Bool, List, Option, ap, false, subst, sym, true, ℕ}
-use Rattle.std.proofs.KnownBytes.{Keeps-refl}
 use Rattle.std.proofs.Math.Bool.{and-false}
-use Rattle.std.specs.Io.KnownBytes.{Keeps}
 use Rattle.std.specs.Prelude.{◌&&◌}
-use Rattle.tool_parts.specs.Names.{is_input}
 use Rattle.acgrep.specs.Files.{IsNamed, known_of, shown_name}
-use Rattle.acgrep.specs.declared.files.Outcome.TheVariants.{Unread}
 use Rattle.acgrep.proofs.FilesMarked.{name_comes, name_none}
 use Rattle.acgrep.proofs.MarksTold.{end-told, named-told, outcome-told}
 use Rattle.acgrep.proofs.NamesSearched.{at_file, at_input}

@@ -1,8 +1,7 @@
 -- What comes of the lines, and then what is asked of the file as a whole.
+use Rattle.acgrep.proofs.Common.{Covering, Keeps}
 use Rattle.std.proofs.Common.{◌∙◌, List, Option, ap, refl, subst, sym, ℕ}
-use Rattle.std.specs.Io.KnownBytes.{Keeps}
 use Rattle.std.specs.Prelude.{◌≢◌}
-use Rattle.secret_rules.specs.Covering.{Covering}
 use Rattle.tool_parts.proofs.Ends.{at_end}
 use Rattle.acgrep.specs.Files.{BeginsTotal}
 use Rattle.acgrep.specs.MarkedFiles.{BeginsMarks, MarksBy, file_asked}

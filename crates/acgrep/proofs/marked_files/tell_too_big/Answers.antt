@@ -1,6 +1,6 @@
 -- The line names the rule, or tells that memory ran out.
+use Rattle.acgrep.proofs.Common.{some-one}
 use Rattle.std.proofs.Common.{[], inl, inr}
-use Rattle.tool_parts.proofs.Lines.{some-one}
 use Rattle.acgrep.specs.ToldByRules.{IsMarkTold}
 use Rattle.acgrep.proofs.MarksTold.{some-told}
 use Rattle.acgrep.proofs.marked_files.tell_too_big.Goals as goal

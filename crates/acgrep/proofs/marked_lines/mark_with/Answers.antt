@@ -1,6 +1,6 @@
 -- What is written is what the visits of lines leave.
+use Rattle.acgrep.proofs.Common.{Covering}
 use Rattle.std.proofs.Common.{subst, sym}
-use Rattle.secret_rules.specs.Covering.{Covering}
 use Rattle.acgrep.specs.Marked.{asked_of}
 use Rattle.acgrep.specs.MarkedFiles.{WalksLines}
 use Rattle.acgrep.proofs.MarkedLines.{walked_lines, walked_same}

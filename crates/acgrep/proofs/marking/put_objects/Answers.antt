@@ -1,11 +1,9 @@
 -- One run more.
+use Rattle.acgrep.proofs.Common.{Appends, Appends-trans, Occurrence, common_steps}
 use Rattle.std.proofs.Common.{◌++◌, ◌+◌, ◌<◌, ◌∙◌, ◌∷◌, ◌≡◌, List, [], ap, append-nil, arith, length, subst, sym, take, ℕ}
-use Rattle.std.proofs.KnownBytes.{Appends-trans}
-use Rattle.std.proofs.lemmas.Grind.{common_steps, flat_map-append}
+use Rattle.std.proofs.lemmas.Grind.{flat_map-append}
 use Rattle.std.proofs.lemmas.List.{take_more}
-use Rattle.std.specs.Io.KnownBytes.{Appends}
 use Rattle.std.specs.List.{flat_map}
-use Rattle.aho_core.specs.Occurrence.{Occurrence}
 use Rattle.acgrep.specs.Marked.{ruled_object}
 use Rattle.acgrep.proofs.marking.put_objects.Goals as goal
 

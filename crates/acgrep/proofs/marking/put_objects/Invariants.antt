@@ -1,6 +1,6 @@
 -- The runs that came so far were written as objects.
+use Rattle.acgrep.proofs.Common.{Appends}
 use Rattle.std.proofs.Common.{take}
-use Rattle.std.specs.Io.KnownBytes.{Appends}
 use Rattle.acgrep.specs.Marked.{ruled_objects}
 use Rattle.acgrep.proofs.marking.put_objects.Given as goal
 

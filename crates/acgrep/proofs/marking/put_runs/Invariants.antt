@@ -1,6 +1,6 @@
 -- The runs that came so far were written.
+use Rattle.acgrep.proofs.Common.{Appends}
 use Rattle.std.proofs.Common.{take}
-use Rattle.std.specs.Io.KnownBytes.{Appends}
 use Rattle.acgrep.specs.Printed.{matches_by}
 use Rattle.acgrep.proofs.marking.put_runs.Given as goal
 

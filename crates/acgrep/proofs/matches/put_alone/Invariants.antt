@@ -1,8 +1,6 @@
 -- The matches that came so far were written, and what stands between them.
+use Rattle.acgrep.proofs.Common.{IsBuiltFrom, Occurrence, Patterns}
 use Rattle.std.proofs.Common.{◌+◌, ◌-◌, ◌≤◌, List, length}
-use Rattle.aho_core.specs.Occurrence.{Occurrence}
-use Rattle.aho_core.specs.Patterns.{Patterns}
-use Rattle.chromesquid.specs.Searcher.{IsBuiltFrom}
 use Rattle.acgrep.proofs.AloneTried.{AloneSoFar}
 use Rattle.acgrep.proofs.Coloring.{PutSoFar}
 use Rattle.acgrep.proofs.matches.put_alone.Given as goal

@@ -1,6 +1,6 @@
 -- What stands before a line, the line with its matches, and what ends it.
+use Rattle.acgrep.proofs.Common.{Appends-trans}
 use Rattle.std.proofs.Common.{◌++◌, ◌∷◌, []}
-use Rattle.std.proofs.KnownBytes.{Appends-trans}
 use Rattle.acgrep.specs.Printed.{colored_from, head_of, line_number_at}
 use Rattle.acgrep.proofs.matches.put_colored_line.Goals as goal
 

@@ -1,7 +1,7 @@
 -- Whatever comes, it is written behind the others.
+use Rattle.acgrep.proofs.Common.{on_ok_weaker}
 use Rattle.std.proofs.Common.{rules}
 use Rattle.std.proofs.iter.SoFar.{exit_by}
-use Rattle.std.proofs.lemmas.Result.{on_ok_weaker}
 use Rattle.acgrep.proofs.Coloring.{put_end, put_start, put_step}
 use Rattle.acgrep.proofs.matches.put_each.Goals as goal
 

@@ -1,9 +1,7 @@
 -- One match more, and what follows the last.
+use Rattle.acgrep.proofs.Common.{Occurrence, common_steps, on_ok_weaker, take_all}
 use Rattle.std.proofs.Common.{◌++◌, ◌+◌, ◌<◌, ◌∙◌, ◌∷◌, ◌≡◌, ◌≤◌, List, [], ap, arith, length, subst, sym, take}
-use Rattle.std.proofs.lemmas.Grind.{common_steps}
-use Rattle.std.proofs.lemmas.List.{take_all, take_more}
-use Rattle.std.proofs.lemmas.Result.{on_ok_weaker}
-use Rattle.aho_core.specs.Occurrence.{Occurrence}
+use Rattle.std.proofs.lemmas.List.{take_more}
 use Rattle.acgrep.proofs.Coloring.{PutSoFar, put_end, put_start, put_step}
 use Rattle.acgrep.proofs.matches.put_listed.Goals as goal
 

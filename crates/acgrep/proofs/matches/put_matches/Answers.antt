@@ -1,7 +1,7 @@
 -- The matches that fit are written.
+use Rattle.acgrep.proofs.Common.{Fit}
 use Rattle.std.proofs.Common.{subst, sym}
 use Rattle.acgrep.specs.Matches.{PutsMatches}
-use Rattle.acgrep.specs.declared.options.Fit.{Fit}
 use Rattle.acgrep.proofs.matches.put_matches.Goals as goal
 
 pub returns-in-AnyPart : goal.returns-in-AnyPart

@@ -1,10 +1,8 @@
 -- One pattern more does not hold the byte.
+use Rattle.acgrep.proofs.Common.{Nowhere, cases_lt, pieces_of}
 use Rattle.std.proofs.Common.{◌≡◌, List, [], arith, inl, inr, length, subst, sym, ℕ}
-use Rattle.std.proofs.lemmas.Bool.{cases_lt}
 use Rattle.std.proofs.lemmas.List.{get_or-map}
 use Rattle.std.specs.Prelude.{slice_index_or}
-use Rattle.aho_core.specs.Replacement.{pieces_of}
-use Rattle.memchr.specs.Find.{Nowhere}
 use Rattle.acgrep.specs.Lines.{IsEnding}
 use Rattle.acgrep.proofs.patterns.first_holding.Goals as goal
 

@@ -1,8 +1,7 @@
 -- What the loop keeps: no pattern before the number holds the byte.
+use Rattle.acgrep.proofs.Common.{Nowhere, pieces_of}
 use Rattle.std.proofs.Common.{◌<◌, [], length, ℕ}
 use Rattle.std.specs.Prelude.{slice_index_or}
-use Rattle.aho_core.specs.Replacement.{pieces_of}
-use Rattle.memchr.specs.Find.{Nowhere}
 use Rattle.acgrep.specs.Lines.{IsEnding}
 use Rattle.acgrep.proofs.patterns.first_holding.Given as goal
 

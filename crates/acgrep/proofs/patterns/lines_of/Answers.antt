@@ -1,6 +1,5 @@
+use Rattle.acgrep.proofs.Common.{common_steps, pieces_of}
 use Rattle.std.proofs.Common.{◌++◌, ◌<◌, ◌∙◌, ◌∷◌, ◌≡◌, add-one, ap, arith, drop, length, suc, sym, take}
-use Rattle.std.proofs.lemmas.Grind.{common_steps}
-use Rattle.aho_core.specs.Replacement.{pieces_of}
 use Rattle.acgrep.specs.Lines.{lines}
 use Rattle.acgrep.proofs.FirstLines.{lines_first, pieces_more}
 use Rattle.acgrep.proofs.patterns.lines_of.Goals as goal

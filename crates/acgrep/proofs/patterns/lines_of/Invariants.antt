@@ -1,6 +1,6 @@
 -- The lines so far, and those of what is left.
+use Rattle.acgrep.proofs.Common.{pieces_of}
 use Rattle.std.proofs.Common.{◌++◌, ◌≡◌, length}
-use Rattle.aho_core.specs.Replacement.{pieces_of}
 use Rattle.acgrep.specs.Lines.{lines}
 use Rattle.acgrep.proofs.patterns.lines_of.Given as goal
 

@@ -1,6 +1,6 @@
 -- Why there are none is told.
+use Rattle.acgrep.proofs.Common.{some-one}
 use Rattle.std.proofs.Common.{inl, inr}
-use Rattle.tool_parts.proofs.Lines.{some-one}
 use Rattle.acgrep.specs.ToldByRules.{IsMarkTold}
 use Rattle.acgrep.proofs.rule_lists.add_text.Goals as goal
 

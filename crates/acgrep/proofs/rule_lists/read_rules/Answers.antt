@@ -1,8 +1,6 @@
 -- Those of a name more were read.
+use Rattle.acgrep.proofs.Common.{Rule, common_steps, name_bytes}
 use Rattle.std.proofs.Common.{◌-◌, ◌<◌, ◌∙◌, ◌≡◌, Bor, List, [], arith, length, subst, sym, ℕ}
-use Rattle.std.proofs.lemmas.Grind.{common_steps}
-use Rattle.secret_rules.specs.declared.rule.Rule.{Rule}
-use Rattle.tool_parts.specs.Names.{name_bytes}
 use Rattle.acgrep.specs.RunsByRules.{AreAllRules, AreNamedRules}
 use Rattle.acgrep.proofs.Gathered.{all_given, next_given}
 use Rattle.acgrep.proofs.rule_lists.read_rules.Goals as goal

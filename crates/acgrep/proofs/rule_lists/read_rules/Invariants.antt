@@ -1,6 +1,6 @@
 -- The rules of the names so far were read.
+use Rattle.acgrep.proofs.Common.{name_bytes}
 use Rattle.std.proofs.Common.{◌≡◌, length}
-use Rattle.tool_parts.specs.Names.{name_bytes}
 use Rattle.acgrep.specs.RunsByRules.{AreNamedRules}
 use Rattle.acgrep.proofs.Gathered.{GaveSoFar}
 use Rattle.acgrep.proofs.rule_lists.read_rules.Given as goal

@@ -1,7 +1,7 @@
 -- The line tells of all rules.
+use Rattle.acgrep.proofs.Common.{some-one}
 use Rattle.std.proofs.Common.{None, Some, codes, inl, inr, refl}
 use Rattle.aho_core.specs.Texts.{build_error_text}
-use Rattle.tool_parts.proofs.Lines.{some-one}
 use Rattle.tool_parts.specs.Messages.{message_of}
 use Rattle.acgrep.specs.ToldByRules.{IsMarkTold}
 use Rattle.acgrep.proofs.rule_lists.tell_all.Goals as goal

@@ -1,7 +1,7 @@
 -- The rules were read, and what was said was done by them.
+use Rattle.acgrep.proofs.Common.{Nothing}
 use Rattle.std.proofs.Common.{refl}
 use Rattle.acgrep.specs.ToldByRules.{IsMarkTold}
-use Rattle.acgrep.specs.declared.options.Shown.TheVariants.{Nothing}
 use Rattle.acgrep.proofs.Told.{status-some}
 use Rattle.acgrep.proofs.ruled.mark_asked.Goals as goal
 

@@ -1,7 +1,6 @@
 -- What was found was searched, and what cannot be read was told before.
+use Rattle.acgrep.proofs.Common.{Covering, name_bytes}
 use Rattle.std.proofs.Common.{◌<◌, ◌∙◌, ◌≡◌, [], ap, false, inl, inr, refl, subst, sym, ℕ}
-use Rattle.secret_rules.specs.Covering.{Covering}
-use Rattle.tool_parts.specs.Names.{name_bytes}
 use Rattle.acgrep.specs.Arguments.{shown_by}
 use Rattle.acgrep.specs.Folders.{missed_of}
 use Rattle.acgrep.specs.InTurn.{AreDoneOr}

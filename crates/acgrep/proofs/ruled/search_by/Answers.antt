@@ -1,7 +1,7 @@
 -- How many lines are too long is told at the end.
+use Rattle.acgrep.proofs.Common.{Nothing}
 use Rattle.acgrep.specs.Arguments.{shown_by}
 use Rattle.acgrep.specs.ToldByRules.{IsMarkTold}
-use Rattle.acgrep.specs.declared.options.Shown.TheVariants.{Nothing}
 use Rattle.acgrep.proofs.MarksTold.{long-told}
 use Rattle.acgrep.proofs.Told.{status-some}
 use Rattle.acgrep.proofs.ruled.search_by.Goals as goal

@@ -1,7 +1,7 @@
 -- The line by its parts.
+use Rattle.acgrep.proofs.Common.{TellsBytes}
 use Rattle.std.proofs.Common.{◌++◌, List, codes, subst, ℕ}
 use Rattle.std.specs.Prelude.{decimal}
-use Rattle.tool_parts.specs.Telling.{TellsBytes}
 use Rattle.acgrep.proofs.ruled.tell_some_long.Goals as goal
 
 pub returns : goal.returns

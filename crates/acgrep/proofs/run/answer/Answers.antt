@@ -1,19 +1,13 @@
 -- A text is written, or a search is made, and its status told.
+use Rattle.acgrep.proofs.Common.{Errors, Keeps-refl, Nothing, Shown, SinkGhosts, TellsBytes, cases_Bool}
 use Rattle.std.proofs.Common.{◌<◌, ◌≡◌, Bool, List, Some, arith, eqb-true, false, inl, inr, refl, subst, sym, true, ℕ}
-use Rattle.std.proofs.KnownBytes.{Keeps-refl}
-use Rattle.std.proofs.lemmas.Bool.{cases_Bool}
 use Rattle.std.specs.Prelude.{nat_eq}
-use Rattle.aho_devices.specs.declared.device.Sink.{Ghosts as SinkGhosts}
-use Rattle.tool_parts.specs.Telling.{TellsBytes}
-use Rattle.tool_parts.specs.declared.errors.Errors.{Errors}
 use Rattle.acgrep.specs.Arguments.{said, shown_by}
 use Rattle.acgrep.specs.Beside.{unfit_said}
 use Rattle.acgrep.specs.Folders.{known_by}
 use Rattle.acgrep.specs.Runs.{status_told}
 use Rattle.acgrep.specs.Told.{MaySaid, MayTell, TellsOfCall, TellsStatus, names_said}
 use Rattle.acgrep.specs.ToldByRules.{IsMarkTold}
-use Rattle.acgrep.specs.declared.options.Shown.{Shown}
-use Rattle.acgrep.specs.declared.options.Shown.TheVariants.{Nothing}
 use Rattle.acgrep.proofs.Told.{status-weaker}
 use Rattle.acgrep.proofs.Unfitting.{some_all, some_unfit, unfit_fits}
 use Rattle.acgrep.proofs.run.answer.Goals as goal

@@ -1,6 +1,6 @@
 -- The patterns so far are empty.
+use Rattle.acgrep.proofs.Common.{pieces_of}
 use Rattle.std.proofs.Common.{◌≡◌, length}
-use Rattle.aho_core.specs.Replacement.{pieces_of}
 use Rattle.acgrep.specs.Runs.{are_empty}
 use Rattle.acgrep.proofs.run.are_empty.Given as goal
 

@@ -1,11 +1,7 @@
 -- What was said was done, and a flush keeps what was written.
+use Rattle.acgrep.proofs.Common.{Errors, Nothing, Refusal, SinkGhosts, TellsBytes, TellsSome, reason_text, some-tells, some-weaker}
 use Rattle.std.proofs.Common.{◌<◌, ◌∙◌, ◌≡◌, ◌≤◌, List, None, Option, Some, [], arith, false, inl, inr, refl, subst, sym, ℕ}
 use Rattle.std.specs.Prelude.{◌||◌}
-use Rattle.aho_devices.specs.declared.device.Sink.{Ghosts as SinkGhosts}
-use Rattle.tool_parts.proofs.Lines.{some-tells, some-weaker}
-use Rattle.tool_parts.specs.Messages.{reason_text}
-use Rattle.tool_parts.specs.Telling.{TellsBytes, TellsSome}
-use Rattle.tool_parts.specs.declared.errors.Errors.{Errors}
 use Rattle.tool_parts.specs.declared.reason.Reason.TheVariants.{OutOfMemory as NoMemory}
 use Rattle.acgrep.specs.Arguments.{AreRefused, Said, said, said_by, shown_by}
 use Rattle.acgrep.specs.Beside.{unfit_said}
@@ -15,9 +11,7 @@ use Rattle.acgrep.specs.Mistakes.{IsFirstMistake, TellsLacking, TellsMistake, Te
 use Rattle.acgrep.specs.Runs.{AsksByRules, IsByPatterns}
 use Rattle.acgrep.specs.Told.{MaySaid, MayTell, TellsStatus, is_hushed, names_said, wrong_parts}
 use Rattle.acgrep.specs.ToldByRules.{IsMarkTold}
-use Rattle.acgrep.specs.declared.wrong.Refusal.{Refusal}
 use Rattle.acgrep.specs.declared.wrong.Refusal.TheVariants.{OutOfMemory, Wrong}
-use Rattle.acgrep.specs.declared.options.Shown.TheVariants.{Nothing}
 use Rattle.acgrep.proofs.Kept.{begun_by_rules, by_rules_kept, ruled_kept, said_alone, search_held}
 use Rattle.acgrep.proofs.MarksTold.{some-told}
 use Rattle.acgrep.proofs.Told.{finished, not-quiet, tells-cause, told-said}

@@ -1,15 +1,10 @@
 -- The searcher was built from the lines that were read.
+use Rattle.acgrep.proofs.Common.{AnyPart, Errors, Fit, Flags, IsBuiltFrom, IsSameWord, MatchKind, Patterns, and_parts, eq-eqb, name_bytes, pattern_at, pieces_of}
 use Rattle.std.proofs.Common.{◌+◌, ◌<◌, ◌∙◌, ◌∷◌, ◌≡◌, Bool, List, [], ap, arith, drop, false, inl, inr, length, refl, subst, sym, true, ℕ}
-use Rattle.std.proofs.lemmas.Bool.{and_parts, eq-eqb, leb-true}
+use Rattle.std.proofs.lemmas.Bool.{leb-true}
 use Rattle.std.specs.Prelude.{◌&&◌, if◌then◌else◌, nat_le, slice_index_or, slice_range}
-use Rattle.aho_core.specs.Bytes.{IsSameWord, folded_by}
-use Rattle.aho_core.specs.Patterns.{Patterns, pattern_at}
-use Rattle.aho_core.specs.Replacement.{pieces_of}
-use Rattle.aho_core.specs.declared.search.MatchKind.{MatchKind}
-use Rattle.chromesquid.specs.Searcher.{IsBuiltFrom}
+use Rattle.aho_core.specs.Bytes.{folded_by}
 use Rattle.tool_parts.specs.Building.{patterns_by_kind}
-use Rattle.tool_parts.specs.Names.{name_bytes}
-use Rattle.tool_parts.specs.declared.errors.Errors.{Errors}
 use Rattle.acgrep.specs.Arguments.{ending_by, fit_by, said, shown_by}
 use Rattle.acgrep.specs.Folders.{known_by, tree_of}
 use Rattle.acgrep.specs.Lines.{AreFreeOf, lines}
@@ -17,9 +12,7 @@ use Rattle.acgrep.specs.Runs.{AreSought, BeginsNoMatch, BeginsOrKeeps, SearchesR
 use Rattle.acgrep.specs.Selected.{HoldNoEnding}
 use Rattle.acgrep.specs.Told.{MaySay, TellsStatus, source_names}
 use Rattle.acgrep.specs.Written.{HasMatch, IsPassedOver}
-use Rattle.acgrep.specs.declared.options.Fit.{Fit}
-use Rattle.acgrep.specs.declared.options.Fit.TheVariants.{AnyPart, WholeLine, WholeWord}
-use Rattle.acgrep.specs.declared.options.Flags.{Flags}
+use Rattle.acgrep.specs.declared.options.Fit.TheVariants.{WholeLine, WholeWord}
 use Rattle.acgrep.proofs.LineLists.{take_zero}
 use Rattle.acgrep.proofs.OrCounted.{counts-of, no-match, no-match-begins, none-told}
 use Rattle.acgrep.proofs.Reaching.{may-behind, some-sources, sources-told}

@@ -1,15 +1,10 @@
 -- Without a pattern nothing is written.
+use Rattle.acgrep.proofs.Common.{Source, common_steps, concat, name_bytes, nil_from_length, some-one}
 use Rattle.std.proofs.Common.{◌<◌, ◌∙◌, ◌∷◌, ◌≡◌, Bor, List, [], arith, false, inl, inr, length, refl, sym, ℕ}
-use Rattle.std.proofs.lemmas.Grind.{common_steps}
-use Rattle.std.proofs.lemmas.List.{nil_from_length}
-use Rattle.std.specs.List.{concat}
-use Rattle.tool_parts.proofs.Lines.{some-one}
-use Rattle.tool_parts.specs.Names.{name_bytes}
 use Rattle.acgrep.specs.Arguments.{Origin, said, shown_by}
 use Rattle.acgrep.specs.Folders.{known_by, tree_of}
 use Rattle.acgrep.specs.Runs.{SearchesFor, names_by, origins_of, sources_by}
 use Rattle.acgrep.specs.Told.{MaySay, TellsOfSearch, wrong_parts}
-use Rattle.acgrep.specs.declared.arguments.Source.{Source}
 use Rattle.acgrep.specs.declared.wrong.Wrong.TheVariants.{NoPattern}
 use Rattle.acgrep.proofs.Told.{status-some}
 use Rattle.acgrep.proofs.run.search_asked.Given.{Over}

@@ -1,9 +1,6 @@
 -- The rules in files were read, and what was said was done by them.
+use Rattle.acgrep.proofs.Common.{Errors, Nothing, TellsSome, concat, some-one, some-weaker}
 use Rattle.std.proofs.Common.{◌≡◌, List, Option, Some, [], ap, inl, inr, refl, subst, ℕ}
-use Rattle.std.specs.List.{concat}
-use Rattle.tool_parts.proofs.Lines.{some-one, some-weaker}
-use Rattle.tool_parts.specs.Telling.{TellsSome}
-use Rattle.tool_parts.specs.declared.errors.Errors.{Errors}
 use Rattle.acgrep.specs.Arguments.{Said, said, shown_by}
 use Rattle.acgrep.specs.Folders.{Known, known_by}
 use Rattle.acgrep.specs.Listed.{listed_bytes}
@@ -12,7 +9,6 @@ use Rattle.acgrep.specs.Runs.{AreRules, BeginsSaid, SearchesSaid, names_by, rule
 use Rattle.acgrep.specs.RunsByRules.{MarksAsked, MayBeginAsked}
 use Rattle.acgrep.specs.Told.{IsMessage, MaySaid, MaySay, TellsOfSaid, TellsStatus, names_said, names_told, rule_files, wrong_parts}
 use Rattle.acgrep.specs.ToldByRules.{IsMarkTold}
-use Rattle.acgrep.specs.declared.options.Shown.TheVariants.{Nothing}
 use Rattle.acgrep.specs.declared.wrong.Wrong.TheVariants.{NoPattern}
 use Rattle.acgrep.proofs.MarksTold.{some-told}
 use Rattle.acgrep.proofs.RuleTexts.{rules_read}

@@ -1,10 +1,8 @@
 -- What is told of wrong arguments.
+use Rattle.acgrep.proofs.Common.{Refusal, concat, some-one, some-weaker}
 use Rattle.std.proofs.Common.{inl, inr, refl, subst, sym}
-use Rattle.std.specs.List.{concat}
-use Rattle.tool_parts.proofs.Lines.{some-one, some-weaker}
 use Rattle.acgrep.specs.Mistakes.{TellsRefused}
 use Rattle.acgrep.specs.Told.{IsMessage, MayTell, wrong_parts}
-use Rattle.acgrep.specs.declared.wrong.Refusal.{Refusal}
 use Rattle.acgrep.proofs.run.tell_refused.Goals as goal
 
 pub returns-in-Wrong : goal.returns-in-Wrong

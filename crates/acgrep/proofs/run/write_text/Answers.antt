@@ -1,6 +1,6 @@
 -- A text is written, or why not is told.
+use Rattle.acgrep.proofs.Common.{some-weaker}
 use Rattle.std.proofs.Common.{arith, inl}
-use Rattle.tool_parts.proofs.Lines.{some-weaker}
 use Rattle.acgrep.specs.Told.{IsMessage, MayTell}
 use Rattle.acgrep.proofs.Told.{status-none, status-some}
 use Rattle.acgrep.proofs.run.write_text.Goals as goal

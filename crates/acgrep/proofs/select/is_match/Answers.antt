@@ -1,8 +1,8 @@
 -- A match anywhere is enough, or has to stand alone, or to be the line.
+use Rattle.acgrep.proofs.Common.{Fit}
 use Rattle.std.proofs.Common.{subst, sym, true}
 use Rattle.std.specs.Prelude.{IfOk}
 use Rattle.acgrep.specs.Written.{IsMatched}
-use Rattle.acgrep.specs.declared.options.Fit.{Fit}
 use Rattle.acgrep.proofs.select.is_match.Goals as goal
 
 pub returns-in-AnyPart-clause-matched : goal.returns-in-AnyPart-clause-matched

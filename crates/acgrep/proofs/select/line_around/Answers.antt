@@ -1,5 +1,5 @@
+use Rattle.acgrep.proofs.Common.{length-drop, length-take-le, take_all}
 use Rattle.std.proofs.Common.{◌-◌, ◌≡◌, arith, drop, length, take}
-use Rattle.std.proofs.lemmas.List.{length-drop, length-take-le, take_all}
 use Rattle.acgrep.proofs.Around.{line_of_parts}
 use Rattle.acgrep.proofs.select.line_around.Goals as goal
 

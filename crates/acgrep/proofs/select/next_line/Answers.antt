@@ -1,6 +1,5 @@
+use Rattle.acgrep.proofs.Common.{IsAnswer, plain_search}
 use Rattle.std.proofs.Common.{Some, arith, subst}
-use Rattle.aho_core.specs.Answer.{IsAnswer}
-use Rattle.aho_core.specs.Search.{plain_search}
 use Rattle.acgrep.proofs.Around.{first_around, starts_within}
 use Rattle.acgrep.proofs.select.next_line.Goals as goal
 

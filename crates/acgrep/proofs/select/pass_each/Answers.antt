@@ -1,10 +1,8 @@
 -- One line more was selected.
+use Rattle.acgrep.proofs.Common.{Place, common_steps, nil_from_length}
 use Rattle.std.proofs.Common.{◌<◌, ◌∙◌, ◌∷◌, ◌≡◌, List, add-one, ap, arith, drop, length, suc, sym, take, ℕ}
-use Rattle.std.proofs.lemmas.Grind.{common_steps}
-use Rattle.std.proofs.lemmas.List.{nil_from_length}
 use Rattle.acgrep.specs.Lines.{lines}
 use Rattle.acgrep.specs.Written.{after_lines}
-use Rattle.acgrep.specs.declared.print.Place.{Place}
 use Rattle.acgrep.proofs.Beginnings.{begins_passing, on_err}
 use Rattle.acgrep.proofs.FirstLines.{lines_first}
 use Rattle.acgrep.proofs.Tellings.{passing_end, passing_step}

@@ -1,7 +1,6 @@
 -- The lines so far were selected, and the place is behind them.
+use Rattle.acgrep.proofs.Common.{IsBuiltFrom, Patterns}
 use Rattle.std.proofs.Common.{◌≡◌, length}
-use Rattle.aho_core.specs.Patterns.{Patterns}
-use Rattle.chromesquid.specs.Searcher.{IsBuiltFrom}
 use Rattle.acgrep.specs.Lines.{lines}
 use Rattle.acgrep.specs.Written.{EachLine, HasNone, after_lines}
 use Rattle.acgrep.proofs.Tellings.{Passing}

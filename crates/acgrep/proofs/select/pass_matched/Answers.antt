@@ -1,6 +1,6 @@
 -- A line in which a pattern occurs matches or not.
+use Rattle.acgrep.proofs.Common.{Appends-nil}
 use Rattle.std.proofs.Common.{◌∷◌, None, [], refl}
-use Rattle.std.proofs.KnownBytes.{Appends-nil}
 use Rattle.acgrep.specs.Contexts.{TellsFrom}
 use Rattle.acgrep.proofs.Beginnings.{on_err}
 use Rattle.acgrep.proofs.Begun.{begins_nothing}

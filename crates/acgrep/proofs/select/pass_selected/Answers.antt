@@ -1,6 +1,6 @@
 -- Of the line a beginning is written, or nothing.
+use Rattle.acgrep.proofs.Common.{Appends-nil}
 use Rattle.std.proofs.Common.{◌∙◌, ◌∷◌, ◌≡◌, Bool, None, [], ap, refl, rules, subst, sym, ℕ}
-use Rattle.std.proofs.KnownBytes.{Appends-nil}
 use Rattle.std.specs.Prelude.{MatchBool, if◌then◌else◌}
 use Rattle.acgrep.specs.Contexts.{BeginsLines, TellsFrom}
 use Rattle.acgrep.specs.Written.{WritesLine, is_full, one_more}

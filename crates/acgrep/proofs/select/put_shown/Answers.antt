@@ -1,7 +1,6 @@
 -- What is asked for is written: a coloured line, the matches or objects, or nothing.
+use Rattle.acgrep.proofs.Common.{Appends-nil, on_ok_weaker}
 use Rattle.std.proofs.Common.{◌∙◌, [], sym}
-use Rattle.std.proofs.KnownBytes.{Appends-nil}
-use Rattle.std.proofs.lemmas.Result.{on_ok_weaker}
 use Rattle.acgrep.proofs.Tellings.{colored_shows, matches_shows, nothing_else, nothing_of_matches, nothing_of_objects, objects_shows}
 use Rattle.acgrep.proofs.select.put_shown.Goals.{in_default-via-in-Matches+else-not-job, in_default-via-in-Objects+else-not-job-2, in_default-via-in_default}
 use Rattle.acgrep.proofs.select.put_shown.Goals as goal

@@ -1,10 +1,8 @@
 -- Until a line is selected nothing is passed, or nothing occurs; and what is told of the lines that were searched is written.
+use Rattle.acgrep.proofs.Common.{AnyPart, IsBuiltFrom, Patterns}
 use Rattle.std.proofs.Common.{◌≡◌, ◌⊎◌, false, length}
-use Rattle.aho_core.specs.Patterns.{Patterns}
-use Rattle.chromesquid.specs.Searcher.{IsBuiltFrom}
 use Rattle.acgrep.specs.Selected.{HoldNoEnding}
 use Rattle.acgrep.specs.Written.{HasNone, SearchesTo}
-use Rattle.acgrep.specs.declared.options.Fit.TheVariants.{AnyPart}
 use Rattle.acgrep.proofs.select.search_plain.Given as goal
 
 abbrev pub invariant-loop-rest : goal.invariant-loop-rest

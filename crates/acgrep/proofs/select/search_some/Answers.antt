@@ -1,9 +1,7 @@
 -- The lines before the one that was found have no match, and it has one.
+use Rattle.acgrep.proofs.Common.{Appends-nil, IsBuiltFrom, Patterns}
 use Rattle.std.proofs.Common.{◌++◌, ◌+◌, ◌-◌, ◌∙◌, ◌∷◌, ◌≡◌, List, None, [], ap, arith, drop, length, refl, sym, take, ℕ}
-use Rattle.std.proofs.KnownBytes.{Appends-nil}
 use Rattle.std.specs.Prelude.{slice_range}
-use Rattle.aho_core.specs.Patterns.{Patterns}
-use Rattle.chromesquid.specs.Searcher.{IsBuiltFrom}
 use Rattle.acgrep.specs.Contexts.{TellsFrom}
 use Rattle.acgrep.specs.Lines.{lines}
 use Rattle.acgrep.specs.Selected.{HoldNoEnding, IsFirstWith}

@@ -1,6 +1,6 @@
 -- A read more, up to the end, a line with a zero byte, or lines behind which nothing more is told.
+use Rattle.acgrep.proofs.Common.{Consumes-nil}
 use Rattle.std.proofs.Common.{[], refl, subst}
-use Rattle.std.proofs.KnownBytes.{Consumes-nil}
 use Rattle.acgrep.specs.Written.{IsSettled}
 use Rattle.acgrep.proofs.Beginnings.{on_err}
 use Rattle.acgrep.proofs.Fronts.{front_last, front_start, front_step, front_stop}

@@ -1,7 +1,6 @@
 -- The whole lines that were read so far are searched, and what follows them is in the buffer.
+use Rattle.acgrep.proofs.Common.{IsBuiltFrom, Patterns}
 use Rattle.std.proofs.Common.{take}
-use Rattle.aho_core.specs.Patterns.{Patterns}
-use Rattle.chromesquid.specs.Searcher.{IsBuiltFrom}
 use Rattle.acgrep.specs.Filled.{ReadsOn}
 use Rattle.acgrep.specs.Guarded.{SearchesFront}
 use Rattle.acgrep.specs.Selected.{HoldNoEnding}

@@ -1,6 +1,7 @@
 -- The first zero byte stands in the line that begins behind the last end of a line before it.
+use Rattle.acgrep.proofs.Common.{Nowhere}
 use Rattle.std.proofs.Common.{◌+◌, ◌-◌, ◌≡◌, ◌≤◌, List, Some, arith, drop, length, length-drop, length-take-le, subst, take, take_all, true, ℕ}
-use Rattle.memchr.specs.Find.{IsFirst, Nowhere}
+use Rattle.memchr.specs.Find.{IsFirst}
 use Rattle.acgrep.specs.Binary.{is_text}
 use Rattle.acgrep.specs.Lines.{IsEnding}
 use Rattle.acgrep.proofs.BinaryLines.{zero_none, zero_some}

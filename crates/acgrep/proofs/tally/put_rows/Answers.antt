@@ -1,6 +1,6 @@
 -- Where no count is left no row is.
+use Rattle.acgrep.proofs.Common.{pieces_of}
 use Rattle.std.proofs.Common.{◌++◌, ◌-◌, ◌∙◌, ◌≡◌, ap, append-nil, length, rules, sym}
-use Rattle.aho_core.specs.Replacement.{pieces_of}
 use Rattle.acgrep.proofs.Tallied.{rows-end}
 use Rattle.acgrep.proofs.tally.put_rows.Goals as goal
 

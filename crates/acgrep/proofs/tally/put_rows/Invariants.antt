@@ -1,6 +1,6 @@
 -- The rows so far, and those of what is left.
+use Rattle.acgrep.proofs.Common.{pieces_of}
 use Rattle.std.proofs.Common.{◌++◌, ◌-◌, ◌≡◌, ◌≤◌, length}
-use Rattle.aho_core.specs.Replacement.{pieces_of}
 use Rattle.acgrep.specs.Tallies.{rows_counted}
 use Rattle.acgrep.proofs.tally.put_rows.Given as goal
 

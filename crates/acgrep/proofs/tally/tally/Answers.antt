@@ -1,7 +1,6 @@
 -- A line more is counted.
+use Rattle.acgrep.proofs.Common.{common_steps, nil_from_length}
 use Rattle.std.proofs.Common.{◌<◌, ◌∙◌, ◌∷◌, ◌≡◌, add-one, ap, arith, drop, length, suc, sym, take}
-use Rattle.std.proofs.lemmas.Grind.{common_steps}
-use Rattle.std.proofs.lemmas.List.{nil_from_length}
 use Rattle.acgrep.specs.Lines.{lines}
 use Rattle.acgrep.proofs.FirstLines.{lines_first}
 use Rattle.acgrep.proofs.Tallied.{counted-end, counted-start, counted-step}

@@ -1,6 +1,6 @@
 -- A count for each pattern so far.
+use Rattle.acgrep.proofs.Common.{pieces_of}
 use Rattle.std.proofs.Common.{◌++◌, ◌≡◌, length}
-use Rattle.aho_core.specs.Replacement.{pieces_of}
 use Rattle.acgrep.specs.Tallies.{zeros_of}
 use Rattle.acgrep.proofs.tally.zeros.Given as goal
 

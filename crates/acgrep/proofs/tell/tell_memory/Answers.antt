@@ -1,6 +1,6 @@
 -- A message is told.
+use Rattle.acgrep.proofs.Common.{reason_text}
 use Rattle.std.proofs.Common.{None, inl, refl}
-use Rattle.tool_parts.specs.Messages.{reason_text}
 use Rattle.tool_parts.specs.declared.reason.Reason.TheVariants.{OutOfMemory}
 use Rattle.acgrep.proofs.Told.{tells-cause}
 use Rattle.acgrep.proofs.tell.tell_memory.Goals as goal

@@ -1,6 +1,6 @@
 -- A message is told.
+use Rattle.acgrep.proofs.Common.{reason_text}
 use Rattle.std.proofs.Common.{None, Some, codes, inl, refl}
-use Rattle.tool_parts.specs.Messages.{reason_text}
 use Rattle.acgrep.proofs.Told.{tells-cause}
 use Rattle.acgrep.proofs.tell.tell_write.Goals as goal
 

@@ -1,10 +1,7 @@
 -- A walk begins at the operands, or in the working folder.
+use Rattle.acgrep.proofs.Common.{common_steps, length-map, name_bytes, nil_from_length, on_ok_weaker}
 use Rattle.std.proofs.Common.{◌++◌, ◌<◌, ◌∙◌, ◌∷◌, ◌≡◌, List, [], ap, arith, length, subst, sym, ℕ}
-use Rattle.std.proofs.lemmas.Grind.{common_steps}
-use Rattle.std.proofs.lemmas.List.{length-map, nil_from_length}
-use Rattle.std.proofs.lemmas.Result.{on_ok_weaker}
 use Rattle.std.specs.Prelude.{map}
-use Rattle.tool_parts.specs.Names.{name_bytes}
 use Rattle.acgrep.specs.Folders.{Begins, PutsInside, Spot, missed_of, operand, spots_of, tree_of}
 use Rattle.acgrep.specs.Listed.{listed_bytes}
 use Rattle.acgrep.proofs.Walking.{begins-given, begins-here, begins-nowhere}

@@ -1,6 +1,6 @@
 -- The names of a folder were put down in order.
+use Rattle.acgrep.proofs.Common.{on_ok_weaker}
 use Rattle.std.proofs.Common.{List, subst, ℕ}
-use Rattle.std.proofs.lemmas.Result.{on_ok_weaker}
 use Rattle.acgrep.specs.Folders.{PutsInside, spots_of, tree_of}
 use Rattle.acgrep.specs.Listed.{listed_bytes}
 use Rattle.acgrep.proofs.Walking.{enters-put, listed-as}

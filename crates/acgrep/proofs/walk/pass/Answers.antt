@@ -1,6 +1,6 @@
 -- A name was looked at.
+use Rattle.acgrep.proofs.Common.{on_ok_weaker}
 use Rattle.std.proofs.Common.{◌∙◌, ◌≡◌, Bool, List, subst, sym, ℕ}
-use Rattle.std.proofs.lemmas.Result.{on_ok_weaker}
 use Rattle.acgrep.specs.Folders.{IsUnknown, is_followed, spot_of, spots_of, tree_of}
 use Rattle.acgrep.specs.Rules.{rules_said}
 use Rattle.acgrep.proofs.Walking.{finds-input, finds-lost}

@@ -1,6 +1,6 @@
 -- The names were sorted, and none of them is left.
+use Rattle.acgrep.proofs.Common.{nil_from_length}
 use Rattle.std.proofs.Common.{◌++◌, ◌∙◌, ◌≡◌, [], ap, length, rules, sym}
-use Rattle.std.proofs.lemmas.List.{nil_from_length}
 use Rattle.std.proofs.lemmas.List.Sorted.{IsPermutation-map}
 use Rattle.std.specs.Cmp.Lexicographic.{slice_cmp}
 use Rattle.std.specs.Ordering.{is_lt, nat_cmp}

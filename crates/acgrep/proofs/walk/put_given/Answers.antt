@@ -1,10 +1,8 @@
 -- An operand more was put down.
+use Rattle.acgrep.proofs.Common.{common_steps, get_or, name_bytes}
 use Rattle.std.proofs.Common.{◌++◌, ◌-◌, ◌<◌, ◌∙◌, ◌∷◌, ◌≡◌, Bor, List, [], ap, arith, drop, length, take, ℕ}
-use Rattle.std.proofs.Math.ListN.{get_or}
-use Rattle.std.proofs.lemmas.Grind.{common_steps}
 use Rattle.std.proofs.lemmas.List.{map-append}
 use Rattle.std.specs.Prelude.{map}
-use Rattle.tool_parts.specs.Names.{name_bytes}
 use Rattle.acgrep.specs.Folders.{Spot, operand, spot_of, spots_of}
 use Rattle.acgrep.proofs.Walking.{put-more}
 use Rattle.acgrep.proofs.walk.put_given.Goals as goal

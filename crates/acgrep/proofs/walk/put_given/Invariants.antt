@@ -1,7 +1,7 @@
 -- The operands before those that are left were put down.
+use Rattle.acgrep.proofs.Common.{name_bytes}
 use Rattle.std.proofs.Common.{◌++◌, ◌≡◌, length}
 use Rattle.std.specs.Prelude.{map}
-use Rattle.tool_parts.specs.Names.{name_bytes}
 use Rattle.acgrep.specs.Folders.{operand, spots_of}
 use Rattle.acgrep.proofs.walk.put_given.Given as goal
 

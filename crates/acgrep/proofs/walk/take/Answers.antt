@@ -1,7 +1,7 @@
 -- A folder is entered, and what is searched is found.
+use Rattle.acgrep.proofs.Common.{on_ok_weaker}
 use Rattle.std.proofs.Common.{◌∙◌, ◌≡◌, Bool, ap, false, refl, sym, true}
 use Rattle.std.proofs.lemmas.List.{append-nil}
-use Rattle.std.proofs.lemmas.Result.{on_ok_weaker}
 use Rattle.acgrep.specs.Folders.{is_folder, is_searched, is_spot_left, reads_devices, spot_of, spots_of, tree_of}
 use Rattle.acgrep.specs.Listed.{listed_bytes}
 use Rattle.acgrep.specs.Rules.{rules_said}

@@ -1,7 +1,6 @@
 -- A name more was looked at; where none is left the walk is done.
+use Rattle.acgrep.proofs.Common.{name_bytes, nil_from_length}
 use Rattle.std.proofs.Common.{◌∷◌, ◌≡◌, List, [], ap, length, rules, subst}
-use Rattle.std.proofs.lemmas.List.{nil_from_length}
-use Rattle.tool_parts.specs.Names.{name_bytes}
 use Rattle.acgrep.specs.Folders.{Begins, Spot, spot_of, spots_of, tree_of}
 use Rattle.acgrep.specs.Rules.{rules_said}
 use Rattle.acgrep.proofs.Walking.{begins-end, begins-then}

@@ -1,5 +1,5 @@
 -- What was found so far.
-use Rattle.tool_parts.specs.Names.{name_bytes}
+use Rattle.acgrep.proofs.Common.{name_bytes}
 use Rattle.acgrep.specs.Folders.{Begins, spots_of, tree_of}
 use Rattle.acgrep.specs.Rules.{rules_said}
 use Rattle.acgrep.proofs.walk.walk.Given as goal

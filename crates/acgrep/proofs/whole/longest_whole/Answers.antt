@@ -1,7 +1,6 @@
 -- What is found tells which pattern is the whole line.
+use Rattle.acgrep.proofs.Common.{IsAnswer, plain_search}
 use Rattle.std.proofs.Common.{None, Some, subst, sym}
-use Rattle.aho_core.specs.Answer.{IsAnswer}
-use Rattle.aho_core.specs.Search.{plain_search}
 use Rattle.acgrep.specs.Alone.{IsWholeOrNone}
 use Rattle.acgrep.proofs.WholeLines.{best_whole}
 use Rattle.acgrep.proofs.whole.longest_whole.Goals as goal

@@ -1,7 +1,6 @@
 -- One argument more is set apart.
+use Rattle.acredact.proofs.Common.{nil_from_length, texts}
 use Rattle.std.proofs.Common.{rules, ◌≡◌, length, ap}
-use Rattle.std.proofs.lemmas.List.{nil_from_length}
-use Rattle.tool_parts.specs.Arguments.{texts}
 use Rattle.acredact.specs.Reads.{bytes_of_names}
 use Rattle.acredact.proofs.SetApart.{apart_all, apart_put}
 use Rattle.acredact.proofs.apart.set_apart.Goals as goal

@@ -1,6 +1,6 @@
 -- Some first arguments were set apart.
+use Rattle.acredact.proofs.Common.{texts}
 use Rattle.std.proofs.Common.{length}
-use Rattle.tool_parts.specs.Arguments.{texts}
 use Rattle.acredact.specs.Reads.{bytes_of_names}
 use Rattle.acredact.proofs.SetApart.{ApartSoFar}
 use Rattle.acredact.proofs.apart.set_apart.Given as goal

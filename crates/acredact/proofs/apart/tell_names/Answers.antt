@@ -1,8 +1,6 @@
 -- Of one more it is told.
+use Rattle.acredact.proofs.Common.{TellsBytes, nil_from_length, tells-later, tells-nothing}
 use Rattle.std.proofs.Common.{rules, ◌≡◌, [], ◌++◌, length, refl, sym, ap, subst, ◌∙◌, append-nil, append_assoc}
-use Rattle.std.proofs.lemmas.List.{nil_from_length}
-use Rattle.tool_parts.specs.Telling.{TellsBytes}
-use Rattle.tool_parts.proofs.Tellings.{tells-later, tells-nothing}
 use Rattle.acredact.specs.Apart.{unnamed_line, unnamed_lines}
 use Rattle.acredact.specs.Reads.{bytes_of_names}
 use Rattle.acredact.proofs.apart.tell_names.Goals as goal

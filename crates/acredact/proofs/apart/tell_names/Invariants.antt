@@ -1,6 +1,6 @@
 -- The first names are told.
+use Rattle.acredact.proofs.Common.{TellsBytes}
 use Rattle.std.proofs.Common.{◌≡◌, ℕ, List, ◌++◌, length}
-use Rattle.tool_parts.specs.Telling.{TellsBytes}
 use Rattle.acredact.specs.Apart.{unnamed_lines}
 use Rattle.acredact.specs.Reads.{bytes_of_names}
 use Rattle.acredact.proofs.apart.tell_names.Given as goal

@@ -1,6 +1,6 @@
 -- What is left of the arguments gives what all of them do, and its first mistake is theirs.
+use Rattle.acredact.proofs.Common.{texts}
 use Rattle.std.proofs.Common.{◌≡◌, length}
-use Rattle.tool_parts.specs.Arguments.{texts}
 use Rattle.acredact.specs.Arguments.{all_given, given_by, given_from}
 use Rattle.acredact.specs.Mistakes.{first_mistake_line, line_from}
 use Rattle.acredact.proofs.arguments.read_items.Given as goal

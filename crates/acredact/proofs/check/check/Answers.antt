@@ -1,5 +1,5 @@
 -- The status of a check.
-use Rattle.tool_parts.specs.Streams.{bytes_left}
+use Rattle.acredact.proofs.Common.{bytes_left}
 use Rattle.acredact.specs.Arguments.{all_given}
 use Rattle.acredact.specs.Calls.{call_of}
 use Rattle.acredact.proofs.Checks.{status_ended, status_seen}

@@ -1,6 +1,6 @@
 -- What was loaded is looked for.
+use Rattle.acredact.proofs.Common.{bytes_left}
 use Rattle.std.proofs.Common.{rules, ◌≡◌, inl, inr, List, ap, refl, sym, subst, true, false}
-use Rattle.tool_parts.specs.Streams.{bytes_left}
 use Rattle.acredact.specs.Arguments.{all_given}
 use Rattle.acredact.specs.Calls.{call_of, gives_pattern, reading_by, rules_asked}
 use Rattle.acredact.specs.Loading.{AreGiven, CannotLoadAll}

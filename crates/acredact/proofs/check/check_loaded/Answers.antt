@@ -1,6 +1,6 @@
 -- Of doubtful patterns it is told before a file is looked at, or the first is refused.
+use Rattle.acredact.proofs.Common.{bytes_left}
 use Rattle.std.proofs.Common.{inr}
-use Rattle.tool_parts.specs.Streams.{bytes_left}
 use Rattle.acredact.specs.Arguments.{all_given}
 use Rattle.acredact.specs.Calls.{call_of}
 use Rattle.acredact.specs.Tables.{secrets_of}

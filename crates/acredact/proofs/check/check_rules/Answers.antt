@@ -1,12 +1,11 @@
 -- What is ready is looked for in the files that are asked for.
+use Rattle.acredact.proofs.Common.{Other, OutOfMemory}
 use Rattle.std.proofs.Common.{rules, ◌≡◌, refl}
 use Rattle.std.specs.Prelude.{Err}
-use Rattle.tool_parts.specs.declared.failure.Failure.TheVariants.{OutOfMemory}
 use Rattle.acredact.specs.Arguments.{all_given}
 use Rattle.acredact.specs.Builds.{patterns_by_given}
 use Rattle.acredact.specs.Calls.{IsUnreadLine, names_asked}
 use Rattle.acredact.specs.Tables.{patterns_in, secrets_of}
-use Rattle.acredact.specs.declared.failure.Failure.TheVariants.{Other}
 use Rattle.acredact.proofs.Calls.{tells_same}
 use Rattle.acredact.proofs.Ready.{ready_looks}
 use Rattle.acredact.proofs.check.check_rules.Goals as goal

@@ -1,8 +1,7 @@
 -- A file more was looked at.
+use Rattle.acredact.proofs.Common.{Stream, name_bytes}
 use Rattle.std.proofs.Common.{rules, ◌≡◌, ◌≤◌, length}
 use Rattle.std.specs.Prelude.{Err}
-use Rattle.tool_parts.specs.Names.{name_bytes}
-use Rattle.secret_rules.specs.declared.error.LineError.TheVariants.{Stream}
 use Rattle.acredact.specs.RuledChecks.{quest_in}
 use Rattle.acredact.proofs.Done.{names_cut, names_end}
 use Rattle.acredact.proofs.LookedFiles.{so_far_all, so_far_fails, so_far_next, so_far_none, so_far_unflushed}

@@ -1,8 +1,6 @@
 -- The files in front of what is left were looked at.
+use Rattle.acredact.proofs.Common.{CanCoverLines, bytes_left, name_bytes}
 use Rattle.std.proofs.Common.{length}
-use Rattle.tool_parts.specs.Names.{name_bytes}
-use Rattle.tool_parts.specs.Streams.{bytes_left}
-use Rattle.secret_rules.specs.Ready.{CanCoverLines}
 use Rattle.acredact.specs.RuledChecks.{IfCovers, IsCoveredBy, quest_in}
 use Rattle.acredact.proofs.LookedFiles.{SeenSoFar}
 use Rattle.acredact.proofs.checked_files.check_files.Given as goal

@@ -1,6 +1,6 @@
 -- The input is read to its end.
+use Rattle.acredact.proofs.Common.{at_end}
 use Rattle.std.proofs.Common.{◌≢◌, ap}
-use Rattle.tool_parts.proofs.Ends.{at_end}
 use Rattle.acredact.proofs.ToldLines.{looked_text}
 use Rattle.acredact.proofs.checked_files.check_input.Goals as goal
 

@@ -1,7 +1,7 @@
 -- A file that was not read to its end is told, and so is one that the output goes to.
+use Rattle.acredact.proofs.Common.{LineError}
 use Rattle.std.proofs.Common.{[], rules, ◌≡◌, ◌∷◌, false, inl, inr, refl, true}
 use Rattle.std.specs.Prelude.{Err}
-use Rattle.secret_rules.specs.declared.error.LineError.{LineError}
 use Rattle.acredact.specs.Calls.{IsUnreadLine}
 use Rattle.acredact.specs.Messages.{output_line}
 use Rattle.acredact.specs.RuledChecks.{quest_in}

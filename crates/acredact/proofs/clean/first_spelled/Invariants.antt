@@ -1,7 +1,7 @@
 -- The words before the place of the loop cannot be spelled.
+use Rattle.acredact.proofs.Common.{pieces_of}
 use Rattle.std.proofs.Common.{ℕ, ◌-◌, ◌<◌, ◌≤◌, get_or, length}
 use Rattle.std.specs.Prelude.{[]}
-use Rattle.aho_core.specs.Replacement.{pieces_of}
 use Rattle.acredact.specs.Spelling.{IsUnlike}
 use Rattle.acredact.proofs.clean.first_spelled.Given as goal
 

@@ -1,10 +1,7 @@
 -- The pieces before the place of the loop are clean.
+use Rattle.acredact.proofs.Common.{ArePatterns, IsCleanPiece, Patterns, pieces_of}
 use Rattle.std.proofs.Common.{ℕ, ◌-◌, ◌<◌, ◌≤◌, get_or, length}
 use Rattle.std.specs.Prelude.{[]}
-use Rattle.aho_core.specs.Patterns.{Patterns}
-use Rattle.aho_core.specs.Replacement.{pieces_of}
-use Rattle.aho_laws.specs.CoverLaws.{IsCleanPiece}
-use Rattle.tool_parts.specs.Asked.{ArePatterns}
 use Rattle.acredact.specs.Pieces.{pieces_by}
 use Rattle.acredact.proofs.clean.first_unclean.Given as goal
 

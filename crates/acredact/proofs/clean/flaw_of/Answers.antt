@@ -1,6 +1,6 @@
 -- A pattern holds the first byte or the last, or nothing is found.
+use Rattle.acredact.proofs.Common.{pieces_of}
 use Rattle.std.proofs.Common.{rules, ◌<◌, length, refl}
-use Rattle.aho_core.specs.Replacement.{pieces_of}
 use Rattle.acredact.proofs.Flaws.{clean_by, spells_first, spells_last}
 use Rattle.acredact.proofs.clean.flaw_of.Goals as goal
 

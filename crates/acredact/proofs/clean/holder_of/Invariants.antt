@@ -1,7 +1,7 @@
 -- The words before the place of the loop do not hold the byte.
+use Rattle.acredact.proofs.Common.{pieces_of}
 use Rattle.std.proofs.Common.{ℕ, ◌-◌, ◌<◌, ◌≤◌, get_or, length}
 use Rattle.std.specs.Prelude.{[]}
-use Rattle.aho_core.specs.Replacement.{pieces_of}
 use Rattle.acredact.specs.Spelling.{HoldsByte}
 use Rattle.acredact.proofs.clean.holder_of.Given as goal
 

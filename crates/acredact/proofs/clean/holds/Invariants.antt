@@ -1,6 +1,6 @@
 -- The bytes before the place of the loop are others.
+use Rattle.acredact.proofs.Common.{folded_by}
 use Rattle.std.proofs.Common.{◌≡◌, ℕ, ◌<◌, get_or}
-use Rattle.aho_core.specs.Bytes.{folded_by}
 use Rattle.acredact.proofs.clean.holds.Given as goal
 
 abbrev pub invariant-loop-other : goal.invariant-loop-other

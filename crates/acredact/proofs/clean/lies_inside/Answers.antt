@@ -1,6 +1,6 @@
 -- The byte at the place of the loop, or all.
+use Rattle.acredact.proofs.Common.{folded_by}
 use Rattle.std.proofs.Common.{◌∙◌, ℕ, ap, arith, get_or, sym}
-use Rattle.aho_core.specs.Bytes.{folded_by}
 use Rattle.acredact.specs.Spelling.{is_inside}
 use Rattle.acredact.proofs.Flaws.{member_at, place_of}
 use Rattle.acredact.proofs.clean.lies_inside.Goals as goal

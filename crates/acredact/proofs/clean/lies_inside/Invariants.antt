@@ -1,6 +1,6 @@
 -- The bytes before the place of the loop stand inside.
+use Rattle.acredact.proofs.Common.{folded_by}
 use Rattle.std.proofs.Common.{◌≡◌, ℕ, ◌<◌, get_or, true}
-use Rattle.aho_core.specs.Bytes.{folded_by}
 use Rattle.acredact.specs.Spelling.{is_inside}
 use Rattle.acredact.proofs.clean.lies_inside.Given as goal
 

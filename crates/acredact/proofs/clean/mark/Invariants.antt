@@ -1,7 +1,7 @@
 -- The bytes before the place of the loop are marked, and what was marked stays so.
+use Rattle.acredact.proofs.Common.{folded_by}
 use Rattle.std.proofs.Common.{◌≡◌, ℕ, ◌<◌, get_or}
 use Rattle.std.specs.Prelude.{false, true}
-use Rattle.aho_core.specs.Bytes.{folded_by}
 use Rattle.acredact.specs.Pieces.{StayMarked}
 use Rattle.acredact.proofs.clean.mark.Given as goal
 

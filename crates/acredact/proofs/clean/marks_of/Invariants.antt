@@ -1,7 +1,7 @@
 -- The bytes of the words before the place of the loop are marked.
+use Rattle.acredact.proofs.Common.{pieces_of}
 use Rattle.std.proofs.Common.{◌≡◌, ℕ, ◌<◌, get_or, length}
 use Rattle.std.specs.Prelude.{[]}
-use Rattle.aho_core.specs.Replacement.{pieces_of}
 use Rattle.acredact.specs.Pieces.{IsMarked}
 use Rattle.acredact.proofs.clean.marks_of.Given as goal
 

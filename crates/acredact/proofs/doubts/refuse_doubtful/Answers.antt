@@ -1,9 +1,7 @@
 -- The next is, or is not.
+use Rattle.acredact.proofs.Common.{All-nil, common_steps, nil_from_length}
 use Rattle.std.proofs.Common.{rules, arith, ◌≡◌, ◌≤◌, [], ◌∷◌, ◌++◌, length, drop, get_or, refl, sym, ap, subst, ◌∙◌, append-nil}
 use Rattle.std.specs.Prelude.{None}
-use Rattle.std.proofs.lemmas.List.Elements.{All-nil}
-use Rattle.std.proofs.lemmas.Grind.{common_steps}
-use Rattle.std.proofs.lemmas.List.{nil_from_length}
 use Rattle.acredact.specs.Doubts.{AreUndoubted, doubt_of}
 use Rattle.acredact.specs.Tables.{secret_of, secrets_of}
 use Rattle.acredact.proofs.Doubting.{first_rule, front_next}

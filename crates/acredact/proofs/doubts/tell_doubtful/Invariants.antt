@@ -1,7 +1,6 @@
 -- Of the patterns so far it is told.
+use Rattle.acredact.proofs.Common.{TellsBytes, concat}
 use Rattle.std.proofs.Common.{◌≡◌, ℕ, List, ◌++◌, length}
-use Rattle.std.specs.List.{concat}
-use Rattle.tool_parts.specs.Telling.{TellsBytes}
 use Rattle.acredact.specs.Arguments.{all_given}
 use Rattle.acredact.specs.Doubts.{list_doubt_lines}
 use Rattle.acredact.specs.Tables.{secrets_of}

@@ -1,7 +1,6 @@
 -- What is told of lists comes first.
+use Rattle.acredact.proofs.Common.{TellsBytes, tells-later}
 use Rattle.std.proofs.Common.{sym, subst}
-use Rattle.tool_parts.specs.Telling.{TellsBytes}
-use Rattle.tool_parts.proofs.Tellings.{tells-later}
 use Rattle.acredact.specs.Arguments.{all_given}
 use Rattle.acredact.specs.Doubts.{list_doubt_lines}
 use Rattle.acredact.specs.Short.{short_told}

@@ -1,7 +1,6 @@
 -- A message in one part, or in three.
+use Rattle.acredact.proofs.Common.{TellsBytes, tells-later}
 use Rattle.std.proofs.Common.{◌++◌, ◌∙◌, ◌≡◌, List, [], ap, append-nil, append_assoc, codes, rules, subst, sym, true, ℕ}
-use Rattle.tool_parts.specs.Telling.{TellsBytes}
-use Rattle.tool_parts.proofs.Tellings.{tells-later}
 use Rattle.rule_files.specs.Messages.{as_shown}
 use Rattle.acredact.proofs.failure.tell_named.Goals as goal
 

@@ -1,7 +1,7 @@
 -- The line by its parts.
+use Rattle.acredact.proofs.Common.{TellsBytes}
 use Rattle.std.proofs.Common.{List, ℕ, ◌++◌, ap, subst, ◌∙◌, append-nil}
 use Rattle.std.specs.Prelude.{codes, decimal}
-use Rattle.tool_parts.specs.Telling.{TellsBytes}
 use Rattle.acredact.proofs.failure.tell_with_other.Goals as goal
 
 pub returns : goal.returns

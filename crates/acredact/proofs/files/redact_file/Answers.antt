@@ -1,7 +1,6 @@
 -- The file is that of the input, or of the folder.
+use Rattle.acredact.proofs.Common.{Keeps-refl, output_bytes}
 use Rattle.std.proofs.Common.{◌∙◌, inr, sym, refl}
-use Rattle.std.proofs.KnownBytes.{Keeps-refl}
-use Rattle.tool_parts.specs.Streams.{output_bytes}
 use Rattle.acredact.specs.Bounds.{NumbersRead}
 use Rattle.acredact.specs.Files.{work_of}
 use Rattle.acredact.specs.Totals.{HasRanges}

@@ -1,8 +1,7 @@
 -- A file more is done.
+use Rattle.acredact.proofs.Common.{bytes_left, name_bytes}
 use Rattle.std.proofs.Common.{rules, arith, ◌≡◌, ◌∙◌, ◌≤◌, ℕ, List, ap, length, subst, true}
 use Rattle.std.specs.Prelude.{Bool, Ok, Err}
-use Rattle.tool_parts.specs.Names.{name_bytes}
-use Rattle.tool_parts.specs.Streams.{bytes_left}
 use Rattle.acredact.specs.Files.{work_of}
 use Rattle.acredact.proofs.Bounded.{NumbersSoFar, all_numbered, more_numbered, none_numbered, one_file}
 use Rattle.acredact.proofs.Done.{both_so, far_all, far_fails, far_next, far_none, flush_done, flush_fails, names_cut, names_end}

@@ -1,7 +1,6 @@
 -- The files in front of what is left are done.
+use Rattle.acredact.proofs.Common.{bytes_left, name_bytes}
 use Rattle.std.proofs.Common.{◌≡◌, length, true}
-use Rattle.tool_parts.specs.Names.{name_bytes}
-use Rattle.tool_parts.specs.Streams.{bytes_left}
 use Rattle.acredact.specs.Files.{work_of}
 use Rattle.acredact.specs.Ways.{IfBy}
 use Rattle.acredact.proofs.Bounded.{NumbersSoFar}

@@ -1,13 +1,7 @@
 -- The input is read to its end.
+use Rattle.acredact.proofs.Common.{Consumes, IfErr-weaker, Reason, StreamError, at_end, bytes_left, counted, on_ok_weaker}
 use Rattle.std.proofs.Common.{◌≢◌, ap, sym, subst, ◌∙◌, Option}
 use Rattle.std.specs.Prelude.{Bool, Result}
-use Rattle.std.specs.Io.KnownBytes.{Consumes}
-use Rattle.std.proofs.lemmas.Result.{IfErr-weaker, on_ok_weaker}
-use Rattle.aho_core.specs.declared.error.stream.StreamError.{StreamError}
-use Rattle.aho_devices.specs.Counts.{counted}
-use Rattle.tool_parts.specs.Streams.{bytes_left}
-use Rattle.tool_parts.proofs.Ends.{at_end}
-use Rattle.tool_parts.specs.declared.reason.Reason.{Reason}
 use Rattle.acredact.specs.Faults.{is_unread}
 use Rattle.acredact.specs.Files.{TextDone}
 use Rattle.acredact.proofs.OneFile.{at_ok, begins_of, outcome_by, reaches_of, reading_unread, reading_whole, text_of}

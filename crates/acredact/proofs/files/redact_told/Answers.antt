@@ -1,8 +1,7 @@
 -- A file that was not read to its end is told, and so is one that the output goes to.
+use Rattle.acredact.proofs.Common.{Reason, StreamError}
 use Rattle.std.proofs.Common.{rules, ◌≡◌, Option, refl, sym, subst}
 use Rattle.std.specs.Prelude.{Bool, Result, Ok, Err}
-use Rattle.aho_core.specs.declared.error.stream.StreamError.{StreamError}
-use Rattle.tool_parts.specs.declared.reason.Reason.{Reason}
 use Rattle.acredact.specs.Files.{FileOutcome, ToldOutcome, work_of}
 use Rattle.acredact.proofs.Bounded.{no_numbers}
 use Rattle.acredact.proofs.Done.{told_cut, told_output, told_unread, told_whole}

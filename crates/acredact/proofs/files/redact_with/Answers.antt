@@ -1,6 +1,6 @@
 -- What is known of the metered source is known of the source.
+use Rattle.acredact.proofs.Common.{on_ok_weaker}
 use Rattle.std.proofs.Common.{◌∙◌, arith, refl, sym}
-use Rattle.std.proofs.lemmas.Result.{on_ok_weaker}
 use Rattle.acredact.proofs.Bounded.{numbers_of}
 use Rattle.acredact.proofs.Metering.{consumes_settled, does_as, gave_by, metered_added, metered_first}
 use Rattle.acredact.proofs.files.redact_with.Goals as goal

@@ -1,10 +1,10 @@
 -- The forms of all rules stand behind these.
+use Rattle.acredact.proofs.Common.{Rule}
 use Rattle.std.proofs.Common.{◌≡◌, List, ap, ◌∙◌}
 use Rattle.std.specs.Prelude.{Some}
 use Rattle.acredact.specs.Forms.{asked_forms, forms_asked, forms_from, forms_named, nested_named}
 use Rattle.acredact.specs.Tables.{secrets_of}
 use Rattle.acredact.specs.declared.forms.Asked.{Asked}
-use Rattle.acredact.specs.declared.patterns.Rule.{Rule}
 use Rattle.acredact.proofs.FormRules.{asked_both, have_forms}
 use Rattle.acredact.proofs.forms.add_forms.Goals as goal
 

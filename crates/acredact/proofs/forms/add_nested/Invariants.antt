@@ -1,6 +1,6 @@
 -- The forms of forms in front of what is left have their rules.
+use Rattle.acredact.proofs.Common.{flat_map}
 use Rattle.std.proofs.Common.{◌≡◌, ◌++◌, length, map}
-use Rattle.std.specs.List.{flat_map}
 use Rattle.acredact.specs.Forms.{HidesTwice, filled, form_secret, twice_patterns}
 use Rattle.acredact.specs.Tables.{secret_of, secrets_of}
 use Rattle.acredact.proofs.forms.add_nested.Given as goal

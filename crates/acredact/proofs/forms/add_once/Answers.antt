@@ -1,5 +1,5 @@
 -- The patterns are those of the forms, which hide the rule's own pattern.
-use Rattle.std.proofs.lemmas.Result.{on_ok_weaker}
+use Rattle.acredact.proofs.Common.{on_ok_weaker}
 use Rattle.acredact.proofs.forms.add_once.Goals as goal
 
 pub returns-in-Ok-clause-hidden : goal.returns-in-Ok-clause-hidden

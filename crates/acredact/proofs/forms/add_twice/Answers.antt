@@ -1,7 +1,6 @@
 -- The patterns hide what the inner form makes of the rule's own pattern.
+use Rattle.acredact.proofs.Common.{All-cons, All-nil, on_ok_weaker}
 use Rattle.std.proofs.Common.{[]}
-use Rattle.std.proofs.lemmas.List.Elements.{All-cons, All-nil}
-use Rattle.std.proofs.lemmas.Result.{on_ok_weaker}
 use Rattle.acredact.specs.Forms.{HidesNestedForm}
 use Rattle.acredact.proofs.forms.add_twice.Goals as goal
 

@@ -1,8 +1,7 @@
 -- One name after another, and at the end the last one.
+use Rattle.acredact.proofs.Common.{and-true, list_all}
 use Rattle.std.proofs.Common.{rules, ◌≡◌, Bool, sym, ap, ◌∙◌, true, false}
 use Rattle.std.specs.Prelude.{◌&&◌}
-use Rattle.std.specs.List.{list_all}
-use Rattle.std.proofs.Math.Bool.{and-true}
 use Rattle.acredact.specs.Forms.{is_asked, names_in}
 use Rattle.acredact.proofs.Lines.{line_at, line_end}
 use Rattle.acredact.proofs.forms.are_names.Goals as goal

@@ -1,6 +1,6 @@
 -- All names are those of forms where those that are left are.
+use Rattle.acredact.proofs.Common.{list_all}
 use Rattle.std.proofs.Common.{◌≡◌, length}
-use Rattle.std.specs.List.{list_all}
 use Rattle.acredact.specs.Forms.{is_asked, names_in}
 use Rattle.acredact.proofs.forms.are_names.Given as goal
 

@@ -1,8 +1,8 @@
 -- One name after another, and at the end the last one.
+use Rattle.acredact.proofs.Common.{or-false}
 use Rattle.std.proofs.Common.{rules, ◌≡◌, Bool, sym, ap, ◌∙◌, true, false}
 use Rattle.std.specs.Prelude.{◌||◌}
 use Rattle.std.specs.List.{list_any}
-use Rattle.std.proofs.Math.Bool.{or-false}
 use Rattle.acredact.specs.Forms.{asks_for, names_form}
 use Rattle.acredact.proofs.Lines.{line_at, line_end}
 use Rattle.acredact.proofs.forms.asks_for.Goals as goal

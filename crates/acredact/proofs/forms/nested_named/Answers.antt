@@ -1,9 +1,8 @@
 -- One name after another, and at the end the last one.
+use Rattle.acredact.proofs.Common.{Nested, filter_map}
 use Rattle.std.proofs.Common.{ℕ, List, [], ◌∷◌, ◌++◌, sym, ap, ◌∙◌, append_assoc}
-use Rattle.std.specs.List.{filter_map}
 use Rattle.std.proofs.lemmas.List.Elements.{filter_map-append}
 use Rattle.acredact.specs.Forms.{names_in, nested_called}
-use Rattle.acredact.specs.declared.forms.Nested.{Nested}
 use Rattle.acredact.proofs.Lines.{line_at, line_end}
 use Rattle.acredact.proofs.forms.nested_named.Goals as goal
 

@@ -1,6 +1,6 @@
 -- The names that are left give the others.
+use Rattle.acredact.proofs.Common.{filter_map}
 use Rattle.std.proofs.Common.{◌≡◌, ◌++◌, length}
-use Rattle.std.specs.List.{filter_map}
 use Rattle.acredact.specs.Forms.{names_in, nested_called}
 use Rattle.acredact.proofs.forms.nested_named.Given as goal
 

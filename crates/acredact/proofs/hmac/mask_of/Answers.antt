@@ -1,8 +1,9 @@
 -- One byte after another.
+use Rattle.acredact.proofs.Common.{take_all}
 use Rattle.std.proofs.Common.{◌≡◌, ℕ, ◌++◌, ◌∷◌, [], List, arith, refl, sym, ap, ◌∙◌, map}
 use Rattle.std.specs.Prelude.{bit_xor}
 use Rattle.std.specs.List.{range_with_len}
-use Rattle.std.proofs.lemmas.List.{length-set, take_all, take_more_set}
+use Rattle.std.proofs.lemmas.List.{length-set, take_more_set}
 use Rattle.std.proofs.lemmas.List.FromFn.{map-range_with_len_more}
 use Rattle.acredact.specs.Hmac.{mask_byte}
 use Rattle.acredact.proofs.hmac.mask_of.Goals as goal

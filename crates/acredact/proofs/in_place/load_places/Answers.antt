@@ -1,6 +1,6 @@
 -- What was loaded is what is redacted.
+use Rattle.acredact.proofs.Common.{bytes_left}
 use Rattle.std.proofs.Common.{rules, ◌≡◌, inl, inr, refl, false}
-use Rattle.tool_parts.specs.Streams.{bytes_left}
 use Rattle.acredact.specs.Arguments.{all_given}
 use Rattle.acredact.specs.Calls.{call_of, gives_pattern}
 use Rattle.acredact.specs.Loading.{loaded_in}

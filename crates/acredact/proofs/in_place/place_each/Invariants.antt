@@ -1,7 +1,7 @@
 -- The files in front of what is left were come to.
+use Rattle.acredact.proofs.Common.{name_bytes}
 use Rattle.std.proofs.Common.{length}
 use Rattle.chromesquid.specs.Searcher.{ForItsPatterns}
-use Rattle.tool_parts.specs.Names.{name_bytes}
 use Rattle.acredact.specs.Files.{redactor_of, work_of}
 use Rattle.acredact.proofs.PlacedCalls.{PlacedSoFar}
 use Rattle.acredact.proofs.in_place.place_each.Given as goal

@@ -1,6 +1,6 @@
 -- A new file is made, filled, and takes the place; or the file stays as it was.
+use Rattle.acredact.proofs.Common.{is_input}
 use Rattle.std.proofs.Common.{rules, ◌≡◌, inl, inr, refl, true, false}
-use Rattle.tool_parts.specs.Names.{is_input}
 use Rattle.acredact.specs.Files.{redactor_of, work_of}
 use Rattle.acredact.specs.InPlace.{IsSparedLine}
 use Rattle.acredact.proofs.PlacedCalls.{all_redacted, place_settled, told_of_one}

@@ -1,9 +1,7 @@
 -- The files' outcome, and then the counts.
+use Rattle.acredact.proofs.Common.{Other, OutOfMemory, Rule, Strict, bytes_left, failure_of_stream}
 use Rattle.std.proofs.Common.{rules, ◌≡◌, ◌∙◌, List, ℕ, ap, subst, sym}
 use Rattle.std.specs.Prelude.{Bool, Err, Ok}
-use Rattle.tool_parts.specs.Failures.{failure_of_stream}
-use Rattle.tool_parts.specs.Streams.{bytes_left}
-use Rattle.tool_parts.specs.declared.failure.Failure.TheVariants.{OutOfMemory}
 use Rattle.acredact.specs.Arguments.{all_given, counts_asked, has}
 use Rattle.acredact.specs.Calls.{call_of, reading_by, redactor_by_given, work_by}
 use Rattle.acredact.specs.Counts.{zeros}
@@ -13,9 +11,6 @@ use Rattle.acredact.specs.InPlace.{PlacesOutcome}
 use Rattle.acredact.specs.Loading.{AreLoaded, key_in, loaded_as, loaded_in}
 use Rattle.acredact.specs.Summaries.{no_volume}
 use Rattle.acredact.specs.Tables.{secrets_of}
-use Rattle.acredact.specs.declared.options.Word.TheVariants.{Strict}
-use Rattle.acredact.specs.declared.failure.Failure.TheVariants.{Other}
-use Rattle.acredact.specs.declared.patterns.Rule.{Rule}
 use Rattle.acredact.proofs.Calls.{job_does}
 use Rattle.acredact.proofs.PlacedCalls.{places_cut, places_told, places_uncounted}
 use Rattle.acredact.proofs.in_place.place_ready.Goals as goal

@@ -1,7 +1,7 @@
 -- What was all redacted is put, and else removed.
+use Rattle.acredact.proofs.Common.{StreamError}
 use Rattle.std.proofs.Common.{rules, ◌≡◌, inl, refl, subst, sym, true}
 use Rattle.std.specs.Prelude.{Bool, Ok, Result}
-use Rattle.aho_core.specs.declared.error.stream.StreamError.{StreamError}
 use Rattle.acredact.specs.InPlace.{IsSettled}
 use Rattle.acredact.proofs.in_place.settle.Goals as goal
 

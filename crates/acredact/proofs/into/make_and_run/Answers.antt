@@ -1,7 +1,6 @@
 -- The new file is made and filled, or it is told why not.
+use Rattle.acredact.proofs.Common.{is_input, texts}
 use Rattle.std.proofs.Common.{rules, ◌≡◌, inl, inr, refl, true, false, arith}
-use Rattle.tool_parts.specs.Arguments.{texts}
-use Rattle.tool_parts.specs.Names.{is_input}
 use Rattle.acredact.specs.Calls.{IsLineOf, OutputFails, call_of}
 use Rattle.acredact.specs.Into.{IsOutputLine}
 use Rattle.acredact.specs.Ruled.{IsRuledTold}

@@ -1,7 +1,7 @@
 -- The rules are those of the program, or of the file.
+use Rattle.acredact.proofs.Common.{on_ok_weaker}
 use Rattle.std.proofs.Common.{◌≡◌, ◌∙◌, List, ℕ, Option, refl, subst, sym, true, false}
 use Rattle.std.specs.Prelude.{Bool, MatchBool}
-use Rattle.std.proofs.lemmas.Result.{on_ok_weaker}
 use Rattle.secret_rules.specs.Tables.{TellsRules}
 use Rattle.secret_rules.specs.declared.rule.Rule.{Rule}
 use Rattle.acredact.specs.LineRules.{GivesFileRules, GivesNamedRules, GivesOwnRules, is_builtin}

@@ -1,6 +1,6 @@
 -- What an option more gives is read.
+use Rattle.acredact.proofs.Common.{bytes_left}
 use Rattle.std.proofs.Common.{rules, ◌≡◌, ◌≤◌, List, [], length, subst, sym}
-use Rattle.tool_parts.specs.Streams.{bytes_left}
 use Rattle.secret_rules.specs.declared.rule.Rule.{Rule}
 use Rattle.acredact.specs.Arguments.{all_given}
 use Rattle.acredact.specs.LineRules.{OptionGivesRules}

@@ -1,6 +1,6 @@
 -- The rules that the options so far give were read.
+use Rattle.acredact.proofs.Common.{bytes_left}
 use Rattle.std.proofs.Common.{length}
-use Rattle.tool_parts.specs.Streams.{bytes_left}
 use Rattle.acredact.specs.Arguments.{all_given}
 use Rattle.acredact.specs.LineRules.{OptionGivesRules}
 use Rattle.acredact.specs.Loading.{reading_of_lists}

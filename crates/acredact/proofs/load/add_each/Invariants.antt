@@ -1,6 +1,6 @@
 -- The values before what is left are added.
+use Rattle.acredact.proofs.Common.{pieces_of}
 use Rattle.std.proofs.Common.{length}
-use Rattle.aho_core.specs.Replacement.{pieces_of}
 use Rattle.acredact.specs.Tables.{secrets_of}
 use Rattle.acredact.proofs.Valued.{ValuedSoFar}
 use Rattle.acredact.proofs.load.add_each.Given as goal

@@ -1,5 +1,5 @@
 -- What the text gives is added.
-use Rattle.std.proofs.lemmas.Result.{IfErr-weaker, on_ok_weaker}
+use Rattle.acredact.proofs.Common.{IfErr-weaker, on_ok_weaker}
 use Rattle.acredact.specs.Loading.{reading_of_lists}
 use Rattle.acredact.proofs.Loaded.{file_fails}
 use Rattle.acredact.proofs.load.add_file.Goals as goal

@@ -1,6 +1,6 @@
 -- The pattern is added, and then its lines.
+use Rattle.acredact.proofs.Common.{IfErr-weaker, on_ok_weaker}
 use Rattle.std.proofs.Common.{inl, refl, sym, subst}
-use Rattle.std.proofs.lemmas.Result.{IfErr-weaker, on_ok_weaker}
 use Rattle.acredact.specs.Loading.{IsPatternFailure}
 use Rattle.acredact.proofs.PartLines.{pattern_added}
 use Rattle.acredact.proofs.load.add_pattern.Goals as goal

@@ -1,6 +1,6 @@
 -- The values are not refused, and each is added.
+use Rattle.acredact.proofs.Common.{pieces_of}
 use Rattle.std.proofs.Common.{rules, ◌≡◌, false}
-use Rattle.aho_core.specs.Replacement.{pieces_of}
 use Rattle.acredact.specs.Values.{are_refused}
 use Rattle.acredact.proofs.load.add_values.Goals as goal
 

@@ -1,13 +1,10 @@
 -- The text is right, and its values are added.
+use Rattle.acredact.proofs.Common.{Form, IfErr-weaker, filter_map, on_ok_weaker, pieces_of}
 use Rattle.std.proofs.Common.{rules, ◌≡◌, inr, false, sym, ap, ◌∙◌}
 use Rattle.std.specs.Prelude.{None}
-use Rattle.std.specs.List.{filter_map}
-use Rattle.std.proofs.lemmas.Result.{IfErr-weaker, on_ok_weaker}
-use Rattle.aho_core.specs.Replacement.{pieces_of}
 use Rattle.acredact.specs.Loading.{form_by, rules_for, values_in_text}
 use Rattle.acredact.specs.Tables.{lines_in, stripped_by}
 use Rattle.acredact.specs.Values.{first_fault, value_in_line}
-use Rattle.acredact.specs.declared.patterns.Form.{Form}
 use Rattle.acredact.proofs.load.add_variables.Goals as goal
 
 pub returns-clause-added : goal.returns-clause-added

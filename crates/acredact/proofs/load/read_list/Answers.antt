@@ -1,7 +1,6 @@
 -- The text is that of the input, or of a file of the folder.
+use Rattle.acredact.proofs.Common.{IfErr-weaker, IfOk-weaker, bytes_left}
 use Rattle.std.proofs.Common.{◌∙◌, sym, inl}
-use Rattle.std.proofs.lemmas.Result.{IfErr-weaker, IfOk-weaker}
-use Rattle.tool_parts.specs.Streams.{bytes_left}
 use Rattle.acredact.specs.Reads.{ReadsText}
 use Rattle.acredact.proofs.Loaded.{text_opened}
 use Rattle.acredact.proofs.OneFile.{of_input}

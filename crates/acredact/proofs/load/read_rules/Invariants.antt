@@ -1,6 +1,6 @@
 -- What the options so far gave is loaded.
+use Rattle.acredact.proofs.Common.{bytes_left}
 use Rattle.std.proofs.Common.{length}
-use Rattle.tool_parts.specs.Streams.{bytes_left}
 use Rattle.acredact.specs.Arguments.{all_given}
 use Rattle.acredact.specs.Loading.{OptionGives, reading_of_lists}
 use Rattle.acredact.specs.Tables.{secrets_of}

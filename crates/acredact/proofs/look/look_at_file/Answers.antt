@@ -1,13 +1,11 @@
 -- The file is that of the input, or of the folder.
+use Rattle.acredact.proofs.Common.{Keeps, Look, is_input}
 use Rattle.std.proofs.Common.{◌≡◌, ◌∙◌, Option, List, ℕ, false, true, sym, refl}
 use Rattle.std.specs.Prelude.{IfOk, Result, Ok, Err}
-use Rattle.std.specs.Io.KnownBytes.{Keeps}
 use Rattle.std.specs.declared.alloc.AllocError.{AllocError}
-use Rattle.tool_parts.specs.Names.{is_input}
 use Rattle.acredact.specs.Checks.{IsLookOf, Quest, quest_of}
 use Rattle.acredact.specs.Faults.{IsReadReason}
 use Rattle.acredact.specs.Looks.{IsLook}
-use Rattle.acredact.specs.declared.look.Look.{Look}
 use Rattle.acredact.proofs.Checks.{look_input, look_opened, look_refused}
 use Rattle.acredact.proofs.look.look_at_file.Goals as goal
 

@@ -1,8 +1,7 @@
 -- A file more is looked at.
+use Rattle.acredact.proofs.Common.{bytes_left, name_bytes}
 use Rattle.std.proofs.Common.{rules, ◌≡◌, ◌∙◌, ◌≤◌, List, ap, length, subst, ℕ}
 use Rattle.std.specs.Prelude.{Err}
-use Rattle.tool_parts.specs.Names.{name_bytes}
-use Rattle.tool_parts.specs.Streams.{bytes_left}
 use Rattle.acredact.specs.Checks.{quest_of}
 use Rattle.acredact.specs.Looks.{both_seen}
 use Rattle.acredact.proofs.Checks.{SeenSoFar, seen_all, seen_more, seen_none}

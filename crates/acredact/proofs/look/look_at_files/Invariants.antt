@@ -1,7 +1,6 @@
 -- The files in front of what is left were looked at.
+use Rattle.acredact.proofs.Common.{bytes_left, name_bytes}
 use Rattle.std.proofs.Common.{length}
-use Rattle.tool_parts.specs.Names.{name_bytes}
-use Rattle.tool_parts.specs.Streams.{bytes_left}
 use Rattle.acredact.specs.Checks.{quest_of}
 use Rattle.acredact.specs.Secrets.{IfOf}
 use Rattle.acredact.proofs.Checks.{SeenSoFar}

@@ -1,9 +1,7 @@
 -- The input is looked at from its beginning.
+use Rattle.acredact.proofs.Common.{at_end, bytes_left, counted}
 use Rattle.std.proofs.Common.{◌≢◌, ap, sym, ◌∙◌}
 use Rattle.std.specs.Prelude.{Bool}
-use Rattle.aho_devices.specs.Counts.{counted}
-use Rattle.tool_parts.specs.Streams.{bytes_left}
-use Rattle.tool_parts.proofs.Ends.{at_end}
 use Rattle.acredact.specs.Looks.{is_failed_look, sought}
 use Rattle.acredact.proofs.Looks.{look_failed, look_is}
 use Rattle.acredact.proofs.look.look_at_input.Goals as goal

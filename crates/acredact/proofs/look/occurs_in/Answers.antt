@@ -1,7 +1,7 @@
 -- Memory alone may be wanting before the search.
+use Rattle.acredact.proofs.Common.{Memory}
 use Rattle.std.proofs.Common.{rules, ◌≡◌, ◌∙◌, false, ap}
 use Rattle.std.specs.Prelude.{Err}
-use Rattle.aho_core.specs.declared.error.stream.StreamError.TheVariants.{Memory}
 use Rattle.acredact.specs.Looks.{sought}
 use Rattle.acredact.proofs.Looks.{looks_memory}
 use Rattle.acredact.proofs.look.occurs_in.Goals as goal

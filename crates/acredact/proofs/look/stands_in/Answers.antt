@@ -1,8 +1,7 @@
 -- Memory alone may be wanting before the cover, and what it writes to never fails.
+use Rattle.acredact.proofs.Common.{Memory, get_or-replicate, length-map, length-replicate}
 use Rattle.std.proofs.Common.{rules, ◌≡◌, ◌∙◌, ◌<◌, ℕ, List, true, length, refl, ap, sym, subst, arith}
 use Rattle.std.specs.Prelude.{Err, replicate, slice_index}
-use Rattle.std.proofs.lemmas.List.{get_or-replicate, length-map, length-replicate}
-use Rattle.aho_core.specs.declared.error.stream.StreamError.TheVariants.{Memory}
 use Rattle.aho_devices.specs.contracts.write.NowhereSink.TheImpl.{ghosts as NowhereGhosts}
 use Rattle.acredact.specs.Looks.{sought}
 use Rattle.acredact.proofs.Looks.{looks_counted, looks_cut, looks_memory}

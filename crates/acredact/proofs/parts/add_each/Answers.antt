@@ -1,8 +1,7 @@
 -- One line more is added, and at the end the last one.
+use Rattle.acredact.proofs.Common.{flat_map, on_ok_weaker, slice_split}
 use Rattle.std.proofs.Common.{ℕ, List, [], ◌++◌, refl, sym, ap, ◌∙◌, append-nil}
 use Rattle.std.specs.Prelude.{nat_eq}
-use Rattle.std.specs.List.{flat_map, slice_split}
-use Rattle.std.proofs.lemmas.Result.{on_ok_weaker}
 use Rattle.acredact.specs.Parts.{line_secrets, lines_secrets}
 use Rattle.acredact.specs.Tables.{secrets_of}
 use Rattle.acredact.proofs.Lines.{line_at, line_end}

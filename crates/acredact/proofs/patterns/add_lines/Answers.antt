@@ -1,8 +1,7 @@
 -- One line more is added, and at the end the last one.
+use Rattle.acredact.proofs.Common.{IfErr-weaker, on_ok_weaker, slice_split}
 use Rattle.std.proofs.Common.{rules, ◌≡◌, ◌≤◌, [], ◌∷◌, ◌++◌, length, length-append, ◌∙◌, append_assoc, arith}
 use Rattle.std.specs.Prelude.{Err, nat_eq}
-use Rattle.std.specs.List.{slice_split}
-use Rattle.std.proofs.lemmas.Result.{IfErr-weaker, on_ok_weaker}
 use Rattle.acredact.specs.Tables.{lines_in}
 use Rattle.acredact.proofs.Lines.{added_line, err_both, fault_at, line_last, line_more, lines_of_some}
 use Rattle.acredact.proofs.patterns.add_lines.Goals as goal

@@ -1,8 +1,7 @@
 -- The lines in front of what is left are added.
+use Rattle.acredact.proofs.Common.{slice_split, strip_last}
 use Rattle.std.proofs.Common.{ℕ, List, ◌≡◌, ◌+◌, ◌-◌, ◌^◌, ◌++◌, length}
 use Rattle.std.specs.Prelude.{min, nat_eq}
-use Rattle.std.specs.Io.BufRead.{strip_last}
-use Rattle.std.specs.List.{slice_split}
 use Rattle.acredact.specs.Tables.{IsAddedList, secrets_of}
 use Rattle.acredact.proofs.patterns.add_lines.Given as goal
 

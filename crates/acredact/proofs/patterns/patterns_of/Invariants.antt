@@ -1,6 +1,6 @@
 -- Those so far, and those of what is left.
+use Rattle.acredact.proofs.Common.{pieces_of}
 use Rattle.std.proofs.Common.{◌≡◌, ◌++◌, length, map}
-use Rattle.aho_core.specs.Replacement.{pieces_of}
 use Rattle.acredact.specs.Tables.{secrets_of}
 use Rattle.acredact.proofs.patterns.patterns_of.Given as goal
 

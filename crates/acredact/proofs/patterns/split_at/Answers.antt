@@ -1,9 +1,8 @@
 -- One byte more is not the one that is looked for; at the end they all are not.
+use Rattle.acredact.proofs.Common.{ne_eqb, take_all}
 use Rattle.std.proofs.Common.{◌≡◌, ◌+◌, ℕ, sym, subst, take, suc, arith}
 use Rattle.std.specs.Prelude.{false, nat_eq}
 use Rattle.std.proofs.Math.Seq.{take-suc}
-use Rattle.std.proofs.lemmas.Bool.{ne_eqb}
-use Rattle.std.proofs.lemmas.List.{take_all}
 use Rattle.std.proofs.lemmas.List.Elements.{All-push}
 use Rattle.acredact.specs.Tables.{IsWithout}
 use Rattle.acredact.proofs.patterns.split_at.Goals as goal

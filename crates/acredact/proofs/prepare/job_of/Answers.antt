@@ -1,7 +1,6 @@
 -- It is the work that is asked for, and what searches can do it.
+use Rattle.acredact.proofs.Common.{name_bytes, pieces_of}
 use Rattle.std.proofs.Common.{◌∙◌, ap, refl}
-use Rattle.aho_core.specs.Replacement.{pieces_of}
-use Rattle.tool_parts.specs.Names.{name_bytes}
 use Rattle.acredact.specs.Arguments.{all_given}
 use Rattle.acredact.specs.Tables.{secrets_of}
 use Rattle.acredact.proofs.Ready.{ready_redacts}

@@ -1,6 +1,6 @@
 -- The names so far, and those of what is left.
+use Rattle.acredact.proofs.Common.{name_bytes}
 use Rattle.std.proofs.Common.{◌≡◌, ◌++◌, length}
-use Rattle.tool_parts.specs.Names.{name_bytes}
 use Rattle.acredact.specs.Arguments.{all_given}
 use Rattle.acredact.specs.Calls.{names_given}
 use Rattle.acredact.proofs.prepare.names.Given as goal

@@ -1,10 +1,9 @@
 -- What is made is what is asked for.
+use Rattle.acredact.proofs.Common.{Other, pieces_of}
 use Rattle.std.proofs.Common.{rules, ◌≡◌, ◌∙◌, ap, inl, map, refl}
 use Rattle.std.specs.Prelude.{Err}
-use Rattle.aho_core.specs.Replacement.{pieces_of}
 use Rattle.tool_parts.specs.declared.failure.Failure.TheVariants.{Build}
 use Rattle.acredact.specs.Tables.{piece_by, secrets_of}
-use Rattle.acredact.specs.declared.failure.Failure.TheVariants.{Other}
 use Rattle.acredact.proofs.prepare.ready_of.Goals as goal
 
 pub returns-in_err-searcher-clause-refused : goal.returns-in_err-searcher-clause-refused

@@ -1,16 +1,13 @@
 -- The pieces are those that are asked for.
+use Rattle.acredact.proofs.Common.{No, Rule, length-map, pieces_of}
 use Rattle.std.proofs.Common.{◌∙◌, List, ap, length, map, refl, subst, sym}
 use Rattle.std.specs.Prelude.{IsOk}
-use Rattle.std.proofs.lemmas.List.{length-map}
-use Rattle.aho_core.specs.Replacement.{pieces_of}
-use Rattle.aho_core.specs.declared.search.Anchored.TheVariants.{No}
 use Rattle.chromesquid.proofs.Built.{start_of}
 use Rattle.acredact.specs.Arguments.{all_given, covers_asked, has}
 use Rattle.acredact.specs.Builds.{patterns_by_given}
 use Rattle.acredact.specs.Calls.{text_asked}
 use Rattle.acredact.specs.Tables.{patterns_in, piece_by, secret_of, secrets_of}
 use Rattle.acredact.specs.declared.options.Word.TheVariants.{IgnoreCase}
-use Rattle.acredact.specs.declared.patterns.Rule.{Rule}
 use Rattle.acredact.proofs.Warned.{judged_as}
 use Rattle.acredact.proofs.prepare.unclean_in.Goals as goal
 

@@ -1,9 +1,8 @@
 -- One byte after another.
+use Rattle.acredact.proofs.Common.{Holds256, folded_by, map-append, take_all}
 use Rattle.std.proofs.Common.{◌≡◌, ℕ, ◌+◌, List, ◌++◌, ◌∷◌, [], arith, sym, ap, ◌∙◌, subst, take, append_assoc, append-nil}
 use Rattle.std.specs.Prelude.{slice_index, true}
-use Rattle.std.proofs.lemmas.List.{map-append, take_all, take_more}
-use Rattle.aho_core.specs.Bytes.{folded_by}
-use Rattle.sha2.specs.Hashers.{Holds256}
+use Rattle.std.proofs.lemmas.List.{take_more}
 use Rattle.acredact.specs.Pseudonyms.{as_compared}
 use Rattle.acredact.proofs.pseudonym.add_folded.Goals as goal
 

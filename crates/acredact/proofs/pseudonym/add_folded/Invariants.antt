@@ -1,7 +1,7 @@
 -- The bytes before the place were added.
+use Rattle.acredact.proofs.Common.{Holds256}
 use Rattle.std.proofs.Common.{ℕ, List, ◌++◌, take}
 use Rattle.std.specs.Prelude.{true}
-use Rattle.sha2.specs.Hashers.{Holds256}
 use Rattle.acredact.specs.Pseudonyms.{as_compared}
 use Rattle.acredact.proofs.pseudonym.add_folded.Given as goal
 

@@ -1,7 +1,6 @@
 -- What the closure writes is the piece of each match, and it counts each.
+use Rattle.acredact.proofs.Common.{on_ok_weaker, pieces_of}
 use Rattle.std.proofs.Common.{rules, ◌≡◌, false, refl, sym}
-use Rattle.std.proofs.lemmas.Result.{on_ok_weaker}
-use Rattle.aho_core.specs.Replacement.{pieces_of}
 use Rattle.acredact.specs.Secrets.{redactor_by}
 use Rattle.acredact.proofs.Bounded.{lent_most}
 use Rattle.acredact.proofs.Counted.{lent_does}

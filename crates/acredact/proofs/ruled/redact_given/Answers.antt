@@ -1,6 +1,6 @@
 -- What was loaded is redacted by.
+use Rattle.acredact.proofs.Common.{bytes_left}
 use Rattle.std.proofs.Common.{refl}
-use Rattle.tool_parts.specs.Streams.{bytes_left}
 use Rattle.acredact.specs.Arguments.{all_given}
 use Rattle.acredact.specs.Calls.{call_of}
 use Rattle.acredact.specs.Ruled.{IsRuledTold}

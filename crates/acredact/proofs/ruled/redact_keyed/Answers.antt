@@ -1,11 +1,10 @@
 -- What is told of doubtful patterns comes first.
+use Rattle.acredact.proofs.Common.{Rule, name_bytes}
 use Rattle.std.proofs.Common.{◌≡◌, ◌∙◌, List, ap}
-use Rattle.tool_parts.specs.Names.{name_bytes}
 use Rattle.acredact.specs.Arguments.{all_given}
 use Rattle.acredact.specs.Calls.{call_of}
 use Rattle.acredact.specs.Ruled.{load_as, load_in, ruled_load}
 use Rattle.acredact.specs.Tables.{secrets_of}
-use Rattle.acredact.specs.declared.patterns.Rule.{Rule}
 use Rattle.acredact.proofs.RuledCalls.{all_doubts_told, ruled_behind, ruled_early}
 use Rattle.acredact.proofs.ruled.redact_keyed.Goals as goal
 

@@ -1,10 +1,7 @@
 -- The files are redacted by what was loaded.
+use Rattle.acredact.proofs.Common.{TellsBytes, bytes_left, length-map, pieces_of}
 use Rattle.std.proofs.Common.{rules, ◌≡◌, ◌∙◌, List, ℕ, ap, length, refl, sym, subst, true}
 use Rattle.std.specs.Prelude.{Ok, replicate}
-use Rattle.std.proofs.lemmas.List.{length-map}
-use Rattle.aho_core.specs.Replacement.{pieces_of}
-use Rattle.tool_parts.specs.Streams.{bytes_left}
-use Rattle.tool_parts.specs.Telling.{TellsBytes}
 use Rattle.secret_rules.specs.declared.rule.Rule.{Rule as LineRule}
 use Rattle.acredact.specs.Arguments.{all_given}
 use Rattle.acredact.specs.Calls.{call_of}

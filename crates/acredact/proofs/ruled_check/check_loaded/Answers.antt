@@ -1,6 +1,6 @@
 -- What is told of doubtful patterns comes first.
+use Rattle.acredact.proofs.Common.{name_bytes}
 use Rattle.std.proofs.Common.{◌∙◌, ap}
-use Rattle.tool_parts.specs.Names.{name_bytes}
 use Rattle.acredact.specs.Arguments.{all_given}
 use Rattle.acredact.specs.Calls.{call_of}
 use Rattle.acredact.specs.RuledChecks.{check_load}

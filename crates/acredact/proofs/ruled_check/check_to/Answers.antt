@@ -1,6 +1,6 @@
 -- What is told is what the output holds more, or it is told to another.
+use Rattle.acredact.proofs.Common.{output_bytes}
 use Rattle.std.proofs.Common.{◌≡◌, ◌∙◌, true, false, refl, sym}
-use Rattle.tool_parts.specs.Streams.{output_bytes}
 use Rattle.acredact.proofs.ruled_check.check_to.Goals as goal
 
 pub returns-then-checked-clause-sees : goal.returns-then-checked-clause-sees

@@ -1,9 +1,7 @@
 -- A file more is done.
+use Rattle.acredact.proofs.Common.{Stream, bytes_left, name_bytes}
 use Rattle.std.proofs.Common.{rules, ◌≡◌, ◌∙◌, ◌≤◌, ℕ, List, ap, length, subst, true}
 use Rattle.std.specs.Prelude.{Bool, Err, Ok}
-use Rattle.tool_parts.specs.Names.{name_bytes}
-use Rattle.tool_parts.specs.Streams.{bytes_left}
-use Rattle.secret_rules.specs.declared.error.LineError.TheVariants.{Stream}
 use Rattle.acredact.specs.Ruled.{ruled_in}
 use Rattle.acredact.specs.Volumes.{files_with}
 use Rattle.acredact.proofs.Done.{both_so, names_cut, names_end}

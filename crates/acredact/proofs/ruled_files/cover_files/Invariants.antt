@@ -1,7 +1,6 @@
 -- The files in front of what is left are done.
+use Rattle.acredact.proofs.Common.{bytes_left, name_bytes, output_bytes}
 use Rattle.std.proofs.Common.{◌≡◌, length, true}
-use Rattle.tool_parts.specs.Names.{name_bytes}
-use Rattle.tool_parts.specs.Streams.{bytes_left, output_bytes}
 use Rattle.acredact.specs.Ruled.{IfLined, IsLined, ruled_in}
 use Rattle.acredact.proofs.Metering.{VolumeSoFar}
 use Rattle.acredact.proofs.RuledFiles.{LinedSoFar}

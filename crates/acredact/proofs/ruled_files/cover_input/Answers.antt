@@ -1,6 +1,6 @@
 -- The input is read to its end.
+use Rattle.acredact.proofs.Common.{at_end}
 use Rattle.std.proofs.Common.{◌≢◌, ◌∙◌, ap, sym}
-use Rattle.tool_parts.proofs.Ends.{at_end}
 use Rattle.acredact.proofs.Metering.{text_bytes}
 use Rattle.acredact.proofs.RuledText.{lines_outcome, read_whole}
 use Rattle.acredact.proofs.ruled_files.cover_input.Goals as goal

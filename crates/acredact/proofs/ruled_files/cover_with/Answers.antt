@@ -1,8 +1,6 @@
 -- What is known of the metered source is known of the source.
+use Rattle.acredact.proofs.Common.{AreSearchedFor, most_of, on_ok_weaker, rules_of, searched_automaton, words_of}
 use Rattle.std.proofs.Common.{◌∙◌, arith, refl, sym}
-use Rattle.std.proofs.lemmas.Result.{on_ok_weaker}
-use Rattle.secret_rules.specs.LineCovers.{AreSearchedFor}
-use Rattle.secret_rules.specs.Ready.{most_of, rules_of, searched_automaton, words_of}
 use Rattle.acredact.proofs.Metering.{consumes_settled, gave_by, metered_added, metered_first}
 use Rattle.acredact.proofs.RuledText.{leaves_as, still_lined}
 use Rattle.acredact.proofs.ruled_files.cover_with.Goals as goal

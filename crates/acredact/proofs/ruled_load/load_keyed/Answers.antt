@@ -1,6 +1,6 @@
 -- The key is loaded beside them.
+use Rattle.acredact.proofs.Common.{bytes_left}
 use Rattle.std.proofs.Common.{refl, subst, sym}
-use Rattle.tool_parts.specs.Streams.{bytes_left}
 use Rattle.acredact.specs.Arguments.{all_given}
 use Rattle.acredact.specs.Calls.{call_of, reading_by}
 use Rattle.acredact.specs.Loading.{Loaded}

@@ -1,5 +1,5 @@
 -- The patterns and the rules are those of the call.
-use Rattle.tool_parts.specs.Streams.{bytes_left}
+use Rattle.acredact.proofs.Common.{bytes_left}
 use Rattle.acredact.specs.Arguments.{all_given}
 use Rattle.acredact.specs.Calls.{rules_asked}
 use Rattle.acredact.specs.LineRules.{AreRulesRead}

@@ -1,6 +1,6 @@
 -- What searches for these patterns is asked for.
+use Rattle.acredact.proofs.Common.{pieces_of}
 use Rattle.std.proofs.Common.{◌≡◌, ◌∙◌, ap, refl}
-use Rattle.aho_core.specs.Replacement.{pieces_of}
 use Rattle.acredact.specs.Arguments.{all_given}
 use Rattle.acredact.specs.Ruled.{patterns_by_case}
 use Rattle.acredact.specs.Tables.{patterns_in, secrets_of}

@@ -1,9 +1,7 @@
 -- The arguments are right or wrong.
+use Rattle.acredact.proofs.Common.{Keeps-refl, bytes_left, texts}
 use Rattle.std.proofs.Common.{◌≡◌, inl, inr, ℕ, List, ap, refl, sym, subst, ◌∙◌, arith, ◌<◌}
 use Rattle.std.specs.Prelude.{None, Some}
-use Rattle.std.proofs.KnownBytes.{Keeps-refl}
-use Rattle.tool_parts.specs.Arguments.{texts}
-use Rattle.tool_parts.specs.Streams.{bytes_left}
 use Rattle.acredact.specs.Arguments.{Given, all_asked, all_given}
 use Rattle.acredact.specs.Calls.{IsWrongLine, call_of}
 use Rattle.acredact.specs.Checks.{CheckStatus}

@@ -1,6 +1,6 @@
 -- No option gives a pattern; or what comes of the files comes behind what is told of patterns of lists and of pieces.
+use Rattle.acredact.proofs.Common.{bytes_left}
 use Rattle.std.proofs.Common.{rules, ◌≡◌, false, inl, inr, refl}
-use Rattle.tool_parts.specs.Streams.{bytes_left}
 use Rattle.acredact.specs.Arguments.{all_given}
 use Rattle.acredact.specs.Calls.{call_of, gives_pattern}
 use Rattle.acredact.specs.Loading.{loaded_in}

@@ -1,9 +1,7 @@
 -- The files' outcome, and then the counts.
+use Rattle.acredact.proofs.Common.{Failure, Other, OutOfMemory, Rule, bytes_left, failure_of_stream}
 use Rattle.std.proofs.Common.{rules, ◌≡◌, ◌∙◌, List, ℕ, ap, subst, sym}
 use Rattle.std.specs.Prelude.{Bool, Err, Ok, Result}
-use Rattle.tool_parts.specs.Failures.{failure_of_stream}
-use Rattle.tool_parts.specs.Streams.{bytes_left}
-use Rattle.tool_parts.specs.declared.failure.Failure.TheVariants.{OutOfMemory}
 use Rattle.acredact.specs.Arguments.{all_given, counts_asked}
 use Rattle.acredact.specs.Bounds.{NumbersOfAll}
 use Rattle.acredact.specs.Calls.{RestOutcome, call_of, names_asked, reading_by, work_by}
@@ -13,9 +11,6 @@ use Rattle.acredact.specs.Loading.{AreLoaded, key_in, loaded_as, loaded_in}
 use Rattle.acredact.specs.Summaries.{no_volume}
 use Rattle.acredact.specs.Totals.{CountsOfNames}
 use Rattle.acredact.specs.Volumes.{ReadsVolume}
-use Rattle.acredact.specs.declared.failure.Failure.{Failure}
-use Rattle.acredact.specs.declared.failure.Failure.TheVariants.{Other}
-use Rattle.acredact.specs.declared.patterns.Rule.{Rule}
 use Rattle.acredact.proofs.Calls.{job_does, rest_cut, rest_memory, rest_told}
 use Rattle.acredact.proofs.Limits.{bounded_from}
 use Rattle.acredact.proofs.run.redact_ready.Goals as goal

@@ -1,7 +1,7 @@
 -- What the status says.
+use Rattle.acredact.proofs.Common.{texts}
 use Rattle.std.proofs.Common.{◌≡◌, List}
 use Rattle.std.specs.Prelude.{Some}
-use Rattle.tool_parts.specs.Arguments.{texts}
 use Rattle.acredact.specs.Arguments.{AsksForRules, AsksForRulesCheck, AsksToCheck, AsksToRedact, Given, all_asked}
 use Rattle.acredact.specs.Calls.{call_of}
 use Rattle.acredact.proofs.Given.{forms_cover, forms_unworded}

@@ -1,6 +1,6 @@
 -- The counts and the summary are of the sums.
+use Rattle.acredact.proofs.Common.{TellsBytes}
 use Rattle.std.proofs.Common.{rules, ◌≡◌, [], subst, ◌∙◌, append-nil, refl}
-use Rattle.tool_parts.specs.Telling.{TellsBytes}
 use Rattle.acredact.specs.Arguments.{all_given}
 use Rattle.acredact.specs.Counts.{lines_of_rules}
 use Rattle.acredact.specs.Summaries.{totals_text}

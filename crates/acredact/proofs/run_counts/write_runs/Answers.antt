@@ -1,7 +1,6 @@
 -- The counts and the summary are one text.
+use Rattle.acredact.proofs.Common.{TellsBytes, length-map}
 use Rattle.std.proofs.Common.{rules, ◌≡◌, [], length, subst, ◌∙◌, append-nil, refl}
-use Rattle.std.proofs.lemmas.List.{length-map}
-use Rattle.tool_parts.specs.Telling.{TellsBytes}
 use Rattle.acredact.specs.Arguments.{all_given}
 use Rattle.acredact.specs.RunCounts.{runs_text}
 use Rattle.acredact.specs.Sums.{sums_of}

@@ -1,9 +1,9 @@
 -- A key that names secrets is left out.
+use Rattle.acredact.proofs.Common.{Forms}
 use Rattle.std.proofs.Common.{rules, ◌≡◌, ap, sym, true, false}
 use Rattle.std.specs.Prelude.{Bool, None, if◌then◌else◌}
 use Rattle.acredact.specs.Arguments.{all_given, has}
 use Rattle.acredact.specs.Loading.{key_in, loaded_as}
-use Rattle.acredact.specs.declared.options.Word.TheVariants.{Forms}
 use Rattle.acredact.proofs.secrets.for_runs.Goals as goal
 
 pub returns-then-not-has : goal.returns-then-not-has

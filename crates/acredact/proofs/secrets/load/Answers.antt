@@ -1,6 +1,6 @@
 -- The rules are those of the call, and the key is loaded beside them.
+use Rattle.acredact.proofs.Common.{bytes_left}
 use Rattle.std.proofs.Common.{inl, ap, ◌∙◌}
-use Rattle.tool_parts.specs.Streams.{bytes_left}
 use Rattle.acredact.specs.Arguments.{all_given}
 use Rattle.acredact.specs.Calls.{AreLoadedBy, rules_asked}
 use Rattle.acredact.specs.Loading.{AreGiven, CannotLoadAll, for_runs}

@@ -1,7 +1,7 @@
 -- The key is that of the call, where there is one.
+use Rattle.acredact.proofs.Common.{bytes_left}
 use Rattle.std.proofs.Common.{inr, refl}
 use Rattle.std.specs.Prelude.{None, Some}
-use Rattle.tool_parts.specs.Streams.{bytes_left}
 use Rattle.acredact.specs.Arguments.{all_given, last_value}
 use Rattle.acredact.specs.Calls.{rules_asked}
 use Rattle.acredact.specs.Loading.{CannotLoadKey, IsKeyGiven}

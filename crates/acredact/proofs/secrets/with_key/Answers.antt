@@ -1,4 +1,5 @@
 -- The key names the secrets, where forms are asked for.
+use Rattle.acredact.proofs.Common.{Forms, Rule}
 use Rattle.std.proofs.Common.{rules, List, ap, ◌∙◌, ◌≡◌, true, false}
 use Rattle.std.specs.Prelude.{Some}
 use Rattle.acredact.specs.Arguments.{all_given, has}
@@ -6,8 +7,6 @@ use Rattle.acredact.specs.Loading.{loaded_of}
 use Rattle.acredact.specs.Named.{all_named}
 use Rattle.acredact.specs.Pseudonyms.{pseudonym_rule}
 use Rattle.acredact.specs.Tables.{Secret, secrets_of}
-use Rattle.acredact.specs.declared.options.Word.TheVariants.{Forms}
-use Rattle.acredact.specs.declared.patterns.Rule.{Rule}
 use Rattle.acredact.proofs.Naming.{named_by, unnamed}
 use Rattle.acredact.proofs.secrets.with_key.Goals as goal
 

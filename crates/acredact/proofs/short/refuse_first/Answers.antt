@@ -1,8 +1,6 @@
 -- The next is, or is not.
+use Rattle.acredact.proofs.Common.{All-nil, common_steps, nil_from_length}
 use Rattle.std.proofs.Common.{rules, arith, ◌≡◌, ◌≤◌, ◌+◌, [], ◌∷◌, ◌++◌, length, length-append, drop, get_or, false, refl, sym, ap, subst, ◌∙◌, append-nil}
-use Rattle.std.proofs.lemmas.List.Elements.{All-nil}
-use Rattle.std.proofs.lemmas.Grind.{common_steps}
-use Rattle.std.proofs.lemmas.List.{nil_from_length}
 use Rattle.acredact.specs.Short.{AreLong, is_formless}
 use Rattle.acredact.specs.Tables.{secret_of, secrets_of}
 use Rattle.acredact.specs.declared.failure.Failure.TheVariants.{Short}

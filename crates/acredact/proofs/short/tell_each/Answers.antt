@@ -1,9 +1,6 @@
 -- Of one more it is told.
+use Rattle.acredact.proofs.Common.{TellsBytes, concat, nil_from_length, tells-later, tells-nothing}
 use Rattle.std.proofs.Common.{rules, ◌≡◌, ◌≤◌, [], ◌++◌, length, refl, sym, ap, subst, ◌∙◌, append-nil, arith, ◌+◌}
-use Rattle.std.specs.List.{concat}
-use Rattle.std.proofs.lemmas.List.{nil_from_length}
-use Rattle.tool_parts.specs.Telling.{TellsBytes}
-use Rattle.tool_parts.proofs.Tellings.{tells-later, tells-nothing}
 use Rattle.acredact.specs.Short.{lines_of_short, short_lines}
 use Rattle.acredact.specs.Tables.{secrets_of}
 use Rattle.acredact.proofs.Doubting.{told_next}

@@ -1,6 +1,6 @@
 -- One count more.
+use Rattle.acredact.proofs.Common.{common_steps}
 use Rattle.std.proofs.Common.{rules, ◌≡◌, ◌≤◌, get_or, length, refl, arith}
-use Rattle.std.proofs.lemmas.Grind.{common_steps}
 use Rattle.acredact.specs.Sums.{HaveGrown, counts_for, share}
 use Rattle.acredact.specs.Tables.{secret_of, secrets_of}
 use Rattle.acredact.proofs.Summing.{grown_nothing, grown_then, sum_next, sum_none, sum_past}

@@ -1,6 +1,6 @@
 -- All bytes before what is left can stand in a name.
+use Rattle.acredact.proofs.Common.{list_all}
 use Rattle.std.proofs.Common.{◌≡◌, length}
-use Rattle.std.specs.List.{list_all}
 use Rattle.aho_cover.specs.Words.{is_word_part}
 use Rattle.acredact.proofs.values.are_name_bytes.Given as goal
 

@@ -1,7 +1,7 @@
 -- A line without a fault is passed, and the first with one is told.
+use Rattle.acredact.proofs.Common.{slice_split}
 use Rattle.std.proofs.Common.{rules, ◌≡◌, ◌≤◌, ℕ, ◌+◌, ◌-◌, ◌^◌, Option, length, sym, ap, ◌∙◌, arith}
 use Rattle.std.specs.Prelude.{Some, None, min, nat_eq}
-use Rattle.std.specs.List.{slice_split}
 use Rattle.acredact.specs.Tables.{stripped_by}
 use Rattle.acredact.specs.Values.{bad_or, fault_of_line, first_fault}
 use Rattle.acredact.specs.declared.patterns.LineFault.{LineFault}

@@ -1,8 +1,7 @@
 -- No line before what is left is wrong.
+use Rattle.acredact.proofs.Common.{slice_split, strip_last}
 use Rattle.std.proofs.Common.{◌≡◌, length}
 use Rattle.std.specs.Prelude.{nat_eq}
-use Rattle.std.specs.Io.BufRead.{strip_last}
-use Rattle.std.specs.List.{slice_split}
 use Rattle.acredact.specs.Values.{first_fault}
 use Rattle.acredact.proofs.values.first_fault.Given as goal
 

@@ -1,7 +1,7 @@
 -- No value before what is left is empty.
+use Rattle.acredact.proofs.Common.{pieces_of}
 use Rattle.std.proofs.Common.{◌≡◌, length}
 use Rattle.std.specs.List.{list_any}
-use Rattle.aho_core.specs.Replacement.{pieces_of}
 use Rattle.acredact.specs.Values.{no_bytes}
 use Rattle.acredact.proofs.values.has_empty.Given as goal
 

@@ -1,8 +1,7 @@
 -- The value of one line more is added, and at the end that of the last.
+use Rattle.acredact.proofs.Common.{filter_map, pieces_of, slice_split}
 use Rattle.std.proofs.Common.{rules, ◌≡◌, ◌≤◌, ℕ, List, [], ◌++◌, length, sym, ap, ◌∙◌, append-nil}
 use Rattle.std.specs.Prelude.{nat_eq}
-use Rattle.std.specs.List.{filter_map, slice_split}
-use Rattle.aho_core.specs.Replacement.{pieces_of}
 use Rattle.acredact.specs.Tables.{stripped_by}
 use Rattle.acredact.specs.Values.{lent, value_in_line, values_with}
 use Rattle.acredact.proofs.Lines.{line_at, line_end, lines_of_some}

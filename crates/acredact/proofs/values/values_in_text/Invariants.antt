@@ -1,9 +1,7 @@
 -- What is left gives the other values.
+use Rattle.acredact.proofs.Common.{filter_map, pieces_of, slice_split, strip_last}
 use Rattle.std.proofs.Common.{◌≡◌, ◌++◌, length}
 use Rattle.std.specs.Prelude.{nat_eq}
-use Rattle.std.specs.Io.BufRead.{strip_last}
-use Rattle.std.specs.List.{filter_map, slice_split}
-use Rattle.aho_core.specs.Replacement.{pieces_of}
 use Rattle.acredact.specs.Tables.{stripped_by}
 use Rattle.acredact.specs.Values.{value_in_line}
 use Rattle.acredact.proofs.values.values_in_text.Given as goal

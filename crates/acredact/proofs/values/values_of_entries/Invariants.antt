@@ -1,7 +1,6 @@
 -- What is left gives the other values.
+use Rattle.acredact.proofs.Common.{filter_map, pieces_of}
 use Rattle.std.proofs.Common.{◌≡◌, ◌++◌, length}
-use Rattle.std.specs.List.{filter_map}
-use Rattle.aho_core.specs.Replacement.{pieces_of}
 use Rattle.acredact.specs.Reads.{bytes_of_names}
 use Rattle.acredact.specs.Values.{value_of_entry}
 use Rattle.acredact.proofs.values.values_of_entries.Given as goal

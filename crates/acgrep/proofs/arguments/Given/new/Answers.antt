@@ -1,11 +1,9 @@
 -- No option, no pattern, no operand and no rule is there.
+use Rattle.acgrep.proofs.Common.{Flags, Piece, Source}
 use Rattle.std.proofs.Common.{◌∙◌, ◌≡◌, Bor, List, [], ap, codes, ℕ}
 use Rattle.std.specs.Prelude.{map}
 use Rattle.acgrep.specs.Arguments.{Said, no_flags, nothing_said, origin_of}
 use Rattle.acgrep.specs.Rules.{rules_said}
-use Rattle.acgrep.specs.declared.arguments.Source.{Source}
-use Rattle.acgrep.specs.declared.format.Piece.{Piece}
-use Rattle.acgrep.specs.declared.options.Flags.{Flags}
 use Rattle.acgrep.specs.declared.rules.Rule.{Rule}
 use Rattle.acgrep.proofs.arguments.Given.new.Goals as goal
 

@@ -1,8 +1,8 @@
 -- What came stands behind the bytes that were held.
+use Rattle.acgrep.proofs.Common.{Consumes, IsAtEnd, length-drop, length-take-le}
 use Rattle.std.proofs.Common.{◌++◌, ◌+◌, ◌-◌, ◌<◌, ◌∙◌, ◌≡◌, ◌≤◌, List, Option, ap, append_assoc, arith, drop, length, sym, take, ℕ}
 use Rattle.std.proofs.Math.Seq.{take-append-add}
-use Rattle.std.proofs.lemmas.List.{length-drop, length-take-le, take-append-le, take-take}
-use Rattle.std.specs.Io.KnownBytes.{Consumes, IsAtEnd}
+use Rattle.std.proofs.lemmas.List.{take-append-le, take-take}
 use Rattle.acgrep.specs.Filled.{FillsBehind}
 use Rattle.acgrep.proofs.buffer.Buffer.fill.Goals as goal
 

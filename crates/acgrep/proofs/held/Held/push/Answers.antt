@@ -1,7 +1,7 @@
 -- One line more is held.
+use Rattle.acgrep.proofs.Common.{length-drop, sum}
 use Rattle.std.proofs.Common.{◌++◌, ◌+◌, ◌∙◌, ◌∷◌, ◌≡◌, ◌≤◌, List, [], ap, arith, drop, length, ℕ}
-use Rattle.std.proofs.lemmas.List.{drop-append-le, length-drop}
-use Rattle.std.specs.List.{sum}
+use Rattle.std.proofs.lemmas.List.{drop-append-le}
 use Rattle.acgrep.specs.Filled.{cut_by, held_bytes}
 use Rattle.acgrep.proofs.HeldLines.{cut_more}
 use Rattle.acgrep.proofs.held.Held.push.Goals as goal

@@ -1,6 +1,6 @@
 -- A newline ends what follows the last one.
+use Rattle.acgrep.proofs.Common.{Nowhere}
 use Rattle.std.proofs.Common.{◌<◌, ◌∙◌, ◌≡◌, List, ap, arith, length, subst, ℕ}
-use Rattle.memchr.specs.Find.{Nowhere}
 use Rattle.acgrep.specs.Lines.{IsEnding, lines}
 use Rattle.acgrep.proofs.WordLists.{lines_ended}
 use Rattle.acgrep.proofs.patterns.Keys.end_file.Goals as goal

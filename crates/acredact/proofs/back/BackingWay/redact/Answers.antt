@@ -1,7 +1,6 @@
 -- The replacement is that of the patterns of both, and why it ends early is told.
+use Rattle.acredact.proofs.Common.{IfErr-weaker, Patterns}
 use Rattle.std.proofs.Common.{rules, ◌≡◌, length, false, refl}
-use Rattle.std.proofs.lemmas.Result.{IfErr-weaker}
-use Rattle.aho_core.specs.Patterns.{Patterns}
 use Rattle.aho_backward.specs.Searcher.{IsBackwardOf}
 use Rattle.acredact.specs.Secrets.{redactor_by}
 use Rattle.acredact.proofs.Bounded.{ungrown}

@@ -1,8 +1,6 @@
 -- Where case is not ignored bytes are taken as they stand.
+use Rattle.acredact.proofs.Common.{Holds256, folded_by, map-append}
 use Rattle.std.proofs.Common.{◌≡◌, ℕ, List, [], ◌∷◌, ◌++◌, Bool, false, refl, sym, ap, ◌∙◌, subst, append_assoc}
-use Rattle.std.proofs.lemmas.List.{map-append}
-use Rattle.aho_core.specs.Bytes.{folded_by}
-use Rattle.sha2.specs.Hashers.{Holds256}
 use Rattle.acredact.specs.Pseudonyms.{as_compared}
 use Rattle.acredact.proofs.pseudonym.PseudonymsPieces.feed.Goals as goal
 

@@ -1,10 +1,8 @@
 -- What makes pseudonyms does so by the same key.
+use Rattle.acredact.proofs.Common.{PieceRule, Pseudonyms, fixed_rule, pieces_of}
 use Rattle.std.proofs.Common.{sym, ap, ◌∙◌}
 use Rattle.std.specs.Prelude.{Option, Some, option_map}
-use Rattle.aho_core.specs.Replacement.{pieces_of}
-use Rattle.aho_cover.specs.Pieces.{PieceRule, fixed_rule}
 use Rattle.acredact.specs.Pseudonyms.{pseudonym_by}
-use Rattle.acredact.specs.declared.pseudonym.Pseudonyms.{Pseudonyms}
 use Rattle.acredact.specs.RunPieces.{mixed_rule}
 use Rattle.acredact.proofs.run_pieces.RunPiecesPieces.end.Goals as goal
 

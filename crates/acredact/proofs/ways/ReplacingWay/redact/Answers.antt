@@ -1,6 +1,6 @@
 -- What is written is the redaction by the automaton's patterns, and why it ends early is told.
+use Rattle.acredact.proofs.Common.{Patterns}
 use Rattle.std.proofs.Common.{rules, ◌≡◌, length, false, refl}
-use Rattle.aho_core.specs.Patterns.{Patterns}
 use Rattle.acredact.specs.Secrets.{redactor_by}
 use Rattle.acredact.proofs.Bounded.{ungrown}
 use Rattle.acredact.proofs.Redactions.{never_refused, outcome_plain, some_of, uncounted}
