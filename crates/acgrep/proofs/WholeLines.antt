@@ -2,7 +2,7 @@
 use Rattle.acgrep.proofs.Common.{IsAnswer, IsBefore, LeftmostLongest, MatchKind, Occurrence, OccursIn, Patterns, and_from, and_parts, cases_Bool, eq-eqb, plain_search, true≢false}
 use Rattle.std.proofs.Common.{◌==◌, ◌∙◌, ◌≡◌, List, None, Some, ap, arith, eqb-true, false, inl, inr, length, subst, sym, true, ℕ}
 use Rattle.std.specs.Prelude.{◌&&◌, ◌⊎◌, Bool, if◌then◌else◌}
-use Rattle.acgrep.specs.Alone.{IsWholeLine, IsWholeOrNone, whole_of}
+use Rattle.acgrep.specs.Alone.{IsWholeLine, IsWholeOrNone, whole_match}
 
 module _ (p : Patterns) (line : List ℕ) (m : Occurrence) (kind : p.kind ≡ LeftmostLongest) (best : IsAnswer p (plain_search line) (Some m)) where
   -- what is the whole line begins where the best begins, and ends where it ends
@@ -21,7 +21,7 @@ module _ (p : Patterns) (line : List ℕ) (m : Occurrence) (kind : p.kind ≡ Le
       ]
 
   -- so it is that, or there is none
-  pub best_whole : IsWholeOrNone p line (whole_of (length line) m)
+  pub best_whole : IsWholeOrNone p line (whole_match (length line) m)
   best_whole =
       elim (cases_Bool ((m.start == 0) && (m.end == length line))) [
         | inl is ↦

@@ -51,8 +51,8 @@ abbrev pub IsWholeOrNone : Patterns → List ℕ → Option Occurrence → Type 
 IsWholeOrNone p line found = IsBestOrNone LeftmostLongest (IsWholeLine p line) found
 
 -- a match, where it is all of so many bytes
-abbrev pub whole_of : (len : ℕ) → Occurrence → Option Occurrence
-whole_of len m = if (m.start == 0) && (m.end == len) then Some m else None
+abbrev pub whole_match : (len : ℕ) → Occurrence → Option Occurrence
+whole_match len m = if (m.start == 0) && (m.end == len) then Some m else None
 
 -- the matches of a line that are written: those that iteration finds; or, where that is asked for, those that stand alone, or the one
 -- that is the line

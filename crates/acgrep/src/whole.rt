@@ -4,7 +4,7 @@ ghost use Rattle.std.specs.Prelude.{◌≡◌, IfOk, length};
 ghost use Rattle.aho_core.specs.Patterns.{Patterns};
 ghost use Rattle.aho_core.specs.declared.search.MatchKind.TheVariants.{LeftmostLongest};
 ghost use Rattle.chromesquid.specs.Searcher.{IsBuiltFrom, IsBuiltFromSome};
-ghost use Rattle.acgrep.specs.Alone.{IsWholeOrNone, whole_of};
+ghost use Rattle.acgrep.specs.Alone.{IsWholeOrNone, whole_match};
 ghost use Rattle.acgrep.specs.Written.{IsMatched};
 ghost use Rattle.acgrep.specs.declared.options.Fit.TheVariants.{WholeLine};
 
@@ -42,14 +42,14 @@ fn longest_whole(searcher: &AhoCorasick, line: &[u8]) -> Result<Option<Match>, S
         → IfOk result (IsWholeOrNone p line.now) }
 {
     match searcher.try_find(line)? {
-        Some(found) => Ok(whole_of(line, found)),
+        Some(found) => Ok(whole_match(line, found)),
         None => Ok(None),
     }
 }
 
 /// A match, where it is the whole line.
-fn whole_of(line: &[u8], found: Match) -> Option<Match>
-    ensures whole { result ≡ whole_of (length line.now) found }
+fn whole_match(line: &[u8], found: Match) -> Option<Match>
+    ensures whole { result ≡ whole_match (length line.now) found }
 {
     if found.start() == 0 && found.end() == line.len() {
         return Some(found);

@@ -10,7 +10,7 @@ returns-in-Some c = record {
   whole = λ p is kind.
       let line = c.args.line.now in
       let best : IsAnswer p (plain_search line) (Some c.in-Some.found) = subst (IsAnswer p (plain_search line)) c.in-Some.is (c.in_ok-found.ensures.found p is) in
-      subst (IsWholeOrNone p line) (sym c.whole_of.ensures.whole) (best_whole p line c.in-Some.found kind best);
+      subst (IsWholeOrNone p line) (sym c.whole_match.ensures.whole) (best_whole p line c.in-Some.found kind best);
 }
 
 pub returns-in-None : goal.returns-in-None
