@@ -4,7 +4,7 @@ use Rattle.std.proofs.Common.{◌++◌, ◌-◌, ◌<◌, ◌==◌, ◌∙◌, �
 use Rattle.std.proofs.KnownBytes.{starts_with_rest}
 use Rattle.std.specs.Prelude.{IfSome}
 use Rattle.acgrep.specs.Lines.{EndsLine, IsEnding, joined_to, lines}
-use Rattle.acgrep.specs.Gathered.{Adds}
+use Rattle.acgrep.specs.Gathered.{AddsGiven}
 use Rattle.acgrep.specs.Loading.{AddsText}
 use Rattle.acgrep.specs.Runs.{AreOf}
 use Rattle.acgrep.proofs.FirstLines.{lines_joined}
@@ -58,7 +58,7 @@ module _ (holds : List ℕ → Option (List ℕ)) where
 
   -- the text of a file adds its lines
   pub file_words : (name : List ℕ) (left left' : Option (List ℕ)) (old between new : List ℕ) → EndsLine 10 old → AddsText holds name left left' old between → lines 10 new ≡ lines 10 between
-      → Adds (AreOf holds (record { is_file = true; bytes = name }) left left') (lines 10 old) (lines 10 new)
+      → AddsGiven (AreOf holds (record { is_file = true; bytes = name }) left left') (lines 10 old) (lines 10 new)
   file_words name left left' old between new ends added same = record {
     more = lines 10 added.text;
     grown = same ∙ ap (lines 10) added.grown ∙ lines_append 10 old added.text ends;
@@ -67,7 +67,7 @@ module _ (holds : List ℕ → Option (List ℕ)) where
 
   -- a text adds its lines
   pub text_words : (text old new : List ℕ) (left : Option (List ℕ)) → EndsLine 10 old → new ≡ old ++ (text ++ codes "\n")
-      → Adds (AreOf holds (record { is_file = false; bytes = text }) left left) (lines 10 old) (lines 10 new)
+      → AddsGiven (AreOf holds (record { is_file = false; bytes = text }) left left) (lines 10 old) (lines 10 new)
   text_words text old new left ends added = record {
     more = lines 10 (text ++ codes "\n");
     grown = ap (lines 10) added ∙ lines_append 10 old (text ++ codes "\n") ends;

@@ -9,7 +9,7 @@ module _ {A B : Type 0} (Gives : A → (left left' : Option (List ℕ)) → List
       × (all ≡ first ++ rest) × Gives one left between first × AllGive others between left' rest
 
 -- what one gives is added to what others gave
-pub record Adds {B : Type 0} (Gives : List B → Type 0) (old new : List B) : Type 0 where
+pub record AddsGiven {B : Type 0} (Gives : List B → Type 0) (old new : List B) : Type 0 where
   pub more : List B
   pub grown : new ≡ old ++ more
   pub of : Gives more

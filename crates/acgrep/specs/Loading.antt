@@ -2,7 +2,7 @@
 use Rattle.acgrep.specs.Common.{Readers}
 use Rattle.std.specs.Prelude.{◌++◌, ◌∷◌, ◌≡◌, List, MatchBool, Option, Vec, [], true, ℕ}
 use Rattle.acgrep.specs.Arguments.{Origin}
-use Rattle.acgrep.specs.Gathered.{Adds, AllGive}
+use Rattle.acgrep.specs.Gathered.{AddsGiven, AllGive}
 use Rattle.acgrep.specs.Lines.{lines}
 use Rattle.acgrep.specs.Listed.{listed_bytes}
 use Rattle.acgrep.specs.Rules.{RuleSaid, is_from_file, rule_said, rules_said}
@@ -43,7 +43,7 @@ module _ {F X R : Type 0} (openers : Openers F X) (readers : Readers R) (files :
   -- those of a source are added to others
   abbrev pub AddsSource : Origin → R → R → Keys → Keys → Type 0
   AddsSource source input input' old new =
-      Adds (AreOf (openers.holds files) source (readers.remaining input) (readers.remaining input')) (lines 10 old.text.items) (lines 10 new.text.items)
+      AddsGiven (AreOf (openers.holds files) source (readers.remaining input) (readers.remaining input')) (lines 10 old.text.items) (lines 10 new.text.items)
 
   -- the text of a file is added to bytes
   abbrev pub AddsFile : List ℕ → R → R → List ℕ → List ℕ → Type 0

@@ -6,7 +6,7 @@ ghost use Rattle.acgrep.specs.ToldByRules.{IsMarkTold};
 ghost use Rattle.tool_parts.specs.Names.{name_bytes};
 ghost use Rattle.secret_rules.specs.Rules.{AreSound};
 ghost use Rattle.secret_rules.specs.Tables.{TellsRules};
-ghost use Rattle.acgrep.specs.Gathered.{Adds};
+ghost use Rattle.acgrep.specs.Gathered.{AddsGiven};
 ghost use Rattle.acgrep.specs.RunsByRules.{AreAllRules, AreNamedRules, is_own};
 
 use crate::arguments::Source;
@@ -66,7 +66,7 @@ fn add_rules<F: Open, R: Read, E: Sink>(
     input: &mut R,
     errors: &mut Errors<'_, E>,
 ) -> bool
-    ensures added { result ≡ true → Adds (AreNamedRules (F.holds files.now) name.now
+    ensures added { result ≡ true → AddsGiven (AreNamedRules (F.holds files.now) name.now
         (R.remaining input.old) (R.remaining input.new)) rules.old.items rules.new.items }
     ensures silent { result ≡ true → errors.new ≡ errors.old }
     ensures told { result ≡ false → TellsSome E.Sink IsMarkTold errors.old errors.new }
@@ -99,7 +99,7 @@ fn add_text<E: Sink>(
     text: &[u8],
     errors: &mut Errors<'_, E>,
 ) -> bool
-    ensures added { result ≡ true → Adds (TellsRules text.now) rules.old.items rules.new.items }
+    ensures added { result ≡ true → AddsGiven (TellsRules text.now) rules.old.items rules.new.items }
     ensures silent { result ≡ true → errors.new ≡ errors.old }
     ensures told { result ≡ false → TellsSome E.Sink IsMarkTold errors.old errors.new }
 {
@@ -114,7 +114,7 @@ fn add_text<E: Sink>(
 
 /// Adds the rules of a text.
 fn more_rules(alloc: Global, rules: &mut Vec<Rule>, text: &[u8]) -> Result<(), TextFault>
-    ensures added { OnOk result (Adds (TellsRules text.now) rules.old.items rules.new.items) }
+    ensures added { OnOk result (AddsGiven (TellsRules text.now) rules.old.items rules.new.items) }
 {
     let more = rules_in(alloc, text, false)?;
     Ok(append_rules(rules, more)?)

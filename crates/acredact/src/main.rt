@@ -209,7 +209,7 @@ fn exit_code<F: Folder, I: Read, W: Write, E: Sink>(
         exit_status result ≡ 0 → RuledClean F.Folder folder.now given streams.old streams.new W.Write)) }
     ensures rules_matched { IfOk given (λ apart. IfRulesCheck apart.arguments.items (λ given.
         exit_status result ≡ 1 → RuledFound F.Folder folder.now given streams.old streams.new W.Write)) }
-    ensures flushed { IfOk given (λ apart. IfNoCheck apart.arguments.items (exit_status result ≡ 0
+    ensures flushed { IfOk given (λ it. IfNoCheck it.arguments.items (exit_status result ≡ 0
         → streams.new.output.device.flushed ≡ true)) }
     ensures bound { exit_status result ≤ 2 }
     ensures told { tells_nothing told ≡ false → IfOk given (λ _. exit_status result ≡ 2) }

@@ -2,7 +2,7 @@
 use Rattle.acgrep.proofs.Common.{Source}
 use Rattle.std.proofs.Common.{subst, sym}
 use Rattle.acgrep.specs.Arguments.{origin_of}
-use Rattle.acgrep.specs.Gathered.{Adds}
+use Rattle.acgrep.specs.Gathered.{AddsGiven}
 use Rattle.acgrep.specs.Lines.{lines}
 use Rattle.acgrep.specs.Runs.{AreOf}
 use Rattle.acgrep.proofs.WordLists.{text_words}
@@ -14,5 +14,5 @@ returns-in_ok-add_text-in-Text-clause-added g c =
     let left = g.R.Read.remaining c.args.input.now in
     let old = c.args.keys.now.text.items in
     let new = c.add_text.new.self.text.items in
-    subst (λ (source : Source). Adds (AreOf holds (origin_of source) left left) (lines 10 old) (lines 10 new)) (sym c.in-Text.is)
+    subst (λ (source : Source). AddsGiven (AreOf holds (origin_of source) left left) (lines 10 old) (lines 10 new)) (sym c.in-Text.is)
     (text_words holds c.in-Text.text.now old new left c.requires.whole c.in_ok-add_text-in-Text.ensures.added)
