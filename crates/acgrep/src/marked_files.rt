@@ -6,7 +6,7 @@ ghost use Rattle.tool_parts.specs.Names.{is_input};
 ghost use Rattle.tool_parts.specs.Telling.{TellsSome};
 ghost use Rattle.acgrep.specs.InTurn.{AreSeen};
 ghost use Rattle.acgrep.specs.Listed.{listed_bytes};
-ghost use Rattle.acgrep.specs.MarkedFiles.{ComesName, IfMarks, IsMarking, MarksBytes, SameMarking, mark_work};
+ghost use Rattle.acgrep.specs.MarkedFiles.{ComesOfName, IfMarks, IsMarking, MarksBytes, SameMarking, mark_work};
 ghost use Rattle.acgrep.specs.Told.{TellsIf, TellsOutcome};
 ghost use Rattle.acgrep.specs.ToldByRules.{IsMarkTold};
 
@@ -92,10 +92,9 @@ fn mark_name<A: Automaton, F: Open, R: Read, W: Sink, E: Sink>(
 ) -> Outcome
     requires ready { IsMarking A.Automaton marking.old }
     // Of standard input it is known what it has left at first, where it was not read before.
-    ensures comes { IfMarks A.Automaton marking.old.cover (λ covering. (left : Option (List ℕ))
-        → (marking.old.input_read ≡ false → R.remaining input.old ≡ left)
-        → ComesName job.now covering (F.holds files.now) left marking.old.input_read name.now
-        (W.taken output.old) (W.taken output.new) result) }
+    ensures comes { IfMarks A.Automaton marking.old.cover (λ covering.
+        ComesOfName job.now covering (F.holds files.now) (R.remaining input.old) marking.old.input_read
+        name.now (W.taken output.old) (W.taken output.new) result) }
     ensures read { marking.new.input_read ≡ (marking.old.input_read || is_input name.now) }
     ensures leaves { is_input name.now ≡ false → input.new ≡ input.old }
     ensures told { TellsOutcome E.Sink IsMarkTold job.now.hushed result errors.old errors.new }
