@@ -1,6 +1,6 @@
 -- Digits among joined letters.
 use Rattle.acgrep.proofs.Common.{Around, Refusal, common_steps}
-use Rattle.std.proofs.Common.{◌++◌, ◌<◌, ◌==◌, ◌∙◌, ◌∷◌, ◌≡◌, ◌≤◌, List, None, Option, Some, [], ap, append-nil, append_assoc, arith, drop, false, length, refl, suc, sym, take, true, zero, ℕ}
+use Rattle.std.proofs.Common.{◌++◌, ◌<◌, ◌∙◌, ◌∷◌, ◌≡◌, ◌≤◌, List, None, Option, Some, [], ap, append-nil, append_assoc, arith, drop, false, length, refl, suc, sym, take, true, zero, ℕ}
 use Rattle.std.specs.Char.{is_ascii_digit}
 use Rattle.std.specs.Prelude.{option_and_then, option_map}
 use Rattle.acgrep.specs.Arguments.{AreDigits, AreRefused, ReadSoFar, Said, letter_by, letters_by, letters_from, number_by, said_so, switch_by, switched, valued_letter, with_digits, with_number}

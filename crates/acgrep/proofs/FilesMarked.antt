@@ -1,8 +1,8 @@
 -- What is written of files whose lines rules mark.
 use Rattle.acgrep.proofs.Common.{Appends-trans, Consumes, Covering, IsAtEnd, Job, Keeps, Occurrence, Outcome, Place, Rule, Shown, SinkGhosts, StartsWith, Style, Unread, common_steps, is_input, stream_lines}
-use Rattle.std.proofs.Common.{◌++◌, ◌==◌, ◌∙◌, ◌∷◌, ◌≡◌, ◌⊎◌, Bool, List, None, Option, Some, [], ap, append-nil, arith, false, inl, inr, refl, subst, sym, true, ℕ}
+use Rattle.std.proofs.Common.{◌++◌, ◌∙◌, ◌∷◌, ◌≡◌, ◌⊎◌, Bool, List, None, Option, Some, [], ap, append-nil, arith, false, inl, inr, refl, subst, sym, true, ℕ}
 use Rattle.std.proofs.KnownBytes.{Consumes-whole}
-use Rattle.std.specs.Prelude.{◌&&◌, ◌||◌, ◌≢◌, Err, Ok, Result, if◌then◌else◌, nat_lt}
+use Rattle.std.specs.Prelude.{◌&&◌, ◌≢◌, Err, Ok, Result, if◌then◌else◌, nat_lt}
 use Rattle.aho_automaton.specs.declared.automaton.Automaton.{Ghosts as Automata}
 use Rattle.aho_cover.proofs.Copied.{begins_with}
 use Rattle.aho_devices.specs.Counts.{counted}

@@ -1,6 +1,6 @@
 -- The lines before the first that holds a zero byte, put together from reads.
 use Rattle.acgrep.proofs.Common.{Job, Keeps, Patterns, State, common_steps}
-use Rattle.std.proofs.Common.{◌++◌, ◌-◌, ◌<◌, ◌∙◌, ◌∷◌, ◌≡◌, ◌≤◌, Bool, List, Option, Some, [], arith, drop, length, refl, subst, sym, take, true, ℕ}
+use Rattle.std.proofs.Common.{◌++◌, ◌-◌, ◌<◌, ◌∷◌, ◌≡◌, ◌≤◌, Bool, List, Option, Some, [], arith, drop, length, refl, subst, sym, take, true, ℕ}
 use Rattle.acgrep.specs.Binary.{is_text}
 use Rattle.acgrep.specs.Contexts.{SearchesText}
 use Rattle.acgrep.specs.Filled.{FillsBehind}

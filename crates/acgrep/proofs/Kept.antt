@@ -1,6 +1,6 @@
 -- What was done is as it was where the output keeps its bytes.
 use Rattle.acgrep.proofs.Common.{Job, Keeps, Patterns}
-use Rattle.std.proofs.Common.{◌∙◌, ◌≡◌, ◌⊎◌, List, Option, Some, false, inl, inr, subst, ℕ}
+use Rattle.std.proofs.Common.{◌≡◌, ◌⊎◌, List, Option, Some, false, inl, inr, subst, ℕ}
 use Rattle.std.proofs.KnownBytes.{Keeps-trans}
 use Rattle.tool_parts.specs.Building.{patterns_by_kind}
 use Rattle.acgrep.specs.Arguments.{Origin, Said}

@@ -1,6 +1,6 @@
 -- A search that is written, or whose matches are counted.
 use Rattle.acgrep.proofs.Common.{Appends-nil, AppendsBeginning, Errors, Flags, Keeps, Keeps-refl, Shown, SinkGhosts, TellsSome}
-use Rattle.std.proofs.Common.{◌++◌, ◌<◌, ◌∙◌, ◌≡◌, ◌⊎◌, Bool, List, Option, Some, [], arith, inl, inr, subst, sym, ℕ}
+use Rattle.std.proofs.Common.{◌<◌, ◌≡◌, ◌⊎◌, Bool, List, Option, Some, [], arith, inl, inr, subst, sym, ℕ}
 use Rattle.std.proofs.KnownBytes.{Appends-kept}
 use Rattle.tool_parts.proofs.Beginnings.{beginning-kept}
 use Rattle.acgrep.specs.Arguments.{asks_counts}

@@ -1,7 +1,7 @@
 -- What may be told of the files that operands name.
 use Rattle.acgrep.proofs.Common.{Errors, Flags, IsOneOf, Nothing, SinkGhosts, Tells, TellsSome, cases_Bool, common_steps, or_input, some-tells, some-then, some-weaker}
-use Rattle.std.proofs.Common.{◌++◌, ◌<◌, ◌==◌, ◌∷◌, ◌≡◌, ◌≤◌, Bool, List, [], ap, arith, false, inl, inr, length, refl, subst, sym, true, ℕ}
-use Rattle.std.specs.Prelude.{◌&&◌, if◌then◌else◌}
+use Rattle.std.proofs.Common.{◌++◌, ◌<◌, ◌∷◌, ◌≡◌, ◌≤◌, Bool, List, [], ap, arith, false, inl, inr, length, refl, subst, sym, true, ℕ}
+use Rattle.std.specs.Prelude.{if◌then◌else◌}
 use Rattle.tool_parts.proofs.Lines.{tells-none, tells-then, tells-weaker, then-some}
 use Rattle.acgrep.specs.Arguments.{Origin, Said, shown_by}
 use Rattle.acgrep.specs.Folders.{Tree}

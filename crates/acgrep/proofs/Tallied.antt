@@ -1,7 +1,7 @@
 -- Lines that are counted, some after others, and what is told of their counts.
 use Rattle.acgrep.proofs.Common.{common_steps, length-map}
 use Rattle.std.proofs.Common.{◌++◌, ◌+◌, ◌-◌, ◌<◌, ◌^◌, ◌∙◌, ◌∷◌, ◌≡◌, List, [], ap, append-nil, append_assoc, arith, length, min, refl, subst, suc, sym, ℕ}
-use Rattle.std.specs.Prelude.{if◌then◌else◌, slice_index}
+use Rattle.std.specs.Prelude.{slice_index}
 use Rattle.acgrep.specs.Lines.{lines}
 use Rattle.acgrep.specs.Tallies.{CountsLines, count_of, counts_table, rows_counted, rows_from, zeros_of}
 

@@ -1,6 +1,6 @@
 -- What is told of lines, put together from parts.
 use Rattle.acgrep.proofs.Common.{Appends, Appends-nil, Appends-trans, Fit, Job, Lines, Matches, Objects, Occurrence, Patterns, Place, Shown, State, Style, and_parts, cases_Bool, cases_lt, common_steps, drop-drop, length-drop, ltb-true, true≢false}
-use Rattle.std.proofs.Common.{◌%◌, ◌++◌, ◌+◌, ◌-◌, ◌<◌, ◌==◌, ◌^◌, ◌∙◌, ◌∷◌, ◌≡◌, ◌≤◌, Bool, List, None, Option, Some, [], ap, append-nil, append_assoc, arith, drop, false, inl, inr, length, refl, subst, sym, true, ℕ}
+use Rattle.std.proofs.Common.{◌%◌, ◌++◌, ◌+◌, ◌-◌, ◌<◌, ◌^◌, ◌∙◌, ◌∷◌, ◌≡◌, ◌≤◌, Bool, List, None, Option, Some, [], ap, append-nil, append_assoc, arith, drop, false, inl, inr, length, refl, subst, sym, true, ℕ}
 use Rattle.std.proofs.lemmas.List.{drop_all}
 use Rattle.std.specs.Prelude.{◌&&◌, MatchBool, if◌then◌else◌, nat_le, nat_lt, not}
 use Rattle.acgrep.specs.Lines.{EndsLine, lines}

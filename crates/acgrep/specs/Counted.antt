@@ -11,7 +11,8 @@ use Rattle.acgrep.specs.declared.folders.Folders.{Ghosts as FolderGhosts}
 use Rattle.acgrep.specs.declared.open.Open.{Ghosts as Openers}
 
 -- files are opened and folders listed by one value, standard input is read from another, and a third is written to
-module _ {F X R W : Type 0} (openers : Openers F X) (folders : FolderGhosts F) (readers : Readers R) (sinks : SinkGhosts W) (files : F) (names : List (Bor (List ℕ))) (searcher : Searcher) (screen : Screen) (given : Said) (patterns : List (Bor (List ℕ))) where
+module _ {F X R W : Type 0} (openers : Openers F X) (folders : FolderGhosts F) (readers : Readers R) (sinks : SinkGhosts W) (files : F) (names : List (Bor (List ℕ)))
+    (searcher : Searcher) (screen : Screen) (given : Said) (patterns : List (Bor (List ℕ))) where
   -- the matches in the files that these operands name are counted, whatever patterns the searcher was built from
   abbrev pub CountsOperands : R → R → W → W → ℕ → Type 0
   CountsOperands input input' output output' status =

@@ -1,6 +1,6 @@
 -- What searching does, whatever patterns the searcher was built from.
 use Rattle.acgrep.specs.Common.{Appends, Bor, IsBuiltFrom, Patterns, Readers, Searcher, SinkGhosts, Writers}
-use Rattle.std.specs.Prelude.{◌∷◌, ◌≡◌, Bool, IfOk, List, OnErr, OnOk, Option, Result, [], ℕ}
+use Rattle.std.specs.Prelude.{◌∷◌, Bool, IfOk, List, OnErr, OnOk, Option, Result, [], ℕ}
 use Rattle.acgrep.specs.Contexts.{BeginsLines, BeginsSearched, IsChosenBy, SearchesText, ShowsEach, ShowsGroup, WalksBegun, WalksLines, WalksText, walk_of}
 use Rattle.acgrep.specs.Files.{BeginsFile, SearchesReader}
 use Rattle.acgrep.specs.Filled.{bytes_buffered}

@@ -135,7 +135,8 @@ abbrev pub TellsOfLines : Patterns → Job → Place → ℕ → List (List ℕ)
 TellsOfLines p job place count [] bytes total = (bytes ≡ []) × (total ≡ count)
 TellsOfLines p job place count (line ∷ rest) bytes total =
     ((is_full job.most count ≡ true) × (bytes ≡ []) × (total ≡ count))
-    ⊎ ((is_full job.most count ≡ false) × ((IsSelected p job.fit job.invert line × ((shown : List ℕ) × (more : List ℕ) × ShowsLine p job place line shown × TellsOfLines p job (after_line place line) (one_more count) rest more total × (bytes ≡ shown ++ more)))
+    ⊎ ((is_full job.most count ≡ false) × ((IsSelected p job.fit job.invert line × ((shown : List ℕ) × (more : List ℕ)
+    × ShowsLine p job place line shown × TellsOfLines p job (after_line place line) (one_more count) rest more total × (bytes ≡ shown ++ more)))
     ⊎ (IsPassedOver p job.fit job.invert line × TellsOfLines p job (after_line place line) count rest bytes total)))
 
 -- what is asked of a selected line is written, or nothing where so many are selected before it

@@ -140,7 +140,8 @@ items_at_end Name items = Some items
 -- one argument after another
 abbrev pub given_from : Expects → List (List ℕ) → List Given → Option (List Given)
 given_from expects [] items = items_at_end expects items
-given_from expects (argument ∷ rest) items = option_and_then (λ read. given_from read.next rest read.items) (by_argument expects argument items)
+given_from expects (argument ∷ rest) items =
+    option_and_then (λ read. given_from read.next rest read.items) (by_argument expects argument items)
 
 -- all options and files, in order; none where an argument is wrong, or a value is missing at the end
 abbrev pub given_by : List (List ℕ) → Option (List Given)

@@ -51,7 +51,8 @@ module _ (holds : List ℕ → Option (List ℕ)) where
   abbrev pub ReadInAll : List (List ℕ) → ℕ → (left left' : Option (List ℕ)) → Type 0
   ReadInAll [] size left left' = (size ≡ 0) × (left' ≡ left)
   ReadInAll (name ∷ names) size left left' =
-      (first : ℕ) × (rest : ℕ) × (size ≡ first + rest) × (between : Option (List ℕ)) × ReadsSome name first left between × ReadInAll names rest between left'
+      (first : ℕ) × (rest : ℕ) × (size ≡ first + rest) × (between : Option (List ℕ))
+      × ReadsSome name first left between × ReadInAll names rest between left'
 
   -- no number has grown by more than was read of all files, and no more files were counted than there are
   pub record NumbersOfAll (names : List (List ℕ)) (counts counts' : List ℕ) (volume volume' : Volume) (left left' : Option (List ℕ)) : Type 0 where
@@ -68,6 +69,7 @@ module _ {F X : Type 0} (D : Folders F X) (job : Job F) {R : Type 0} {Reads : Re
       NumbersOfName counts counts' volume.bytes volume'.bytes (D.holds job.folder.now) name (bytes_left input) (bytes_left input')
 
   -- and of all files of a job
-  abbrev pub JobNumbers : {W E : Type 0} → (counts counts' : List ℕ) → (volume volume' : Volume) → (streams streams' : Streams R W E Reads) → Type 0
+  abbrev pub JobNumbers : {W E : Type 0} → (counts counts' : List ℕ)
+      → (volume volume' : Volume) → (streams streams' : Streams R W E Reads) → Type 0
   JobNumbers counts counts' volume volume' streams streams' =
       NumbersOfAll (D.holds job.folder.now) (name_bytes job.names.now) counts counts' volume volume' (bytes_left streams.input) (bytes_left streams'.input)

@@ -179,7 +179,8 @@ MayFail call fails failure =
 
 -- the line that tells why a file was not read to its end, or that the output goes to it
 abbrev pub IsUnreadLine : List (List ℕ) → List ℕ → Type 0
-IsUnreadLine names line = (name : List ℕ) × IsOneOf name names × (((reason : Reason) × (line ≡ unread_line name reason)) ⊎ (line ≡ output_line name))
+IsUnreadLine names line =
+    (name : List ℕ) × IsOneOf name names × (((reason : Reason) × (line ≡ unread_line name reason)) ⊎ (line ≡ output_line name))
 
 -- what is told of files, by whether all were read to their ends, where that is answered
 abbrev pub TellsOfFiles : {E X : Type 0} → SinkGhosts E → List (List ℕ) → Result Bool X → (errors errors' : Errors E) → Type 0
@@ -254,8 +255,10 @@ pub record TellsCounts {E : Type 0} (K : SinkGhosts E) (given : List Given) (rul
   pub whole : errors'.failed ≡ false
 
 -- they are, or nothing is
-abbrev pub TellsAnyCounts : {E : Type 0} → SinkGhosts E → List Given → List Rule → (counts : List ℕ) → Volume → (errors errors' : Errors E) → Type 0
-TellsAnyCounts K given rules counts volume errors errors' = MatchBool (counts_asked given) (TellsCounts K given rules counts volume errors errors') (errors' ≡ errors)
+abbrev pub TellsAnyCounts : {E : Type 0} → SinkGhosts E → List Given → List Rule
+    → (counts : List ℕ) → Volume → (errors errors' : Errors E) → Type 0
+TellsAnyCounts K given rules counts volume errors errors' =
+    MatchBool (counts_asked given) (TellsCounts K given rules counts volume errors errors') (errors' ≡ errors)
 
 -- it is told whole how many of these ranges have the text of each pattern in their place, and a form counts for its pattern
 pub record TellsTotals {E : Type 0} (K : SinkGhosts E) (given : List Given) (secrets : List Secret) (ranges : List Occurrence) (volume : Volume) (errors errors' : Errors E) : Type 0 where
@@ -292,7 +295,8 @@ abbrev pub TellsAnyNumbers : {E : Type 0} → SinkGhosts E → Call → (left le
 TellsAnyNumbers K call left left' errors errors' = Tells K (IsWordLine call) errors errors' ⊎ LoadsCall call left (λ load between. TellsNumbers K call load.secrets between left' errors errors')
 
 -- and then at most why the call ends early
-abbrev pub TellsUpToEnd : {E : Type 0} → SinkGhosts E → Call → (fails : Type 0) → (left left' : Option (List ℕ)) → (errors errors' : Errors E) → Type 0
+abbrev pub TellsUpToEnd : {E : Type 0} → SinkGhosts E → Call → (fails : Type 0)
+    → (left left' : Option (List ℕ)) → (errors errors' : Errors E) → Type 0
 TellsUpToEnd K call fails left left' errors errors' = (meanwhile : Errors _) × TellsAnyNumbers K call left left' errors meanwhile
     × ((errors' ≡ meanwhile) ⊎ ((failure : Failure) × MayFail call fails failure × (line : List ℕ) × IsFailureLine failure line × TellsBytes K meanwhile errors' line))
 
@@ -347,7 +351,9 @@ module _ {W : Type 0} (Writes : Writers W) where
       pub numbers : TellsAnyNumbers K call left left' errors errors'
 
 -- what holds of a call from one state of the streams to another
-abbrev pub OfCall : {R W E : Type 0} {Reads : Readers R} → (Call → (left left' : Option (List ℕ)) → (output output' : FromWrite W) → Type 0) → Call → (streams streams' : Streams R W E Reads) → Type 0
+abbrev pub OfCall : {R W E : Type 0} {Reads : Readers R}
+    → (Call → (left left' : Option (List ℕ)) → (output output' : FromWrite W) → Type 0)
+    → Call → (streams streams' : Streams R W E Reads) → Type 0
 OfCall Is call streams streams' = Is call (bytes_left streams.input) (bytes_left streams'.input) streams.output streams'.output
 
 module _ {R : Type 0} {Reads : Readers R} {W : Type 0} (Writes : Writers W) where
@@ -361,7 +367,8 @@ module _ {R : Type 0} {Reads : Readers R} {W : Type 0} (Writes : Writers W) wher
 
     -- what comes of the files of a call whose patterns were loaded and whose pieces were looked at
     pub record RestOutcome (call : Call) (load : Loaded) (result : Result Bool Failure) (streams streams' : Streams R W E Reads) : Type 0 where
-      pub redacts : result ≡ Ok true → AreRedacted (work_by call load) (names_asked call.given) (bytes_left streams.input) (bytes_left streams'.input)
+      pub redacts : result ≡ Ok true
+          → AreRedacted (work_by call load) (names_asked call.given) (bytes_left streams.input) (bytes_left streams'.input)
           (output_bytes Writes streams.output) (output_bytes Writes streams'.output)
       pub begins : (streams'.output ≡ streams.output) ⊎ ((lines : List (List ℕ)) × AreCut (work_by call load) (names_asked call.given) lines (bytes_left streams.input) (bytes_left streams'.input)
           (output_bytes Writes streams.output) (output_bytes Writes streams'.output))
@@ -371,16 +378,19 @@ module _ {R : Type 0} {Reads : Readers R} {W : Type 0} (Writes : Writers W) wher
           → TellsSome K (IsLineOf call (OutputFails streams.output streams'.output)) streams.errors streams'.errors
       pub fails : IfErr result (MayFail call (OutputFails streams.output streams'.output))
       pub told : OnErr result (Tells K (IsLineOf call (OutputFails streams.output streams'.output)) streams.errors streams'.errors)
-      pub numbers : Tells K (IsWordLine call) streams.errors streams'.errors ⊎ TellsNumbers K call load.secrets (bytes_left streams.input) (bytes_left streams'.input) streams.errors streams'.errors
+      pub numbers : Tells K (IsWordLine call) streams.errors streams'.errors
+          ⊎ TellsNumbers K call load.secrets (bytes_left streams.input) (bytes_left streams'.input) streams.errors streams'.errors
 
     -- the same of a call whose patterns and key were loaded, behind what is told of them
-    abbrev pub ReadyOutcome : {F X : Type 0} → Folders F X → F → List Given → Loaded → Result Bool Failure → (streams streams' : Streams R W E Reads) → Type 0
+    abbrev pub ReadyOutcome : {F X : Type 0} → Folders F X → F → List Given → Loaded
+        → Result Bool Failure → (streams streams' : Streams R W E Reads) → Type 0
     ReadyOutcome D folder given load result streams streams' = (left : Option (List ℕ))
         → AreLoaded (reading_by (call_of D folder given)) given load left (bytes_left streams.input)
         → RestOutcome (call_of D folder given) load result streams streams'
 
     -- and of a call whose patterns are to be loaded
-    abbrev pub AskedOutcome : {F X : Type 0} → Folders F X → F → List Given → Result Bool Failure → (streams streams' : Streams R W E Reads) → Type 0
+    abbrev pub AskedOutcome : {F X : Type 0} → Folders F X → F → List Given
+        → Result Bool Failure → (streams streams' : Streams R W E Reads) → Type 0
     AskedOutcome D folder given result streams streams' =
         CallOutcome Writes K (call_of D folder given) (bytes_left streams.input) (bytes_left streams'.input) result streams.output streams'.output streams.errors streams'.errors
 
@@ -402,19 +412,24 @@ module _ {R : Type 0} {Reads : Readers R} {W : Type 0} (Writes : Writers W) wher
     BeginsAsked = OfCall (BeginsCall Writes) (call_of D folder given) streams streams'
 
   -- and counted
-  abbrev pub CountsAsked : {E F X : Type 0} → SinkGhosts E → Folders F X → F → List Given → (streams streams' : Streams R W E Reads) → Type 0
+  abbrev pub CountsAsked : {E F X : Type 0} → SinkGhosts E → Folders F X
+      → F → List Given → (streams streams' : Streams R W E Reads) → Type 0
   CountsAsked K D folder given streams streams' = OfCall (λ call left left' output output'. CountsCall Writes K call left left' output output' streams.errors streams'.errors) (call_of D folder given) streams streams'
 
 -- one line or more of a call that asks for this is told
-abbrev pub TellsAsked : {R W E F X : Type 0} {Reads : Readers R} → SinkGhosts E → Folders F X → F → List Given → (streams streams' : Streams R W E Reads) → Type 0
+abbrev pub TellsAsked : {R W E F X : Type 0} {Reads : Readers R} → SinkGhosts E
+    → Folders F X → F → List Given → (streams streams' : Streams R W E Reads) → Type 0
 TellsAsked K D folder given streams streams' =
     TellsSome K (IsLineOf (call_of D folder given) (OutputFails streams.output streams'.output)) streams.errors streams'.errors
 
 -- the pieces of a call that asks for this are told, where they are not clean
-abbrev pub WarnsAsked : {R W E F X : Type 0} {Reads : Readers R} → SinkGhosts E → Folders F X → F → List Given → (streams streams' : Streams R W E Reads) → Type 0
-WarnsAsked K D folder given streams streams' = WarnsCall K (call_of D folder given) (bytes_left streams.input) streams.errors streams'.errors
+abbrev pub WarnsAsked : {R W E F X : Type 0} {Reads : Readers R} → SinkGhosts E
+    → Folders F X → F → List Given → (streams streams' : Streams R W E Reads) → Type 0
+WarnsAsked K D folder given streams streams' =
+    WarnsCall K (call_of D folder given) (bytes_left streams.input) streams.errors streams'.errors
 
 -- numbers that a call that asks for this tells are no greater than what was read
-abbrev pub NumbersToldAsked : {R W E F X : Type 0} {Reads : Readers R} → SinkGhosts E → Folders F X → F → List Given → (streams streams' : Streams R W E Reads) → Type 0
+abbrev pub NumbersToldAsked : {R W E F X : Type 0} {Reads : Readers R} → SinkGhosts E
+    → Folders F X → F → List Given → (streams streams' : Streams R W E Reads) → Type 0
 NumbersToldAsked K D folder given streams streams' =
     TellsUpToEnd K (call_of D folder given) (OutputFails streams.output streams'.output) (bytes_left streams.input) (bytes_left streams'.input) streams.errors streams'.errors

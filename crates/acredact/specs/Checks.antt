@@ -43,7 +43,8 @@ quest_by call secrets = record {
 
 -- the file of this name was found to be this: what may be told of one is that a read fails, or that the folder refuses it
 abbrev pub IsLookOf : Quest → List ℕ → Look → (left left' : Option (List ℕ)) → Type 0
-IsLookOf quest name look left left' = OfName quest.holds name (IsLook quest.redactor (λ reason. IsReadReason reason ⊎ quest.refuses name reason) look) left left'
+IsLookOf quest name look left left' =
+    OfName quest.holds name (IsLook quest.redactor (λ reason. IsReadReason reason ⊎ quest.refuses name reason) look) left left'
 
 -- what is told of it
 abbrev pub look_lines : List ℕ → Look → List (List ℕ)
@@ -166,32 +167,39 @@ module _ {E : Type 0} (K : SinkGhosts E) where
 
   -- what the exit status of a check says
   abbrev pub CheckStatus : Call → (status : ℕ) → (left left' : Option (List ℕ)) → (errors errors' : Errors E) → Type 0
-  CheckStatus call status left left' errors errors' = CheckSays (IsUnmatchedCall call left left') (SeesCall call true [] left left') (TellsListsAlone call left errors errors')
+  CheckStatus call status left left' errors errors' =
+      CheckSays (IsUnmatchedCall call left left') (SeesCall call true [] left left') (TellsListsAlone call left errors errors')
       (TellsUnread call left left' errors errors' ⊎ TellsCheckEnd call errors errors') status
 
 -- the same of the input, by what the folder and the options say
 module _ {E F Y R : Type 0} {Reads : Readers R} (K : SinkGhosts E) (D : Folders F Y) where
   -- what comes of looking for patterns in some files
-  abbrev pub SeesSearched : {X : Type 0} → Searched F → Patterns → Result Verdict X → (input input' : FromRead R Reads) → (errors errors' : Errors E) → Type 0
+  abbrev pub SeesSearched : {X : Type 0} → Searched F → Patterns → Result Verdict X
+      → (input input' : FromRead R Reads) → (errors errors' : Errors E) → Type 0
   SeesSearched files p result input input' errors errors' =
       SeesFiles K (quest_of D files.folder.now files.words p) (name_bytes files.names.now) result (bytes_left input) (bytes_left input') errors errors'
 
   -- and for those of some rules in the files that are asked for
-  abbrev pub SeesRules : F → List Given → List Rule → Result Verdict Failure → (input input' : FromRead R Reads) → (errors errors' : Errors E) → Type 0
+  abbrev pub SeesRules : F → List Given → List Rule → Result Verdict Failure
+      → (input input' : FromRead R Reads) → (errors errors' : Errors E) → Type 0
   SeesRules folder given rules result input input' errors errors' =
       SeesFiles K (quest_by (call_of D folder given) (secrets_of rules)) (names_asked given) result (bytes_left input) (bytes_left input') errors errors'
 
   -- and for those that were loaded as these rules, with the bytes that the input has left since
-  abbrev pub ChecksLoaded : F → List Given → List Rule → Result Verdict Failure → (input input' : FromRead R Reads) → (errors errors' : Errors E) → Type 0
+  abbrev pub ChecksLoaded : F → List Given → List Rule → Result Verdict Failure
+      → (input input' : FromRead R Reads) → (errors errors' : Errors E) → Type 0
   ChecksLoaded folder given rules result input input' errors errors' = (left : Option (List ℕ))
       → gives_pattern given ≡ true → AreGiven (reading_by (call_of D folder given)) given (secrets_of rules) left (bytes_left input)
       → CheckOutcome K (call_of D folder given) result left (bytes_left input') errors errors'
 
-  abbrev pub ChecksGiven : F → List Given → Result Verdict Failure → (input input' : FromRead R Reads) → (errors errors' : Errors E) → Type 0
-  ChecksGiven folder given result input input' errors errors' = CheckOutcome K (call_of D folder given) result (bytes_left input) (bytes_left input') errors errors'
+  abbrev pub ChecksGiven : F → List Given → Result Verdict Failure
+      → (input input' : FromRead R Reads) → (errors errors' : Errors E) → Type 0
+  ChecksGiven folder given result input input' errors errors' =
+      CheckOutcome K (call_of D folder given) result (bytes_left input) (bytes_left input') errors errors'
 
   abbrev pub EndsCheck : F → List Given → ℕ → (input input' : FromRead R Reads) → (errors errors' : Errors E) → Type 0
-  EndsCheck folder given status input input' errors errors' = CheckStatus K (call_of D folder given) status (bytes_left input) (bytes_left input') errors errors'
+  EndsCheck folder given status input input' errors errors' =
+      CheckStatus K (call_of D folder given) status (bytes_left input) (bytes_left input') errors errors'
 
 -- the same of a call, which writes nothing
 pub record ChecksAlone {R W E : Type 0} {Reads : Readers R} (K : SinkGhosts E) (call : Call) (status : ℕ) (streams streams' : Streams R W E Reads) : Type 0 where
@@ -201,7 +209,8 @@ pub record ChecksAlone {R W E : Type 0} {Reads : Readers R} (K : SinkGhosts E) (
   pub unwritten : streams'.output ≡ streams.output
 
 -- the same of one that asks for a check
-abbrev pub SaysOfCheck : {R W E F X : Type 0} {Reads : Readers R} → SinkGhosts E → Folders F X → F → List Given → ℕ → (streams streams' : Streams R W E Reads) → Type 0
+abbrev pub SaysOfCheck : {R W E F X : Type 0} {Reads : Readers R} → SinkGhosts E
+    → Folders F X → F → List Given → ℕ → (streams streams' : Streams R W E Reads) → Type 0
 SaysOfCheck K D folder given status streams streams' = AsksToCheck given → ChecksAlone K (call_of D folder given) status streams streams'
 
 module _ {R W E F X : Type 0} {Reads : Readers R} (D : Folders F X) (folder : F) (given : List Given) (streams streams' : Streams R W E Reads) where
@@ -219,5 +228,6 @@ module _ {R W E F X : Type 0} {Reads : Readers R} (D : Folders F X) (folder : F)
 
   -- a line or more tell why not
   abbrev pub TellsUncheckedAsked : SinkGhosts E → Type 0
-  TellsUncheckedAsked K = TellsUnread K (call_of D folder given) (bytes_left streams.input) (bytes_left streams'.input) streams.errors streams'.errors
+  TellsUncheckedAsked K =
+      TellsUnread K (call_of D folder given) (bytes_left streams.input) (bytes_left streams'.input) streams.errors streams'.errors
       ⊎ TellsCheckEnd K (call_of D folder given) streams.errors streams'.errors

@@ -93,4 +93,5 @@ module _ {E : Type 0} (K : SinkGhosts E) (strict : Bool) where
 
   -- what is told before a file is read: of patterns of lists, and then of pieces
   abbrev pub TellsWarnings : List Given → List Secret → Redactor → (errors errors' : Errors E) → Type 0
-  TellsWarnings given secrets r errors errors' = (between : Errors E) × TellsDoubts given secrets errors between × TellsOfPieces K strict r between errors'
+  TellsWarnings given secrets r errors errors' =
+      (between : Errors E) × TellsDoubts given secrets errors between × TellsOfPieces K strict r between errors'

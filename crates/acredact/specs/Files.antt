@@ -189,12 +189,14 @@ module _ {W : Type 0} (Writes : Writers W) where
       pub fails : FailsByOutput result output output'
 
     -- the same of a file of a job
-    abbrev pub FileJob : {F X : Type 0} → Folders F X → Job F → List ℕ → Result (Option Reason) StreamError → (input input' : FromRead R Reads) → (output output' : FromWrite W) → Redactor → Type 0
+    abbrev pub FileJob : {F X : Type 0} → Folders F X → Job F → List ℕ → Result (Option Reason) StreamError
+        → (input input' : FromRead R Reads) → (output output' : FromWrite W) → Redactor → Type 0
     FileJob D job name result input input' output output' r = FileOutcome (work_of D job r) name result input input' output output'
 
     module _ {E : Type 0} (K : SinkGhosts E) where
       -- this is written, and these lines are told
-      abbrev pub Does : Streams R W E Reads → Streams R W E Reads → ((left left' held held' : Option (List ℕ)) → Type 0) → List (List ℕ) → Type 0
+      abbrev pub Does : Streams R W E Reads → Streams R W E Reads
+          → ((left left' held held' : Option (List ℕ)) → Type 0) → List (List ℕ) → Type 0
       Does streams streams' Written lines =
           Written (bytes_left streams.input) (bytes_left streams'.input) (output_bytes Writes streams.output) (output_bytes Writes streams'.output)
           × TellsBytes K streams.errors streams'.errors (concat lines)

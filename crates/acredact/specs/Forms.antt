@@ -46,7 +46,8 @@ nested_by (Some inner) outer = option_map (λ (form : SecretForm). record { inne
 
 -- the form of a form that is called so: the inner one's name, `+`, and the outer one's
 abbrev pub nested_called : List ℕ → Option Nested
-nested_called name = option_and_then (λ (parts : List ℕ × List ℕ). nested_by (form_called parts.0) (form_called parts.1)) (split_first 43 name)
+nested_called name =
+    option_and_then (λ (parts : List ℕ × List ℕ). nested_by (form_called parts.0) (form_called parts.1)) (split_first 43 name)
 
 -- names stand in a value with commas between them
 abbrev pub names_in : List ℕ → List (List ℕ)

@@ -47,7 +47,8 @@ pub record SpellsEach (write : ℕ → List ℕ) (secret text : List ℕ) (place
 
 -- by one of some encoders
 abbrev pub SpellsForm : List Spelling → (secret text : List ℕ) (place : ℕ) → Type 0
-SpellsForm spellings secret text place = (spelling : Spelling) × Contains spellings spelling × SpellsEach (spelled_byte spelling) secret text place
+SpellsForm spellings secret text place =
+    (spelling : Spelling) × Contains spellings spelling × SpellsEach (spelled_byte spelling) secret text place
 
 -- base64 with padding or without, of either alphabet
 abbrev pub ShowsBase64 : (secret text : List ℕ) (place : ℕ) → Type 0
@@ -65,16 +66,19 @@ ShowsForm Json secret text place =
     ⊎ (IsUtf8 secret × (way : JsonWay) × Contains json_ways way × SpellsEach (json_char way) (chars secret) text place)
 ShowsForm Xml secret text place = SpellsForm xml_spellings secret text place
 ShowsForm Shell secret text place = SpellsForm shell_spellings secret text place
-ShowsForm Lines secret text place = (line : List ℕ) × Contains (line_patterns secret) line × SpellsEach (λ byte. byte ∷ []) line text place
+ShowsForm Lines secret text place =
+    (line : List ℕ) × Contains (line_patterns secret) line × SpellsEach (λ byte. byte ∷ []) line text place
 
 -- where a form of some secret of four bytes or more shows, it lies in a range that is replaced
 abbrev pub NoneShowsOnce : List Form → List Secret → List ℕ → List Occurrence → Type 0
-NoneShowsOnce forms secrets text ranges = (form : Form) (secret : Secret) (place : ℕ) → Contains forms form → Contains secrets secret → 4 ≤ length secret.pattern
+NoneShowsOnce forms secrets text ranges = (form : Form) (secret : Secret) (place : ℕ)
+    → Contains forms form → Contains secrets secret → 4 ≤ length secret.pattern
     → ShowsForm form secret.pattern text place → IsCovered (IsMember ranges) place
 
 -- and so does a form of what another form makes of one
 abbrev pub NoneShowsTwice : List Nested → List Secret → List ℕ → List Occurrence → Type 0
-NoneShowsTwice nested secrets text ranges = (one : Nested) (secret : Secret) (made : List ℕ) (place : ℕ) → Contains nested one → Contains secrets secret → 4 ≤ length secret.pattern
+NoneShowsTwice nested secrets text ranges = (one : Nested) (secret : Secret) (made : List ℕ) (place : ℕ)
+    → Contains nested one → Contains secrets secret → 4 ≤ length secret.pattern
     → Contains (form_patterns secret.pattern one.inner) made → ShowsForm one.outer made text place → IsCovered (IsMember ranges) place
 
 -- neither shows elsewhere

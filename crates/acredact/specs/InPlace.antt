@@ -38,7 +38,8 @@ AreInTurn {O} Is (name ∷ names) outputs outputs' = (meanwhile : O) × Is name 
 -- the same up to the last, or to one that was not come to
 abbrev pub BeginInTurn : {O : Type 0} → (List ℕ → (outputs outputs' : O) → Type 0) → List (List ℕ) → (outputs outputs' : O) → Type 0
 BeginInTurn Is [] outputs outputs' = outputs' ≡ outputs
-BeginInTurn {O} Is (name ∷ names) outputs outputs' = (outputs' ≡ outputs) ⊎ ((meanwhile : O) × Is name outputs meanwhile × BeginInTurn Is names meanwhile outputs')
+BeginInTurn {O} Is (name ∷ names) outputs outputs' =
+    (outputs' ≡ outputs) ⊎ ((meanwhile : O) × Is name outputs meanwhile × BeginInTurn Is names meanwhile outputs')
 
 module _ {O Z : Type 0} (Writes : Writers Z) (U : Places O Z) (work : Work) where
   -- a new file was made, which was empty, this of the file of this name was written into it and flushed, and then it took its place
@@ -69,7 +70,8 @@ module _ {O Z : Type 0} (Writes : Writers Z) (U : Places O Z) (work : Work) wher
 
   module _ {R E : Type 0} {Reads : Readers R} (K : SinkGhosts E) where
     -- what comes of the file of a name: one that is replaced is counted; one that is spared is told; that ends the call only where memory ran out
-    abbrev pub PlaceOutcome : List ℕ → Result Bool StreamError → (outputs outputs' : O) → (streams streams' : Streams R Z E Reads) → (counts counts' : List ℕ) → (volume volume' : Volume) → Type 0
+    abbrev pub PlaceOutcome : List ℕ → Result Bool StreamError → (outputs outputs' : O)
+        → (streams streams' : Streams R Z E Reads) → (counts counts' : List ℕ) → (volume volume' : Volume) → Type 0
     PlaceOutcome name (Ok true) outputs outputs' streams streams' counts counts' volume volume' =
         IsReplaced name outputs outputs' × (streams'.errors ≡ streams.errors)
         × CountsOfName (bytes_left streams.input) (bytes_left streams'.input) counts counts' work name
@@ -80,7 +82,8 @@ module _ {O Z : Type 0} (Writes : Writers Z) (U : Places O Z) (work : Work) wher
         IsSpared U name outputs outputs' × Tells K (IsSparedLine name) streams.errors streams'.errors × (error ≡ Memory)
 
     -- and of all files
-    abbrev pub PlacesOutcome : Result Bool StreamError → (outputs outputs' : O) → (streams streams' : Streams R Z E Reads) → (counts counts' : List ℕ) → (volume volume' : Volume) → Type 0
+    abbrev pub PlacesOutcome : Result Bool StreamError → (outputs outputs' : O)
+        → (streams streams' : Streams R Z E Reads) → (counts counts' : List ℕ) → (volume volume' : Volume) → Type 0
     PlacesOutcome (Ok true) outputs outputs' streams streams' counts counts' volume volume' =
         AreInTurn IsReplaced work.names outputs outputs' × (streams'.errors ≡ streams.errors)
         × CountsOfNames (bytes_left streams.input) (bytes_left streams'.input) counts counts' work work.names
@@ -96,8 +99,10 @@ module _ {R O Z E : Type 0} {Reads : Readers R} (Writes : Writers Z) (K : SinkGh
   IsSettled (Ok true) outputs outputs' streams streams' =
       (done ≡ Ok true) × (streams'.errors ≡ streams.errors) × U.puts outputs outputs' name (output_bytes Writes streams.output)
   IsSettled (Ok false) outputs outputs' streams streams' =
-      IsKept U name outputs outputs' × (((done ≡ Ok false) × (streams'.errors ≡ streams.errors)) ⊎ TellsUnread K name streams.errors streams'.errors)
-  IsSettled (Err error) outputs outputs' streams streams' = IsKept U name outputs outputs' × (streams'.errors ≡ streams.errors) × (error ≡ Memory)
+      IsKept U name outputs outputs'
+      × (((done ≡ Ok false) × (streams'.errors ≡ streams.errors)) ⊎ TellsUnread K name streams.errors streams'.errors)
+  IsSettled (Err error) outputs outputs' streams streams' =
+      IsKept U name outputs outputs' × (streams'.errors ≡ streams.errors) × (error ≡ Memory)
 
 -- what may be told of a call: what is told of a redaction that writes nothing to standard output, and that standard input is no file
 abbrev pub IsPlaceLine : Call → List ℕ → Type 0
@@ -162,8 +167,10 @@ module _ {O Z E : Type 0} (Writes : Writers Z) (K : SinkGhosts E) (U : Places O 
   -- what comes of a call: that, or each file was replaced or spared, or a failure ended it
   abbrev pub CalledPlaces : Result Bool Failure → (outputs outputs' : O) → (errors errors' : Errors E) → Type 0
   CalledPlaces (Ok true) outputs outputs' errors errors' = PlacesEach outputs outputs' errors errors'
-  CalledPlaces (Ok false) outputs outputs' errors errors' = ReachesCall Writes U call left outputs outputs' × TellsSome K (IsPlaceLine call) errors errors'
-  CalledPlaces (Err failure) outputs outputs' errors errors' = EndsCall Writes U call left outputs outputs' failure × Tells K (IsPlaceLine call) errors errors'
+  CalledPlaces (Ok false) outputs outputs' errors errors' =
+      ReachesCall Writes U call left outputs outputs' × TellsSome K (IsPlaceLine call) errors errors'
+  CalledPlaces (Err failure) outputs outputs' errors errors' =
+      EndsCall Writes U call left outputs outputs' failure × Tells K (IsPlaceLine call) errors errors'
 
   -- a failure ended it, which is told last
   pub record TellsEnd (outputs outputs' : O) (errors errors' : Errors E) : Type 0 where
@@ -189,7 +196,8 @@ module _ {O Z E : Type 0} (Writes : Writers Z) (K : SinkGhosts E) (U : Places O 
 module _ {F X O Z E R : Type 0} {Reads : Readers R} (Writes : Writers Z) (D : Folders F X) (U : Places O Z) (folder : F) where
   -- what these options and files ask for is replaced, where the status is 0
   abbrev pub PlacesAll : ℕ → Streams R Z E Reads → (outputs outputs' : O) → List Given → Type 0
-  PlacesAll status streams outputs outputs' given = status ≡ 0 → ReplacesCall Writes U (call_of D folder given) (bytes_left streams.input) outputs outputs'
+  PlacesAll status streams outputs outputs' given = status ≡ 0
+      → ReplacesCall Writes U (call_of D folder given) (bytes_left streams.input) outputs outputs'
 
   -- and no pattern is left, where that is asked for
   abbrev pub FreesAll : ℕ → Streams R Z E Reads → (outputs outputs' : O) → List Given → Type 0
@@ -203,7 +211,8 @@ module _ {F X O Z E R : Type 0} {Reads : Readers R} (Writes : Writers Z) (D : Fo
 module _ {F X Z E R : Type 0} {Reads : Readers R} (K : SinkGhosts E) (D : Folders F X) (folder : F) (status : ℕ) (streams streams' : Streams R Z E Reads) (given : List Given) where
   -- of files that were replaced the counts that are asked for are told
   abbrev pub PlacesCount : Type 0
-  PlacesCount = counts_asked given ≡ true → status ≡ 0 → CountsPlaces K (call_of D folder given) (bytes_left streams.input) streams.errors streams'.errors
+  PlacesCount = counts_asked given ≡ true → status ≡ 0
+      → CountsPlaces K (call_of D folder given) (bytes_left streams.input) streams.errors streams'.errors
 
   -- of others something is told
   abbrev pub PlacesTell : Type 0
@@ -217,7 +226,8 @@ module _ {F X O Z E R : Type 0} {Reads : Readers R} (Writes : Writers Z) (K : Si
       ⊎ TellsEnd Writes K U (call_of D folder given) (bytes_left streams.input) outputs outputs' streams.errors streams'.errors
 
   -- what comes of a call whose patterns and key were loaded, behind what is told of them
-  abbrev pub ReadyPlaces : List Item → Loaded → Result Bool Failure → (outputs outputs' : O) → (streams streams' : Streams R Z E Reads) → Type 0
+  abbrev pub ReadyPlaces : List Item → Loaded → Result Bool Failure
+      → (outputs outputs' : O) → (streams streams' : Streams R Z E Reads) → Type 0
   ReadyPlaces items load result outputs outputs' streams streams' = (left : Option (List ℕ)) (first : Errors E)
       → AreLoaded (reading_by (call_of D folder (all_given items))) (all_given items) load left (bytes_left streams.input)
       → TellsWarnings K (has Strict (all_given items)) (all_given items) load.secrets (redactor_by_given (all_given items) load) first streams.errors

@@ -79,7 +79,8 @@ module _ {R Z E F X O : Type 0} {Reads : Readers R} (Writes : Writers Z) (K : Si
       ⊎ ((file : FromWrite Z) × (meanwhile : O) × U.makes outputs meanwhile name (output_bytes Writes file)
       × TellsSome K (IsOutputLine (IsLineOf (call_of D folder given) (OutputFails file streams'.output)) name) streams.errors streams'.errors)
 
-module _ {R Z E F X O : Type 0} {Reads : Readers R} (Writes : Writers Z) (K : SinkGhosts E) (D : Folders F X) (U : Places O Z) (folder : F) (name : List ℕ) (status : ℕ) (outputs outputs' : O) (streams streams' : Streams R Z E Reads) (given : List Given) where
+module _ {R Z E F X O : Type 0} {Reads : Readers R} (Writes : Writers Z) (K : SinkGhosts E) (D : Folders F X) (U : Places O Z) (folder : F)
+    (name : List ℕ) (status : ℕ) (outputs outputs' : O) (streams streams' : Streams R Z E Reads) (given : List Given) where
   -- the first where the status is 0
   abbrev pub WritesAll : Type 0
   WritesAll = status ≡ 0 → WritesNew Writes K D U folder name outputs outputs' streams streams' given
@@ -92,10 +93,12 @@ module _ {R Z E F X O : Type 0} {Reads : Readers R} (Writes : Writers Z) (K : Si
   TellsNone = (status ≡ 0 → ⊥) → TellsNew Writes K D U folder name outputs outputs' streams streams' given
 
 -- where the status is 0, and no counts are asked for, nothing is told but the pieces that are not clean
-abbrev pub WarnsAll : {R Z E F X : Type 0} {Reads : Readers R} → SinkGhosts E → Folders F X → F → ℕ → (streams streams' : Streams R Z E Reads) → List Given → Type 0
+abbrev pub WarnsAll : {R Z E F X : Type 0} {Reads : Readers R} → SinkGhosts E
+    → Folders F X → F → ℕ → (streams streams' : Streams R Z E Reads) → List Given → Type 0
 WarnsAll K D folder status streams streams' given = counts_asked given ≡ false → status ≡ 0 → WarnsAsked K D folder given streams streams'
 
 -- what is told of a call with rules where no new file takes the place, whether one was made or not
-abbrev pub RuledTellsUnput : {R W E F X : Type 0} {Reads : Readers R} → SinkGhosts E → Folders F X → F → List ℕ → ℕ → (streams streams' : Streams R W E Reads) → List Given → Type 0
+abbrev pub RuledTellsUnput : {R W E F X : Type 0} {Reads : Readers R} → SinkGhosts E → Folders F X
+    → F → List ℕ → ℕ → (streams streams' : Streams R W E Reads) → List Given → Type 0
 RuledTellsUnput K D folder name status streams streams' given = (status ≡ 0 → ⊥)
     → TellsSome K (IsOutputLine (IsRuledTold (call_of D folder given)) name) streams.errors streams'.errors

@@ -21,7 +21,8 @@ IsBadStart text other = ⊥
 
 -- that is so of a text behind some bytes, or memory runs out
 abbrev pub IsTextFault : List ℕ → LineFault → Type 0
-IsTextFault text fault = (fault ≡ OutOfMemory) ⊎ ((bytes : List ℕ) × (rest : List ℕ) × (text ≡ in_table bytes ++ rest) × IsBadStart rest fault)
+IsTextFault text fault =
+    (fault ≡ OutOfMemory) ⊎ ((bytes : List ℕ) × (rest : List ℕ) × (text ≡ in_table bytes ++ rest) × IsBadStart rest fault)
 
 -- a line of a file of patterns is empty
 abbrev pub IsPlainFault : List ℕ → LineFault → Type 0

@@ -76,5 +76,7 @@ module _ {F X R : Type 0} {Reads : Readers R} (D : Folders F X) (lists : Lists F
       AddsThese (λ more. OptionGivesRules (reading_of_lists D lists) item.word item.value more (bytes_left input) (bytes_left input')) rules rules'
 
 -- the rules of all options were read
-abbrev pub ReadsLineRules : {F X R : Type 0} {Reads : Readers R} → Folders F X → Lists F → List Given → List Rule → (input input' : FromRead R Reads) → Type 0
-ReadsLineRules D lists given rules input input' = AreRulesRead (reading_of_lists D lists) given rules (bytes_left input) (bytes_left input')
+abbrev pub ReadsLineRules : {F X R : Type 0} {Reads : Readers R} → Folders F X
+    → Lists F → List Given → List Rule → (input input' : FromRead R Reads) → Type 0
+ReadsLineRules D lists given rules input input' =
+    AreRulesRead (reading_of_lists D lists) given rules (bytes_left input) (bytes_left input')

@@ -104,7 +104,8 @@ OptionGives reading Whole value secrets left left' = GivesSecrets reading WholeF
 OptionGives reading other value secrets left left' = (secrets ≡ []) × (left' ≡ left)
 
 -- what all options give, in order, where each gives what this says
-abbrev pub EachGives : {X : Type 0} → (Gives : Given → List X → (left left' : Option (List ℕ)) → Type 0) → List Given → List X → (left left' : Option (List ℕ)) → Type 0
+abbrev pub EachGives : {X : Type 0} → (Gives : Given → List X → (left left' : Option (List ℕ)) → Type 0)
+    → List Given → List X → (left left' : Option (List ℕ)) → Type 0
 EachGives Gives [] all left left' = (all ≡ []) × (left' ≡ left)
 EachGives {X} Gives (item ∷ items) all left left' = (first : List X) × (rest : List X) × (all ≡ first ++ rest)
     × (between : Option (List ℕ)) × Gives item first left between × EachGives Gives items rest between left'
@@ -222,7 +223,8 @@ IsVariablesFailure rules file text failure =
 
 -- nor does one that is one pattern
 abbrev pub IsWholeFailure : Rules → List ℕ → List ℕ → Failure → Type 0
-IsWholeFailure rules file text failure = IsMarkedFailure file text failure ⊎ IsValuesFailure rules file (whole_in (form_by rules false) text ∷ []) failure
+IsWholeFailure rules file text failure =
+    IsMarkedFailure file text failure ⊎ IsValuesFailure rules file (whole_in (form_by rules false) text ∷ []) failure
 
 abbrev pub IsListedFailure : Rules → Listed → List ℕ → List ℕ → Failure → Type 0
 IsListedFailure rules Plain file text failure = IsTextFailure rules false file text failure

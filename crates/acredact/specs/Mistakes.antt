@@ -109,7 +109,8 @@ line_of_letter (letter ∷ rest) = letter_line letter
 -- of joined letters: of the first that no option has
 abbrev pub line_of_letters : List ℕ → List ℕ
 line_of_letters [] = []
-line_of_letters (letter ∷ rest) = if letter == 105 then line_of_letters rest else if letter == 119 then line_of_letters rest else letter_line letter
+line_of_letters (letter ∷ rest) =
+    if letter == 105 then line_of_letters rest else if letter == 119 then line_of_letters rest else letter_line letter
 
 -- of an argument that stands where an option may, by what it is; a file's name is never wrong
 abbrev pub line_of_form : Form → List ℕ
@@ -141,7 +142,8 @@ line_at_end Name = None
 -- what is told of the first argument that is wrong, or of the value that is missing at the end
 abbrev pub line_from : Expects → List (List ℕ) → List Given → Option (List ℕ)
 line_from expects [] items = line_at_end expects
-line_from expects (argument ∷ rest) items = line_or (line_of_argument expects argument) (λ read. line_from read.next rest read.items) (by_argument expects argument items)
+line_from expects (argument ∷ rest) items =
+    line_or (line_of_argument expects argument) (λ read. line_from read.next rest read.items) (by_argument expects argument items)
 
 abbrev pub first_mistake_line : List (List ℕ) → Option (List ℕ)
 first_mistake_line arguments = line_from Any arguments []
@@ -161,7 +163,8 @@ TellsAs line result = IfErr result (λ mistake. (mistake ≡ OutOfMemory) ⊎ (m
 -- options that are right each do not go together
 abbrev pub AreMixed : List (List ℕ) → Mistake → Type 0
 AreMixed arguments mistake =
-    (given : List Given) × (mixture : Mixture) × (given_by arguments ≡ Some given) × (mixture_of given ≡ Some mixture) × (mistake ≡ Mixed mixture)
+    (given : List Given) × (mixture : Mixture) × (given_by arguments ≡ Some given)
+    × (mixture_of given ≡ Some mixture) × (mistake ≡ Mixed mixture)
 
 -- what is wrong with the arguments of a call: one of them, or that they do not go together
 abbrev pub IsMistakeOfCall : List (List ℕ) → Mistake → Type 0

@@ -38,7 +38,8 @@ IsMarked ignore_case word marks = (byte : ℕ) → IsMember word byte → slice_
 
 -- and those of all words
 abbrev pub WordsAreMarked : Bool → List (List ℕ) → List Bool → Type 0
-WordsAreMarked ignore_case words marks = (number : ℕ) → number < length words → IsMarked ignore_case (slice_index_or words number []) marks
+WordsAreMarked ignore_case words marks = (number : ℕ) → number < length words
+    → IsMarked ignore_case (slice_index_or words number []) marks
 
 -- what was marked stays so
 abbrev pub StayMarked : List Bool → List Bool → Type 0

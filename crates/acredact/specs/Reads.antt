@@ -7,7 +7,8 @@ abbrev pub bytes_of_names : {Z : Type 0} → List (Vec ℕ Z) → List (List ℕ
 bytes_of_names names = map (λ name. name.items) names
 
 -- it is what the input has left, or what the folder holds under the name
-abbrev pub OfName : (holds : List ℕ → Option (List ℕ)) → List ℕ → (Option (List ℕ) → Option (List ℕ) → Type 0) → (left left' : Option (List ℕ)) → Type 0
+abbrev pub OfName : (holds : List ℕ → Option (List ℕ)) → List ℕ
+    → (Option (List ℕ) → Option (List ℕ) → Type 0) → (left left' : Option (List ℕ)) → Type 0
 OfName holds name Reads left left' =
     MatchBool (is_input name) (Reads left left') ((left' ≡ left) × (rest : Option (List ℕ)) × Reads (holds name) rest)
 
@@ -17,7 +18,8 @@ pub record ReadsText (text : List ℕ) (left left' : Option (List ℕ)) : Type 0
   pub ended : IsAtEnd left'
 
 -- this comes of each file, one after another
-abbrev pub EachName : (Does : List ℕ → (left left' held held' : Option (List ℕ)) → Type 0) → List (List ℕ) → (left left' held held' : Option (List ℕ)) → Type 0
+abbrev pub EachName : (Does : List ℕ → (left left' held held' : Option (List ℕ)) → Type 0)
+    → List (List ℕ) → (left left' held held' : Option (List ℕ)) → Type 0
 EachName Does [] left left' held held' = (left' ≡ left) × Keeps held held'
 EachName Does (name ∷ names) left left' held held' = (between : Option (List ℕ)) × (meanwhile : Option (List ℕ))
     × Does name left between held meanwhile × EachName Does names between left' meanwhile held'

@@ -9,7 +9,8 @@ use Rattle.acredact.specs.declared.ruled_failure.RuledFailure.TheVariants.{Plain
 
 -- the line that tells which pattern holds a line end
 abbrev pub line_end_line : ℕ → List ℕ
-line_end_line number = numbered_line (codes ": pattern ") number (codes " holds a line end: it stands in no line, and rules go line by line\n")
+line_end_line number =
+    numbered_line (codes ": pattern ") number (codes " holds a line end: it stands in no line, and rules go line by line\n")
 
 -- the line that tells why a call with rules ends early
 abbrev pub IsRuledLine : RuledFailure → List ℕ → Type 0

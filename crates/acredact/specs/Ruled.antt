@@ -134,7 +134,8 @@ abbrev pub StaysLined : {A P : Type 0} → Automata A → PieceGhosts P → Line
 StaysLined G Q lined lined' = IfLined G Q lined (IsLined G Q lined')
 
 -- what it leaves of a stream that it has covered
-abbrev pub LeavesLined : {A P R W : Type 0} → Automata A → PieceGhosts P → SourceGhosts R → SinkGhosts W → Lined A P → Result (Unit {0}) LineError → (counts counts' : List ℕ) → (source source' : R) → (sink sink' : W) → Type 0
+abbrev pub LeavesLined : {A P R W : Type 0} → Automata A → PieceGhosts P → SourceGhosts R → SinkGhosts W → Lined A P
+    → Result (Unit {0}) LineError → (counts counts' : List ℕ) → (source source' : R) → (sink sink' : W) → Type 0
 LeavesLined G Q S K lined result counts counts' source source' sink sink' =
     LeavesLines S K (AreSearchedFor G (searched_automaton lined.cover)) (words_of lined.cover) (rules_of lined.cover) (most_of lined.cover) (Q.rule lined.pieces)
     source source' sink sink' counts counts' result
@@ -179,7 +180,8 @@ module _ {F X : Type 0} (D : Folders F X) (folder : F) (items : List Item) where
   AreRulesGivenBy left left' made = AreRulesGiven (reading_by (call_of D folder (all_given items))) (all_given items) (secrets_of made.secrets.items) made.rules left left'
 
   abbrev pub AreRulesKeyedBy : (left left' : Option (List ℕ)) → KeyedRules → Type 0
-  AreRulesKeyedBy left left' made = AreRuledLoaded (reading_by (call_of D folder (all_given items))) (all_given items) (load_in made) left left'
+  AreRulesKeyedBy left left' made =
+      AreRuledLoaded (reading_by (call_of D folder (all_given items))) (all_given items) (load_in made) left left'
 
 -- the patterns that are searched for: all that occurs counts
 abbrev pub patterns_by_case : List Given → List (List ℕ) → Patterns
@@ -325,17 +327,20 @@ module _ {E : Type 0} (K : SinkGhosts E) where
 
 module _ {R : Type 0} {Reads : Readers R} {W : Type 0} (Writes : Writers W) where
   -- what comes of an input, and of the file of a name
-  abbrev pub LinesDone : Result (Option Reason) LineError → (counts counts' : List ℕ) → (input input' : FromRead R Reads) → (output output' : FromWrite W) → Ruling → Type 0
+  abbrev pub LinesDone : Result (Option Reason) LineError → (counts counts' : List ℕ)
+      → (input input' : FromRead R Reads) → (output output' : FromWrite W) → Ruling → Type 0
   LinesDone result counts counts' input input' output output' ruling =
       LinesOutcome ruling result counts counts' (bytes_left input) (bytes_left input') (output_bytes Writes output) (output_bytes Writes output')
 
-  abbrev pub NamedDone : {F X : Type 0} → Folders F X → F → List ℕ → Result (Option Reason) LineError → (counts counts' : List ℕ) → (input input' : FromRead R Reads) → (output output' : FromWrite W) → Ruling → Type 0
+  abbrev pub NamedDone : {F X : Type 0} → Folders F X → F → List ℕ → Result (Option Reason) LineError
+      → (counts counts' : List ℕ) → (input input' : FromRead R Reads) → (output output' : FromWrite W) → Ruling → Type 0
   NamedDone D folder name result counts counts' input input' output output' ruling =
       NamedOutcome (ruled_in D folder ruling) name result counts counts' (bytes_left input) (bytes_left input') (output_bytes Writes output) (output_bytes Writes output')
 
 module _ {R : Type 0} {Reads : Readers R} {W E : Type 0} (Writes : Writers W) where
   -- what holds from one state of the streams to another
-  abbrev pub Between : ((left left' held held' : Option (List ℕ)) → (errors errors' : Errors E) → Type 0) → (streams streams' : Streams R W E Reads) → Type 0
+  abbrev pub Between : ((left left' held held' : Option (List ℕ)) → (errors errors' : Errors E) → Type 0)
+      → (streams streams' : Streams R W E Reads) → Type 0
   Between Holds streams streams' =
       Holds (bytes_left streams.input) (bytes_left streams'.input) (output_bytes Writes streams.output) (output_bytes Writes streams'.output) streams.errors streams'.errors
 
@@ -350,37 +355,51 @@ module _ {R : Type 0} {Reads : Readers R} {W E : Type 0} (Writes : Writers W) wh
 
   module _ (K : SinkGhosts E) where
     -- what comes of patterns and rules that were loaded
-    abbrev pub LoadedRuled : {F X : Type 0} → Folders F X → F → List Item → List PatternRule → List Rule → Option (Bor (List ℕ)) → Result Bool RuledFailure → (streams streams' : Streams R W E Reads) → Type 0
+    abbrev pub LoadedRuled : {F X : Type 0} → Folders F X → F → List Item → List PatternRule → List Rule
+        → Option (Bor (List ℕ)) → Result Bool RuledFailure → (streams streams' : Streams R W E Reads) → Type 0
     LoadedRuled D folder items secrets rules key result streams streams' =
         Between (RuledOutcome K (call_of D folder (all_given items)) (ruled_load secrets rules key) result) streams streams'
 
     -- and before that, where doubtful ones are to be told
-    abbrev pub KeyedRuled : {F X : Type 0} → Folders F X → F → List Item → KeyedRules → Result Bool RuledFailure → (streams streams' : Streams R W E Reads) → Type 0
-    KeyedRuled D folder items made result streams streams' = (left : Option (List ℕ)) → AreRulesKeyedBy D folder items left (bytes_left streams.input) made
+    abbrev pub KeyedRuled : {F X : Type 0} → Folders F X → F → List Item → KeyedRules
+        → Result Bool RuledFailure → (streams streams' : Streams R W E Reads) → Type 0
+    KeyedRuled D folder items made result streams streams' = (left : Option (List ℕ))
+        → AreRulesKeyedBy D folder items left (bytes_left streams.input) made
         → RuledCall K (call_of D folder (all_given items)) result left (bytes_left streams'.input) (output_bytes Writes streams.output) (output_bytes Writes streams'.output) streams.errors streams'.errors
 
     -- and of what these options ask for
-    abbrev pub AskedRuled : {F X : Type 0} → Folders F X → F → List Given → Result Bool RuledFailure → (streams streams' : Streams R W E Reads) → Type 0
+    abbrev pub AskedRuled : {F X : Type 0} → Folders F X → F → List Given
+        → Result Bool RuledFailure → (streams streams' : Streams R W E Reads) → Type 0
     AskedRuled D folder given result streams streams' = Between (RuledCall K (call_of D folder given) result) streams streams'
 
     abbrev pub SaysOfRules : {F X : Type 0} → Folders F X → F → List Given → ℕ → (streams streams' : Streams R W E Reads) → Type 0
-    SaysOfRules D folder given status streams streams' = AsksForRules given → Between (RuledStatus K (call_of D folder given) status) streams streams'
+    SaysOfRules D folder given status streams streams' = AsksForRules given
+        → Between (RuledStatus K (call_of D folder given) status) streams streams'
 
     -- and of files by what covers lines
-    abbrev pub DoesFile : {F X : Type 0} → Folders F X → F → List ℕ → Result Bool LineError → (counts counts' : List ℕ) → (streams streams' : Streams R W E Reads) → Ruling → Type 0
-    DoesFile D folder name result counts counts' streams streams' ruling = Between (LinedFile K (ruled_in D folder ruling) name result counts counts') streams streams'
+    abbrev pub DoesFile : {F X : Type 0} → Folders F X → F → List ℕ → Result Bool LineError
+        → (counts counts' : List ℕ) → (streams streams' : Streams R W E Reads) → Ruling → Type 0
+    DoesFile D folder name result counts counts' streams streams' ruling =
+        Between (LinedFile K (ruled_in D folder ruling) name result counts counts') streams streams'
 
-    abbrev pub DoesFiles : {F X : Type 0} → Folders F X → F → List (Bor (List ℕ)) → Result Bool LineError → (counts counts' : List ℕ) → (streams streams' : Streams R W E Reads) → Ruling → Type 0
-    DoesFiles D folder names result counts counts' streams streams' ruling = Between (LinedFiles K (ruled_in D folder ruling) (name_bytes names) result counts counts') streams streams'
+    abbrev pub DoesFiles : {F X : Type 0} → Folders F X → F → List (Bor (List ℕ)) → Result Bool LineError
+        → (counts counts' : List ℕ) → (streams streams' : Streams R W E Reads) → Ruling → Type 0
+    DoesFiles D folder names result counts counts' streams streams' ruling =
+        Between (LinedFiles K (ruled_in D folder ruling) (name_bytes names) result counts counts') streams streams'
 
 -- what a call that asks for this tells: at status 0, and else
-abbrev pub NotesAsked : {R W E F X : Type 0} {Reads : Readers R} → SinkGhosts E → Folders F X → F → List Given → (streams streams' : Streams R W E Reads) → Type 0
-NotesAsked K D folder given streams streams' = NotesByRules K (call_of D folder given) (bytes_left streams.input) (bytes_left streams'.input) streams.errors streams'.errors
+abbrev pub NotesAsked : {R W E F X : Type 0} {Reads : Readers R} → SinkGhosts E
+    → Folders F X → F → List Given → (streams streams' : Streams R W E Reads) → Type 0
+NotesAsked K D folder given streams streams' =
+    NotesByRules K (call_of D folder given) (bytes_left streams.input) (bytes_left streams'.input) streams.errors streams'.errors
 
 -- and where counts or a summary are asked for
-abbrev pub RuledCountsAsked : {R W E F X : Type 0} {Reads : Readers R} → SinkGhosts E → Folders F X → F → List Given → (streams streams' : Streams R W E Reads) → Type 0
+abbrev pub RuledCountsAsked : {R W E F X : Type 0} {Reads : Readers R} → SinkGhosts E
+    → Folders F X → F → List Given → (streams streams' : Streams R W E Reads) → Type 0
 RuledCountsAsked K D folder given streams streams' =
-    counts_asked given ≡ true → CountsByRules K (call_of D folder given) (bytes_left streams.input) (bytes_left streams'.input) streams'.errors
+    counts_asked given ≡ true
+    → CountsByRules K (call_of D folder given) (bytes_left streams.input) (bytes_left streams'.input) streams'.errors
 
-abbrev pub RuledTells : {R W E F X : Type 0} {Reads : Readers R} → SinkGhosts E → Folders F X → F → List Given → (streams streams' : Streams R W E Reads) → Type 0
+abbrev pub RuledTells : {R W E F X : Type 0} {Reads : Readers R} → SinkGhosts E
+    → Folders F X → F → List Given → (streams streams' : Streams R W E Reads) → Type 0
 RuledTells K D folder given streams streams' = TellsSome K (IsRuledTold (call_of D folder given)) streams.errors streams'.errors

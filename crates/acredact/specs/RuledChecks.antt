@@ -73,7 +73,8 @@ rule_or_long labels number = label_behind labels.most number (slice_get labels.r
 
 -- and of any number
 abbrev pub label_of : Labels → ℕ → List ℕ
-label_of labels number = if nat_lt number (length labels.secrets) then given_label number else rule_or_long labels (number - length labels.secrets)
+label_of labels number =
+    if nat_lt number (length labels.secrets) then given_label number else rule_or_long labels (number - length labels.secrets)
 
 -- a run is told by the number of its pattern, where it is of a form, and else by its own
 abbrev pub told_by : ℕ → Option Secret → ℕ
@@ -165,10 +166,12 @@ pub record HasLineRuns (covering : Covering) (runs : List (List Occurrence)) (le
   pub are : AreLineRuns covering [] (stream_lines text) runs
 
 -- those of all files, one after another
-abbrev pub HaveLineRuns : (holds : List ℕ → Option (List ℕ)) → Covering → List (List ℕ) → List (List (List Occurrence)) → (left left' : Option (List ℕ)) → Type 0
+abbrev pub HaveLineRuns : (holds : List ℕ → Option (List ℕ)) → Covering → List (List ℕ)
+    → List (List (List Occurrence)) → (left left' : Option (List ℕ)) → Type 0
 HaveLineRuns holds covering [] [] left left' = left' ≡ left
 HaveLineRuns holds covering (name ∷ names) (runs ∷ more) left left' =
-    (between : Option (List ℕ)) × OfName holds name (HasLineRuns covering runs) left between × HaveLineRuns holds covering names more between left'
+    (between : Option (List ℕ)) × OfName holds name (HasLineRuns covering runs) left between
+    × HaveLineRuns holds covering names more between left'
 HaveLineRuns holds covering names runs left left' = ⊥
 
 -- what is looked for, what the folder holds under a name, where it tells that, and what is told of the numbers of runs
@@ -204,7 +207,8 @@ pub record SeesNamed (quest : LineQuest) (name : List ℕ) (found : Bool) (left 
   pub told : Appends held held' (lines_findings quest.labels name 1 runs)
 
 abbrev pub BeginsNamedTelling : LineQuest → List ℕ → (left left' held held' : Option (List ℕ)) → Type 0
-BeginsNamedTelling quest name left left' held held' = OfName quest.holds name (λ l l'. BeginsTelling quest.covering quest.labels name l l' held held') left left'
+BeginsNamedTelling quest name left left' held held' =
+    OfName quest.holds name (λ l l'. BeginsTelling quest.covering quest.labels name l l' held held') left left'
 
 -- and of files, one after another
 pub record SeesAllLines (quest : LineQuest) (names : List (List ℕ)) (found : Bool) (left left' held held' : Option (List ℕ)) : Type 0 where
@@ -287,7 +291,8 @@ pub record SeesLoaded (call : Call) (found : Bool) (left left' held held' : Opti
 
 -- of patterns and rules that were loaded
 abbrev pub SeesByRules : Call → (found : Bool) → (left left' held held' : Option (List ℕ)) → Type 0
-SeesByRules call found left left' held held' = LoadsToCheck call left (λ load between. SeesLoaded call found between left' held held' load)
+SeesByRules call found left left' held held' =
+    LoadsToCheck call left (λ load between. SeesLoaded call found between left' held held' load)
 
 module _ (call : Call) (left left' held held' : Option (List ℕ)) where
   -- a beginning of what tells of each file was written, or nothing was
@@ -307,7 +312,8 @@ module _ {E : Type 0} (K : SinkGhosts E) where
 
   -- nothing was told but of the patterns of the lists that were loaded
   abbrev pub TellsListsBeside : Call → (left : Option (List ℕ)) → (errors errors' : Errors E) → Type 0
-  TellsListsBeside call left errors errors' = LoadsToCheck call left (λ load between. TellsDoubts K false call.given load.secrets errors errors')
+  TellsListsBeside call left errors errors' =
+      LoadsToCheck call left (λ load between. TellsDoubts K false call.given load.secrets errors errors')
 
   -- and of the whole call
   pub record RuledCheck (call : Call) (result : Result Verdict RuledFailure) (left left' held held' : Option (List ℕ)) (errors errors' : Errors E) : Type 0 where
@@ -318,7 +324,8 @@ module _ {E : Type 0} (K : SinkGhosts E) where
 
   -- what its status says
   abbrev pub RuledCheckStatus : Call → (status : ℕ) → (left left' held held' : Option (List ℕ)) → (errors errors' : Errors E) → Type 0
-  RuledCheckStatus call status left left' held held' errors errors' = CheckSays (SeesByRules call false left left' held held') (SeesByRules call true left left' held held')
+  RuledCheckStatus call status left left' held held' errors errors' =
+      CheckSays (SeesByRules call false left left' held held') (SeesByRules call true left left' held held')
       (TellsListsBeside call left errors errors') (TellsSome K (IsRuledTold call) errors errors') status
 
 -- what covers lines does so by this
@@ -373,40 +380,48 @@ module _ {W : Type 0} (K : SinkGhosts W) where
     LookedInput findings result input input' output output' covering =
         LookedText covering (labels_of findings.legend) findings.name.now result (bytes_left input) (bytes_left input') (K.taken output) (K.taken output')
 
-    abbrev pub LookedFile : {F X : Type 0} → Folders F X → Checked F → List ℕ → Result Look LineError → (input input' : FromRead R Reads) → (output output' : W) → Covering → Type 0
+    abbrev pub LookedFile : {F X : Type 0} → Folders F X → Checked F → List ℕ → Result Look LineError
+        → (input input' : FromRead R Reads) → (output output' : W) → Covering → Type 0
     LookedFile D checked name result input input' output output' covering =
         LookedNamed (quest_in D checked covering) name result (bytes_left input) (bytes_left input') (K.taken output) (K.taken output')
 
     module _ {E : Type 0} (L : SinkGhosts E) where
       -- where it is told if it was not read to its end
-      abbrev pub SeesFile : {F X : Type 0} → Folders F X → Checked F → List ℕ → Result Verdict LineError → (input input' : FromRead R Reads) → (output output' : W) → (errors errors' : Errors E) → Covering → Type 0
+      abbrev pub SeesFile : {F X : Type 0} → Folders F X → Checked F → List ℕ → Result Verdict LineError
+          → (input input' : FromRead R Reads) → (output output' : W) → (errors errors' : Errors E) → Covering → Type 0
       SeesFile D checked name result input input' output output' errors errors' covering =
           SeenFile L (quest_in D checked covering) name result (bytes_left input) (bytes_left input') (K.taken output) (K.taken output') errors errors'
 
       -- and of files
-      abbrev pub SeesFiles : {F X : Type 0} → Folders F X → Checked F → List (Bor (List ℕ)) → Result Verdict LineError → (input input' : FromRead R Reads) → (output output' : W) → (errors errors' : Errors E) → Covering → Type 0
+      abbrev pub SeesFiles : {F X : Type 0} → Folders F X → Checked F → List (Bor (List ℕ)) → Result Verdict LineError
+          → (input input' : FromRead R Reads) → (output output' : W) → (errors errors' : Errors E) → Covering → Type 0
       SeesFiles D checked names result input input' output output' errors errors' covering =
           SeenFiles L (quest_in D checked covering) (name_bytes names) result (bytes_left input) (bytes_left input') (K.taken output) (K.taken output') errors errors'
 
 module _ {R : Type 0} {Reads : Readers R} {W E : Type 0} (Writes : Writers W) (K : SinkGhosts E) where
   -- what comes of files, of which something is told to the output where that is asked for
-  abbrev pub SeesTo : {F X : Type 0} → Folders F X → Checked F → List (Bor (List ℕ)) → Result Verdict LineError → (streams streams' : Streams R W E Reads) → Covering → Type 0
+  abbrev pub SeesTo : {F X : Type 0} → Folders F X → Checked F → List (Bor (List ℕ))
+      → Result Verdict LineError → (streams streams' : Streams R W E Reads) → Covering → Type 0
   SeesTo D checked names result streams streams' covering = (held held' : Option (List ℕ))
       × (checked.tells ≡ true → (held ≡ output_bytes Writes streams.output) × (held' ≡ output_bytes Writes streams'.output))
       × SeenFiles K (quest_in D checked covering) (name_bytes names) result (bytes_left streams.input) (bytes_left streams'.input) held held' streams.errors streams'.errors
 
   -- what comes of patterns and rules that were loaded
-  abbrev pub LoadedCheck : {F X : Type 0} → Folders F X → F → List Item → List PatternRule → List Rule → Result Verdict RuledFailure → (streams streams' : Streams R W E Reads) → Type 0
+  abbrev pub LoadedCheck : {F X : Type 0} → Folders F X → F → List Item → List PatternRule
+      → List Rule → Result Verdict RuledFailure → (streams streams' : Streams R W E Reads) → Type 0
   LoadedCheck D folder items secrets rules result streams streams' =
       Between Writes (CheckedLines K (call_of D folder (all_given items)) (check_load secrets rules) result) streams streams'
 
   -- and before that, where doubtful ones are to be told
-  abbrev pub GivenCheck : {F X : Type 0} → Folders F X → F → List Item → GivenRules → Result Verdict RuledFailure → (streams streams' : Streams R W E Reads) → Type 0
-  GivenCheck D folder items made result streams streams' = (left : Option (List ℕ)) → AreRulesGivenBy D folder items left (bytes_left streams.input) made
+  abbrev pub GivenCheck : {F X : Type 0} → Folders F X → F → List Item → GivenRules
+      → Result Verdict RuledFailure → (streams streams' : Streams R W E Reads) → Type 0
+  GivenCheck D folder items made result streams streams' = (left : Option (List ℕ))
+      → AreRulesGivenBy D folder items left (bytes_left streams.input) made
       → RuledCheck K (call_of D folder (all_given items)) result left (bytes_left streams'.input) (output_bytes Writes streams.output) (output_bytes Writes streams'.output) streams.errors streams'.errors
 
   -- and of what these options ask for
-  abbrev pub AskedCheck : {F X : Type 0} → Folders F X → F → List Given → Result Verdict RuledFailure → (streams streams' : Streams R W E Reads) → Type 0
+  abbrev pub AskedCheck : {F X : Type 0} → Folders F X → F → List Given
+      → Result Verdict RuledFailure → (streams streams' : Streams R W E Reads) → Type 0
   AskedCheck D folder given result streams streams' = Between Writes (RuledCheck K (call_of D folder given) result) streams streams'
 
 -- of a call that asks for this
@@ -416,8 +431,10 @@ pub record ChecksByRules {R W E : Type 0} {Reads : Readers R} (Writes : Writers 
   pub unwritten : has Summary call.given ≡ false → streams'.output ≡ streams.output
   pub flushed : has Summary call.given ≡ true → status < 2 → streams'.output.device.flushed ≡ true
 
-abbrev pub SaysOfRulesCheck : {R W E F X : Type 0} {Reads : Readers R} → Writers W → SinkGhosts E → Folders F X → F → List Given → ℕ → (streams streams' : Streams R W E Reads) → Type 0
-SaysOfRulesCheck Writes K D folder given status streams streams' = AsksForRulesCheck given → ChecksByRules Writes K (call_of D folder given) status streams streams'
+abbrev pub SaysOfRulesCheck : {R W E F X : Type 0} {Reads : Readers R} → Writers W → SinkGhosts E
+    → Folders F X → F → List Given → ℕ → (streams streams' : Streams R W E Reads) → Type 0
+SaysOfRulesCheck Writes K D folder given status streams streams' = AsksForRulesCheck given
+    → ChecksByRules Writes K (call_of D folder given) status streams streams'
 
 module _ {R W E F X : Type 0} {Reads : Readers R} (D : Folders F X) (folder : F) (given : List Given) (streams streams' : Streams R W E Reads) where
   -- of a call that asks for this each file was read to its end, and no line has a run, or one has

@@ -24,20 +24,25 @@ pub record HasRuns (covering : Covering) (runs : List Occurrence) (left left' : 
   pub are : runs ≡ all_of by_line
 
 -- and these are those of all files, one after another
-abbrev pub HaveRuns : (holds : List ℕ → Option (List ℕ)) → Covering → List (List ℕ) → List Occurrence → (left left' : Option (List ℕ)) → Type 0
+abbrev pub HaveRuns : (holds : List ℕ → Option (List ℕ)) → Covering
+    → List (List ℕ) → List Occurrence → (left left' : Option (List ℕ)) → Type 0
 HaveRuns holds covering [] runs left left' = (runs ≡ []) × (left' ≡ left)
 HaveRuns holds covering (name ∷ names) runs left left' = (first : List Occurrence) × (rest : List Occurrence) × (runs ≡ first ++ rest)
-    × (between : Option (List ℕ)) × OfName holds name (HasRuns covering first) left between × HaveRuns holds covering names rest between left'
+    × (between : Option (List ℕ)) × OfName holds name (HasRuns covering first) left between
+    × HaveRuns holds covering names rest between left'
 
 -- counts have grown by those of a text, of the file of a name, and of all files
 abbrev pub CountsTextRuns : Covering → (left left' : Option (List ℕ)) → (counts counts' : List ℕ) → Type 0
-CountsTextRuns covering left left' counts counts' = (runs : List Occurrence) × HasRuns covering runs left left' × CountsThese runs counts counts'
+CountsTextRuns covering left left' counts counts' =
+    (runs : List Occurrence) × HasRuns covering runs left left' × CountsThese runs counts counts'
 
-abbrev pub CountsFileRuns : (holds : List ℕ → Option (List ℕ)) → Covering → List ℕ → (left left' : Option (List ℕ)) → (counts counts' : List ℕ) → Type 0
+abbrev pub CountsFileRuns : (holds : List ℕ → Option (List ℕ)) → Covering
+    → List ℕ → (left left' : Option (List ℕ)) → (counts counts' : List ℕ) → Type 0
 CountsFileRuns holds covering name left left' counts counts' =
     (runs : List Occurrence) × OfName holds name (HasRuns covering runs) left left' × CountsThese runs counts counts'
 
-abbrev pub CountsAllRuns : (holds : List ℕ → Option (List ℕ)) → Covering → List (List ℕ) → (left left' : Option (List ℕ)) → (counts counts' : List ℕ) → Type 0
+abbrev pub CountsAllRuns : (holds : List ℕ → Option (List ℕ)) → Covering → List (List ℕ)
+    → (left left' : Option (List ℕ)) → (counts counts' : List ℕ) → Type 0
 CountsAllRuns holds covering names left left' counts counts' =
     (runs : List Occurrence) × HaveRuns holds covering names runs left left' × CountsThese runs counts counts'
 
@@ -70,7 +75,8 @@ runs_text given secrets rules counts volume = run_totals_text given (secrets_of 
 -- this may be told where they are asked for
 abbrev pub IsRunsLine : List Given → List ℕ → Type 0
 IsRunsLine given line =
-    (counts_asked given ≡ true) × (secrets : List Secret) × (rules : List Rule) × (counts : List ℕ) × (volume : Volume) × (line ≡ run_totals_text given secrets rules counts volume)
+    (counts_asked given ≡ true) × (secrets : List Secret) × (rules : List Rule) × (counts : List ℕ)
+    × (volume : Volume) × (line ≡ run_totals_text given secrets rules counts volume)
 
 module _ {E : Type 0} (K : SinkGhosts E) (given : List Given) (secrets : List Secret) (rules : List Rule) where
   -- these counts are told whole, and that so much was read
@@ -85,10 +91,13 @@ module _ {E : Type 0} (K : SinkGhosts E) (given : List Given) (secrets : List Se
     pub told : TellsRunCounts counts volume errors errors'
 
 -- where they are asked for, and else nothing is
-abbrev pub TellsAnyRuns : {E : Type 0} → SinkGhosts E → List Item → List PatternRule → List Rule → (counts : List ℕ) → Volume → (errors errors' : Errors E) → Type 0
+abbrev pub TellsAnyRuns : {E : Type 0} → SinkGhosts E → List Item → List PatternRule
+    → List Rule → (counts : List ℕ) → Volume → (errors errors' : Errors E) → Type 0
 TellsAnyRuns K items secrets rules counts volume errors errors' =
     MatchBool (counts_given items) (TellsRunCounts K (all_given items) (secrets_of secrets) rules counts volume errors errors') (errors' ≡ errors)
 
 -- the same of all runs
-abbrev pub TellsAnyTotals : {E : Type 0} → SinkGhosts E → List Given → List Secret → List Rule → List Occurrence → Volume → (errors errors' : Errors E) → Type 0
-TellsAnyTotals K given secrets rules runs volume errors errors' = MatchBool (counts_asked given) (TellsRunTotals K given secrets rules runs volume errors errors') (errors' ≡ errors)
+abbrev pub TellsAnyTotals : {E : Type 0} → SinkGhosts E → List Given → List Secret
+    → List Rule → List Occurrence → Volume → (errors errors' : Errors E) → Type 0
+TellsAnyTotals K given secrets rules runs volume errors errors' =
+    MatchBool (counts_asked given) (TellsRunTotals K given secrets rules runs volume errors errors') (errors' ≡ errors)

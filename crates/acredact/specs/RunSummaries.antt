@@ -19,7 +19,8 @@ bytes_in_json bytes = flat_map byte_in_json bytes
 
 -- a rule: its name, and how many runs have its number
 abbrev pub rule_object : Rule → ℕ → List ℕ
-rule_object rule count = codes "{\"id\":\"" ++ (bytes_in_json (string_bytes rule.id) ++ (codes "\",\"runs\":" ++ (decimal count ++ codes "}")))
+rule_object rule count =
+    codes "{\"id\":\"" ++ (bytes_in_json (string_bytes rule.id) ++ (codes "\",\"runs\":" ++ (decimal count ++ codes "}")))
 
 -- rules with a comma in front of each
 abbrev pub more_rules_listed : List Rule → (counts : List ℕ) → List ℕ

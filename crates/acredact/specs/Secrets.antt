@@ -46,7 +46,8 @@ pub record Redactor : Type 0 where
   pub key : Option Keyed
 
 abbrev pub redactor_by : Patterns → (covers words : Bool) → List (Bor (List ℕ)) → Redactor
-redactor_by p covers words replacements = record { patterns = p; covers = covers; words = words; pieces = pieces_of replacements; key = None }
+redactor_by p covers words replacements =
+    record { patterns = p; covers = covers; words = words; pieces = pieces_of replacements; key = None }
 
 -- what counts in a text: each occurrence of a pattern, or each that is a word, beside which no letter, digit or `_` stands
 abbrev pub CountsFor : Redactor → List ℕ → Occurrence → Type 0
@@ -83,7 +84,8 @@ IfOf G automaton Holds = (p : Patterns) → G.is_of automaton p → Holds p
 
 -- the ranges of a text that are replaced: the runs of its cover, or else its finds
 abbrev pub AreReplaced : Redactor → List ℕ → List Occurrence → Type 0
-AreReplaced r text ranges = MatchBool r.covers (AreRunsOf (CountsFor r text) ranges) (AreFinds r.patterns (plain_search text) None ranges)
+AreReplaced r text ranges =
+    MatchBool r.covers (AreRunsOf (CountsFor r text) ranges) (AreFinds r.patterns (plain_search text) None ranges)
 
 -- no secret is left: of a cover no byte of one, and else none whole
 abbrev pub NoSecretLeft : Redactor → List ℕ → List Occurrence → Type 0
@@ -111,7 +113,8 @@ IsPromptUpTo r given place = (at : ℕ) → place ≤ at → at < length (decide
 
 -- the redaction was written up to a place of all texts that begin with the bytes given
 abbrev pub IsWrittenUpTo : Redactor → List ℕ → Bool → ℕ → (held held' : Option (List ℕ)) → Type 0
-IsWrittenUpTo r given ended place held held' = (text : List ℕ) (ranges : List Occurrence) → MayBe given ended text → AreReplaced r text ranges
+IsWrittenUpTo r given ended place held held' = (text : List ℕ) (ranges : List Occurrence)
+    → MayBe given ended text → AreReplaced r text ranges
     → Appends held held' (covered_up_to text place 0 ranges (piece_in (rule_of r) text))
 
 -- an automaton of some patterns can search streams, or cover them, and there are as many replacements

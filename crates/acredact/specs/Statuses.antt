@@ -33,8 +33,10 @@ pub record CallStatus {R W E : Type 0} {Reads : Readers R} (Writes : Writers W) 
   pub numbers : TellsUpToEnd K call (OutputFails streams.output streams'.output) (bytes_left streams.input) (bytes_left streams'.input) streams.errors streams'.errors
 
 -- the same of a call that asks for a redaction
-abbrev pub SaysOfRedaction : {R W E F X : Type 0} {Reads : Readers R} → Writers W → SinkGhosts E → Folders F X → F → List Given → ℕ → (streams streams' : Streams R W E Reads) → Type 0
-SaysOfRedaction Writes K D folder given status streams streams' = AsksToRedact given → CallStatus Writes K (call_of D folder given) status streams streams'
+abbrev pub SaysOfRedaction : {R W E F X : Type 0} {Reads : Readers R} → Writers W → SinkGhosts E
+    → Folders F X → F → List Given → ℕ → (streams streams' : Streams R W E Reads) → Type 0
+SaysOfRedaction Writes K D folder given status streams streams' = AsksToRedact given
+    → CallStatus Writes K (call_of D folder given) status streams streams'
 
 -- what the status says of these options and files, whatever they ask for
 pub record SaysOfCall {R W E F X : Type 0} {Reads : Readers R} (Writes : Writers W) (K : SinkGhosts E) (D : Folders F X) (folder : F) (given : List Given) (status : ℕ) (streams streams' : Streams R W E Reads) : Type 0 where

@@ -25,7 +25,8 @@ share counted_for number count = if nat_eq counted_for number then count else 0
 abbrev pub sum_for : (number place : ℕ) → List Secret → (counts : List ℕ) → ℕ
 sum_for number place [] counts = 0
 sum_for number place (secret ∷ secrets) [] = 0
-sum_for number place (secret ∷ secrets) (count ∷ counts) = share (counts_for place secret) number count + sum_for number (place + 1) secrets counts
+sum_for number place (secret ∷ secrets) (count ∷ counts) =
+    share (counts_for place secret) number count + sum_for number (place + 1) secrets counts
 
 -- for each pattern that was given the sum of its count and those of its forms; it stops at the greatest number
 abbrev pub sums_of : List Secret → (counts : List ℕ) → List ℕ

@@ -62,7 +62,8 @@ module _ {R W : Type 0} (S : SourceGhosts R) (K : SinkGhosts W) (result : Result
 module _ {R : Type 0} {Reads : Readers R} where
   module _ {F X : Type 0} (D : Folders F X) (job : Job F) where
     -- where the file of a name was read to its end, counts have grown by its ranges
-    abbrev pub CountsFile : List ℕ → Result (Option Reason) StreamError → (input input' : FromRead R Reads) → (counts counts' : List ℕ) → Redactor → Type 0
+    abbrev pub CountsFile : List ℕ → Result (Option Reason) StreamError
+        → (input input' : FromRead R Reads) → (counts counts' : List ℕ) → Redactor → Type 0
     CountsFile name result input input' counts counts' r =
         result ≡ Ok None → CountsOfName (bytes_left input) (bytes_left input') counts counts' (work_of D job r) name
 

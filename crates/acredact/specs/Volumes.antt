@@ -51,7 +51,8 @@ module _ {F X : Type 0} (D : Folders F X) {R W E Z : Type 0} {Reads : Readers R}
       → AddsName (D.holds folder) name volume.bytes volume'.bytes (bytes_left streams.input) (bytes_left streams'.input)
 
   -- and so were all files
-  abbrev pub AllVolume : F → List (Bor (List ℕ)) → Result Bool Z → (volume volume' : Volume) → (streams streams' : Streams R W E Reads) → Type 0
+  abbrev pub AllVolume : F → List (Bor (List ℕ)) → Result Bool Z
+      → (volume volume' : Volume) → (streams streams' : Streams R W E Reads) → Type 0
   AllVolume folder names result volume volume' streams streams' = result ≡ Ok true
       → ReadsVolume (D.holds folder) (name_bytes names) volume volume' (bytes_left streams.input) (bytes_left streams'.input)
 

@@ -65,5 +65,7 @@ pub record ReadsFurther {A : Type 0} (automata : Automata A) (it it' : CoverIter
 -- with n given a call gives the run numbered n, or none where all were given
 pub record GivesRun {A : Type 0} (automata : Automata A) (it : CoverIter A) (given : Option Occurrence) (it' : CoverIter A) : Type 0 where
   pub over : IsOver it it'
-  pub given_is : (p : Patterns) (n : ℕ) → automata.is_of (automaton_in it) p → HasGivenRuns automata it p n → given ≡ slice_get (runs_in p (haystack_in it)) n
-  pub goes_on : (p : Patterns) (n : ℕ) → automata.is_of (automaton_in it) p → HasGivenRuns automata it p n → HasGivenRuns automata it' p (min (n + 1) (length (runs_in p (haystack_in it))))
+  pub given_is : (p : Patterns) (n : ℕ) → automata.is_of (automaton_in it) p
+      → HasGivenRuns automata it p n → given ≡ slice_get (runs_in p (haystack_in it)) n
+  pub goes_on : (p : Patterns) (n : ℕ) → automata.is_of (automaton_in it) p → HasGivenRuns automata it p n
+      → HasGivenRuns automata it' p (min (n + 1) (length (runs_in p (haystack_in it))))

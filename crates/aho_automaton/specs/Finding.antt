@@ -40,7 +40,8 @@ pub record GivesNext (IsOf : Patterns → Type 0) (search : Search) (last : Opti
 -- the matches that iteration gives first: as many as these, and more may follow
 abbrev pub AreFirstFinds : Patterns → Search → Option ℕ → List Occurrence → Type 0
 AreFirstFinds p search last [] = Unit {0}
-AreFirstFinds p search last (m ∷ ms) = IsNextFind p search last (Some m) × AreFirstFinds p (record search { start = m.end }) (Some m.end) ms
+AreFirstFinds p search last (m ∷ ms) =
+    IsNextFind p search last (Some m) × AreFirstFinds p (record search { start = m.end }) (Some m.end) ms
 
 -- an iterator whose calls give these gives all finds of the search, once it has come to its end
 abbrev pub GivesFinds : {S : Type 0} → (S → Option Occurrence → S → Type 0) → Patterns → Search → S → Type 0

@@ -10,4 +10,5 @@ CallsGive {S} steps s (given ∷ rest) t = (after : S) × steps s given after ×
 
 -- once a call gave none, every later one gives none
 abbrev pub IsFused : {S A : Type 0} → (S → Option A → S → Type 0) → S → Type 0
-IsFused {S} {A} steps s = (ms : List A) (u t : S) (rest : List (Option A)) → YieldsThen steps s ms None u → CallsGive steps u rest t → All (λ given. given ≡ None) rest
+IsFused {S} {A} steps s = (ms : List A) (u t : S) (rest : List (Option A))
+    → YieldsThen steps s ms None u → CallsGive steps u rest t → All (λ given. given ≡ None) rest

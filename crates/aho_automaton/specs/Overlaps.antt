@@ -23,7 +23,8 @@ NoneEnds p search from upto = (end : ℕ) → from < end → end < upto → list
 -- from a place the search comes to a later one, or to the end of its span, and nothing that is listed ends on the way
 abbrev pub WalksToPlace : (ℕ → Type 0) → (Anchored → List ℕ → ℕ → Type 0) → Patterns → Search → ℕ → Option (ℕ × ℕ) → Type 0
 WalksToPlace valid held p search at None = NoneEnds p search at (search.end + 1)
-WalksToPlace valid held p search at (Some (sid, place)) = (at < place) × StandsAt valid held p search sid place × NoneEnds p search at place
+WalksToPlace valid held p search at (Some (sid, place)) =
+    (at < place) × StandsAt valid held p search sid place × NoneEnds p search at place
 
 -- nor on the way to where it skips, with the same state
 abbrev pub SkipsTo : (ℕ → Type 0) → (Anchored → List ℕ → ℕ → Type 0) → Patterns → Search → ℕ → ℕ → Option ℕ → Type 0
@@ -48,17 +49,21 @@ abbrev pub left : ℕ → Search → Progress → ℕ
 left patterns search progress = left_from patterns search progress.id progress.at progress.next_match_index
 
 -- when `next` may be called: the search is not refused, and the state fits it
-pub record CanGive {A : Type 0} (is_of : A → Patterns → Type 0) (kind : A → MatchKind) (start : A → Anchored → Result ℕ MatchErrorKind) (valid : A → ℕ → Type 0) (held : A → Patterns → Anchored → List ℕ → ℕ → Type 0) (automaton : A) (search : Search) (progress : Progress) : Type 0 where
+pub record CanGive {A : Type 0} (is_of : A → Patterns → Type 0) (kind : A → MatchKind) (start : A → Anchored → Result ℕ MatchErrorKind) (valid : A → ℕ → Type 0)
+    (held : A → Patterns → Anchored → List ℕ → ℕ → Type 0) (automaton : A) (search : Search) (progress : Progress) : Type 0 where
   pub standard : kind automaton ≡ Standard
   pub first : (sid : ℕ) × (start automaton search.anchored ≡ Ok sid)
   pub fits : (p : Patterns) × (n : ℕ) × is_of automaton p × FitsSearch (valid automaton) (held automaton p) p search progress n
 
 -- a call of `next`: from a state that fits the search with n found it gives the one numbered n, or none where all were found
-pub record GivesOverlapping {A : Type 0} (is_of : A → Patterns → Type 0) (valid : A → ℕ → Type 0) (held : A → Patterns → Anchored → List ℕ → ℕ → Type 0) (automaton : A) (search : Search) (progress : Progress) (given : Option Occurrence) (automaton' : A) (search' : Search) (progress' : Progress) : Type 0 where
+pub record GivesOverlapping {A : Type 0} (is_of : A → Patterns → Type 0) (valid : A → ℕ → Type 0) (held : A → Patterns → Anchored → List ℕ → ℕ → Type 0)
+    (automaton : A) (search : Search) (progress : Progress) (given : Option Occurrence) (automaton' : A) (search' : Search) (progress' : Progress) : Type 0 where
   pub same_automaton : automaton' ≡ automaton
   pub same_search : search' ≡ search
-  pub given_is : (p : Patterns) (n : ℕ) → is_of automaton p → FitsSearch (valid automaton) (held automaton p) p search progress n → given ≡ slice_get (overlapping p search) n
-  pub fits : (p : Patterns) (n : ℕ) → is_of automaton p → FitsSearch (valid automaton) (held automaton p) p search progress n → FitsSearch (valid automaton) (held automaton p) p search progress' (min (n + 1) (length (overlapping p search)))
+  pub given_is : (p : Patterns) (n : ℕ) → is_of automaton p
+      → FitsSearch (valid automaton) (held automaton p) p search progress n → given ≡ slice_get (overlapping p search) n
+  pub fits : (p : Patterns) (n : ℕ) → is_of automaton p → FitsSearch (valid automaton) (held automaton p) p search progress n
+      → FitsSearch (valid automaton) (held automaton p) p search progress' (min (n + 1) (length (overlapping p search)))
 
 -- an iterator whose calls give these lists all occurrences of the span, once it has come to its end
 abbrev pub ListsAll : {S : Type 0} → (S → Option Occurrence → S → Type 0) → Patterns → Search → S → Type 0
@@ -75,12 +80,15 @@ abbrev pub FitsSome : (Patterns → Type 0) → (ℕ → Type 0) → (Patterns �
 FitsSome is_of valid held search progress = (p : Patterns) × (n : ℕ) × is_of p × FitsSearch valid (held p) p search progress n
 
 -- from a state that fits the search with n found a call finds the match numbered n, or none where all were found
-abbrev pub FindsNext : (Patterns → Type 0) → (ℕ → Type 0) → (Patterns → Anchored → List ℕ → ℕ → Type 0) → Search → Progress → Progress → Result (Unit {0}) MatchErrorKind → Type 0
+abbrev pub FindsNext : (Patterns → Type 0) → (ℕ → Type 0) → (Patterns → Anchored → List ℕ → ℕ → Type 0)
+    → Search → Progress → Progress → Result (Unit {0}) MatchErrorKind → Type 0
 FindsNext is_of valid held search old new result =
-    (p : Patterns) (n : ℕ) → is_of p → FitsSearch valid (held p) p search old n → IfOk result (λ _. new.mat ≡ slice_get (overlapping p search) n)
+    (p : Patterns) (n : ℕ) → is_of p → FitsSearch valid (held p) p search old n
+    → IfOk result (λ _. new.mat ≡ slice_get (overlapping p search) n)
 
 -- and then it fits with one more found
-abbrev pub FitsNext : (Patterns → Type 0) → (ℕ → Type 0) → (Patterns → Anchored → List ℕ → ℕ → Type 0) → Search → Progress → Progress → Result (Unit {0}) MatchErrorKind → Type 0
+abbrev pub FitsNext : (Patterns → Type 0) → (ℕ → Type 0) → (Patterns → Anchored → List ℕ → ℕ → Type 0)
+    → Search → Progress → Progress → Result (Unit {0}) MatchErrorKind → Type 0
 FitsNext is_of valid held search old new result =
     (p : Patterns) (n : ℕ) → is_of p → FitsSearch valid (held p) p search old n
     → IfOk result (λ _. FitsSearch valid (held p) p search new (min (n + 1) (length (overlapping p search))))
@@ -88,7 +96,8 @@ FitsNext is_of valid held search old new result =
 -- where no search has begun, a start that is refused refuses a search that is not done
 abbrev pub RefusesFirst : MatchKind → (Anchored → Result ℕ MatchErrorKind) → Search → Progress → Result (Unit {0}) MatchErrorKind → Type 0
 RefusesFirst kind start search old result =
-    (reason : MatchErrorKind) → kind ≡ Standard → old.id ≡ None → search.start ≤ search.end → start search.anchored ≡ Err reason → result ≡ Err reason
+    (reason : MatchErrorKind) → kind ≡ Standard → old.id ≡ None → search.start ≤ search.end
+    → start search.anchored ≡ Err reason → result ≡ Err reason
 
 -- what is found in a span that starts above its end: nothing, and only the last match is forgotten
 abbrev pub FindsNothing : Progress → Progress → Result (Unit {0}) MatchErrorKind → Type 0

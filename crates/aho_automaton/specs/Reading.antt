@@ -28,4 +28,5 @@ ReadsNear automata a text before after earliest m =
 
 -- nothing was read, or nothing further from the start of a search than the longest pattern and one byte
 abbrev pub ReadsLongest : {A S : Type 0} → Automata A → A → Texts S → S → S → ℕ → Type 0
-ReadsLongest automata a text before after start = ReadsUpTo (text.next before) (text.next after) (start + longest (automata.lengths a) + 1)
+ReadsLongest automata a text before after start =
+    ReadsUpTo (text.next before) (text.next after) (start + longest (automata.lengths a) + 1)

@@ -1,11 +1,10 @@
 -- Where an overlapping search over an automaton stands, and how it goes on. All is said of each list of patterns that the
 -- automaton is of.
-use Rattle.std.specs.Prelude.{◌≡◌, ℕ, ◌+◌, min, length, Option, Some, IfSome, slice_get}
+use Rattle.std.specs.Prelude.{◌≡◌, ℕ, ◌+◌, min, length, Option, slice_get}
 use Rattle.aho_core.specs.Overlapping.{overlapping}
 use Rattle.aho_core.specs.Patterns.{Patterns}
 use Rattle.aho_core.specs.Progress.{FitsFrom, IsPartWay, Progress, StandsAt}
 use Rattle.aho_core.specs.Search.{Search}
-use Rattle.aho_prefilter.specs.declared.prefilter.Searcher.{Searcher}
 use Rattle.aho_automaton.specs.Overlaps.{SkipsTo, WalksToPlace, left, left_at}
 use Rattle.aho_automaton.specs.declared.automaton.Automaton.{Ghosts as Automata}
 
@@ -28,7 +27,8 @@ module _ {A : Type 0} (automata : Automata A) (a : A) (search : Search) where
 
   -- a number of matches were found, some of those that end at the place among them
   abbrev pub StandsPartWay : ℕ → ℕ → ℕ → Type 0
-  StandsPartWay sid at index = (p : Patterns) × (n : ℕ) × automata.is_of a p × IsPartWay (automata.valid a) (automata.held a p) p search sid at index n
+  StandsPartWay sid at index =
+      (p : Patterns) × (n : ℕ) × automata.is_of a p × IsPartWay (automata.valid a) (automata.held a p) p search sid at index n
 
   -- the next one is found
   abbrev pub FindsFrom : ℕ → ℕ → ℕ → Progress → Type 0
@@ -48,7 +48,3 @@ module _ {A : Type 0} (automata : Automata A) (a : A) (search : Search) where
 
   abbrev pub left_from_place : ℕ → ℕ → ℕ
   left_from_place at index = left_at (length (automata.lengths a)) search at index
-
--- what is held is the automaton's own prefilter
-abbrev pub HoldsOwn : {A : Type 0} → Automata A → A → Option Searcher → Type 0
-HoldsOwn automata a held = IfSome held (λ searcher. automata.prefilter a ≡ Some searcher)

@@ -31,7 +31,8 @@ state_back states place = slice_index states (length states - 1 - place)
 pub record AreHeldBack {A : Type 0} (G : Automata A) (a : A) (bytes states : List ℕ) : Type 0 where
   pub one_each : length states ≡ length bytes
   pub valid : EachIndex bytes (λ place. G.valid a (state_back states place))
-  pub held : (q : Patterns) → G.is_of a q → EachIndex bytes (λ place. G.held a q No (reverse (drop place bytes)) (state_back states place))
+  pub held : (q : Patterns) → G.is_of a q
+      → EachIndex bytes (λ place. G.held a q No (reverse (drop place bytes)) (state_back states place))
 
 -- what a state's list tells at a place: its first pattern begins there, under the number that it was given
 abbrev pub told_back : List ℕ → List ℕ → ℕ → List ℕ → Option Occurrence
@@ -51,12 +52,16 @@ pub record TellsBlock {A : Type 0} (G : Automata A) (a : A) (given : List ℕ) (
   pub one_each : length given ≡ length (G.lengths a)
   pub within : block.end ≤ length haystack
   pub covers : block.end ≤ block.start + length states
-  pub tells : (place : ℕ) → block.start ≤ place → place < block.end → TellsAt G a given p haystack place (state_back states (place - block.start))
+  pub tells : (place : ℕ) → block.start ≤ place → place < block.end
+      → TellsAt G a given p haystack place (state_back states (place - block.start))
 
 -- these finds, and those from a place on behind them, are all finds of a haystack
 abbrev pub FindsUpTo : Patterns → List ℕ → ℕ → List Occurrence → Type 0
-FindsUpTo p haystack place found = (ms : List Occurrence) → AreFindsWithin p haystack place (length haystack) ms → AreFindsOf p haystack (found ++ ms)
+FindsUpTo p haystack place found = (ms : List Occurrence)
+    → AreFindsWithin p haystack place (length haystack) ms → AreFindsOf p haystack (found ++ ms)
 
 -- so it is said of all finds of a haystack, by each patterns that the automaton is turned from
-abbrev pub ForTurnedFinds : {A : Type 0} → Automata A → A → List ℕ → List ℕ → ((List Occurrence → Type 0) → Type 0) → Type 0
-ForTurnedFinds G a given haystack Says = (p : Patterns) → IsTurnedFrom G a given p → Says (AreFinds p (plain_search haystack) None)
+abbrev pub ForTurnedFinds : {A : Type 0} → Automata A → A → List ℕ
+    → List ℕ → ((List Occurrence → Type 0) → Type 0) → Type 0
+ForTurnedFinds G a given haystack Says = (p : Patterns)
+    → IsTurnedFrom G a given p → Says (AreFinds p (plain_search haystack) None)

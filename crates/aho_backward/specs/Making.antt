@@ -50,4 +50,5 @@ MakesNone p (Build error) = (p.kind ≢ Standard) × NoneIsEmpty p × IsUnbuilt 
 
 -- so it is said of the patterns of these words and this case rule that an automaton is of
 abbrev pub ForPatternsOf : {A : Type 0} → Automata A → A → List (List ℕ) → Bool → (Patterns → Type 0) → Type 0
-ForPatternsOf G a words ignore_case Says = (p : Patterns) → G.is_of a p → p.words ≡ words → p.ignore_case ≡ ignore_case → Says p
+ForPatternsOf G a words ignore_case Says = (p : Patterns) → G.is_of a p
+    → p.words ≡ words → p.ignore_case ≡ ignore_case → Says p

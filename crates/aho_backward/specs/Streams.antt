@@ -25,7 +25,8 @@ use Rattle.aho_backward.specs.Backward.{IsTurnedFrom}
 pub record AreHeldAt {A : Type 0} (G : Automata A) (a : A) (bytes states : List ℕ) : Type 0 where
   pub room : length bytes ≤ length states
   pub valid : EachIndex bytes (λ place. G.valid a (slice_index states place))
-  pub held : (q : Patterns) → G.is_of a q → EachIndex bytes (λ place. G.held a q No (reverse (drop place bytes)) (slice_index states place))
+  pub held : (q : Patterns) → G.is_of a q
+      → EachIndex bytes (λ place. G.held a q No (reverse (drop place bytes)) (slice_index states place))
 
 -- the bytes are a text's from a place on, and what begins before the last ones, so many as lie behind, ends in them: they reach to
 -- the text's end, or no pattern is longer by more than one byte than what lies behind
@@ -46,9 +47,12 @@ pub record StandsBefore (p : Patterns) (pieces : List (List ℕ)) (text : List �
       → replaced_up_to text further 0 finds (piece_for pieces) ≡ written ++ replaced_up_to text further place rest (piece_for pieces)
 
 -- of a block: what is said of each text of whose bytes it is a part, and of what stands for all before it
-abbrev pub ForItsTexts : {A : Type 0} → Automata A → A → List ℕ → List ℕ → ℕ → List (List ℕ) → (Patterns → List ℕ → List Occurrence → ℕ → List ℕ → Type 0) → Type 0
-ForItsTexts G a given bytes behind pieces Says = (p : Patterns) (text : List ℕ) (first : ℕ) (finds : List Occurrence) (written : List ℕ)
-    → IsBlockOf G a given bytes behind p text first → StandsBefore p pieces text finds first written → Says p text finds first written
+abbrev pub ForItsTexts : {A : Type 0} → Automata A → A → List ℕ → List ℕ → ℕ
+    → List (List ℕ) → (Patterns → List ℕ → List Occurrence → ℕ → List ℕ → Type 0) → Type 0
+ForItsTexts G a given bytes behind pieces Says =
+    (p : Patterns) (text : List ℕ) (first : ℕ) (finds : List Occurrence) (written : List ℕ)
+    → IsBlockOf G a given bytes behind p text first
+    → StandsBefore p pieces text finds first written → Says p text finds first written
 
 -- some bytes were written, and with them it stands for so many bytes more
 pub record WritesMore {A W : Type 0} (G : Automata A) (K : SinkGhosts W) (a : A) (given bytes : List ℕ) (behind : ℕ) (pieces : List (List ℕ)) (sink sink' : W) (count : ℕ) : Type 0 where
@@ -87,7 +91,8 @@ module _ {R W : Type 0} (S : SourceGhosts R) (K : SinkGhosts W) (AreSearched : P
     pub place : ℕ
     pub within : place ≤ length given
     pub near : (p : Patterns) → AreSearched p → length given ≤ place + held_back (map length p.words)
-    pub writes : (p : Patterns) (bytes : List ℕ) (finds : List Occurrence) → AreSearched p → MayBe given ended bytes → AreFinds p (plain_search bytes) None finds
+    pub writes : (p : Patterns) (bytes : List ℕ) (finds : List Occurrence) → AreSearched p
+        → MayBe given ended bytes → AreFinds p (plain_search bytes) None finds
         → Appends (K.taken sink) (K.taken sink') (replaced_up_to bytes place 0 finds (piece_for pieces))
 
   -- what a replacement leaves that answers so, of a source that may give so many bytes: all of it was written, or a beginning, and

@@ -14,12 +14,14 @@ size_of p number = length (pattern_at p number)
 -- the pattern is the best of all patterns that begin it. No other is ever found by a leftmost kind: wherever it begins, a better
 -- one does
 abbrev pub IsLeader : Patterns → ℕ → Type 0
-IsLeader p number = IsBest p.kind (Occurs p Yes (pattern_at p number) 0 (size_of p number)) (occurrence 0 (size_of p number) number)
+IsLeader p number =
+    IsBest p.kind (Occurs p Yes (pattern_at p number) 0 (size_of p number)) (occurrence 0 (size_of p number) number)
 
 -- these are the numbers of the patterns that lead, and of no others
 pub record AreLeading (p : Patterns) (given : List ℕ) : Type 0 where
   pub each : EachIndex given (λ i. (slice_index given i < length p.words) × IsLeader p (slice_index given i))
-  pub all : (number : ℕ) → number < length p.words → IsLeader p number → SomeIndex given (λ i. slice_index given i ≡ number)
+  pub all : (number : ℕ) → number < length p.words → IsLeader p number
+      → SomeIndex given (λ i. slice_index given i ≡ number)
 
 -- the words of these numbers, each with its last byte first
 abbrev pub turned_words_of : List (List ℕ) → List ℕ → List (List ℕ)

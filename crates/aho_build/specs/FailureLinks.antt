@@ -111,9 +111,11 @@ unlinked_count states = sum_by (λ (state : State). if nat_eq state.fail fail_id
 -- why the links were not all made, once the build has come so far: more patterns were not copied
 abbrev pub IsLinkingRefusal : MatchKind → List ℕ → ℕ → ℕ → Tables → BuildError → Type 0
 IsLinkingRefusal kind queue head part table error =
-    (p : Patterns) → p.kind ≡ kind → IsLinking p (names_before p (length p.words)) queue head part table.states → matches_in table.states fail_id ≡ [] → IsRefusalOf table.limit (matches_size p) error
+    (p : Patterns) → p.kind ≡ kind → IsLinking p (names_before p (length p.words)) queue head part table.states
+    → matches_in table.states fail_id ≡ [] → IsRefusalOf table.limit (matches_size p) error
 
 -- or before the first one is made
 abbrev pub IsReadyRefusal : MatchKind → Tables → BuildError → Type 0
 IsReadyRefusal kind table error =
-    (p : Patterns) → p.kind ≡ kind → IsReady p (names_before p (length p.words)) table.states → matches_in table.states fail_id ≡ [] → IsRefusalOf table.limit (matches_size p) error
+    (p : Patterns) → p.kind ≡ kind → IsReady p (names_before p (length p.words)) table.states
+    → matches_in table.states fail_id ≡ [] → IsRefusalOf table.limit (matches_size p) error

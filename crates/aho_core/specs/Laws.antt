@@ -63,7 +63,8 @@ pub record Reads {S : Type 0} (p : Patterns) (kind : MatchKind) (lengths : List 
   pub listed : (anchored : Anchored) (w : List ℕ) (s : S) → held anchored w s → Fits lengths (length w) (list s)
   -- the first pattern is the best: before the first byte, and after one more byte from the best before that byte
   pub at_start : (anchored : Anchored) (s : S) → held anchored [] s → BestAfter p anchored [] (told lengths anchored 0 0 (list s))
-  pub after_byte : (anchored : Anchored) (w : List ℕ) (byte : ℕ) (s : S) (best : Option Occurrence) → held anchored (w ++ byte ∷ []) s → BestAfter p anchored w best → BestAfter p anchored (w ++ byte ∷ []) (better kind best (told lengths anchored 0 (length w + 1) (list s)))
+  pub after_byte : (anchored : Anchored) (w : List ℕ) (byte : ℕ) (s : S) (best : Option Occurrence) → held anchored (w ++ byte ∷ []) s → BestAfter p anchored w best
+      → BestAfter p anchored (w ++ byte ∷ []) (better kind best (told lengths anchored 0 (length w + 1) (list s)))
   -- dead is final: it lists nothing, and whatever follows, the best stays
   pub dead_lists_none : (s : S) → dead s ≡ true → list s ≡ []
   pub dead_keeps : (anchored : Anchored) (w v : List ℕ) (s : S) (best : Option Occurrence) → held anchored w s → dead s ≡ true → BestAfter p anchored w best → BestAfter p anchored (w ++ v) best

@@ -1,5 +1,5 @@
 -- Runs that are counted, some after others.
-use Rattle.std.proofs.Common.{◌≡◌, ℕ, ◌+◌, ◌<◌, ◌≤◌, Bool, true, false, List, [], ◌∷◌, ◌++◌, length, refl, ◌∙◌, ap, arith, append-nil}
+use Rattle.std.proofs.Common.{◌≡◌, ℕ, ◌+◌, Bool, true, false, List, [], ◌∷◌, ◌++◌, length, refl, ◌∙◌, ap, arith, append-nil}
 use Rattle.std.specs.Prelude.{filter, if◌then◌else◌, nat_eq}
 use Rattle.aho_core.specs.Occurrence.{Occurrence}
 use Rattle.aho_cover.specs.Counting.{CountsThese, Output, output_of, put_on, runs_named}

@@ -55,7 +55,8 @@ module _ {R W : Type 0} (S : SourceGhosts R) (K : SinkGhosts W) (AreSearched : P
     pub gives : SourceGave S source source' given ended
     pub written : List ℕ
     pub writes : Appends (K.taken sink) (K.taken sink') written
-    pub beginning : (p : Patterns) (bytes output : List ℕ) → AreSearched p → MayBe given ended bytes → IsCoverWith words p bytes rule output → StartsWith output written
+    pub beginning : (p : Patterns) (bytes output : List ℕ) → AreSearched p → MayBe given ended bytes
+        → IsCoverWith words p bytes rule output → StartsWith output written
 
   -- the cover was written up to a place, whatever bytes may follow: each byte behind it lies in a match of the bytes given, or among
   -- the last that begin a pattern. So at most as many are given from it on as the longest pattern has, and one more where words are asked for
@@ -65,8 +66,10 @@ module _ {R W : Type 0} (S : SourceGhosts R) (K : SinkGhosts W) (AreSearched : P
     pub gives : SourceGave S source source' given ended
     pub place : ℕ
     pub within : place ≤ length given
-    pub near : (p : Patterns) (at : ℕ) → AreSearched p → place ≤ at → (IsCovered (CountsIn words p given) at → ⊥) → length given ≤ at + kept_with words (map length p.words)
-    pub prompt : (p : Patterns) (at : ℕ) → AreSearched p → place ≤ at → at < length (decided_of words given) → (IsCovered (CountsIn words p given) at → ⊥) → MayGoOn p (decided_of words given) at
+    pub near : (p : Patterns) (at : ℕ) → AreSearched p → place ≤ at
+        → (IsCovered (CountsIn words p given) at → ⊥) → length given ≤ at + kept_with words (map length p.words)
+    pub prompt : (p : Patterns) (at : ℕ) → AreSearched p → place ≤ at → at < length (decided_of words given)
+        → (IsCovered (CountsIn words p given) at → ⊥) → MayGoOn p (decided_of words given) at
     pub writes : (p : Patterns) (bytes : List ℕ) (runs : List Occurrence) → AreSearched p → MayBe given ended bytes → AreRunsWith words p bytes runs
         → Appends (K.taken sink) (K.taken sink') (covered_up_to bytes place 0 runs (piece_in rule bytes))
 
@@ -133,14 +136,7 @@ module _ {R W : Type 0} (S : SourceGhosts R) (K : SinkGhosts W) (AreSearched : P
     pub counted : OnOk result (CountsRunsWith S AreSearched words source source' counts counts')
     pub begun : OnErr result CountsWrittenWith
 
--- of all that occurs
-abbrev pub CountsRuns : {R : Type 0} → SourceGhosts R → (Patterns → Type 0) → R → R → List ℕ → List ℕ → Type 0
-CountsRuns S AreSearched source source' counts counts' = CountsRunsWith S AreSearched false source source' counts counts'
-
 module _ {R W : Type 0} (S : SourceGhosts R) (K : SinkGhosts W) (AreSearched : Patterns → Type 0) (rule : PieceRule) (source source' : R) (sink sink' : W) (counts counts' : List ℕ) where
-  abbrev pub CountsWritten : Type 0
-  CountsWritten = CountsWrittenWith S K AreSearched false rule source source' sink sink' counts counts'
-
   abbrev pub LeavesCounted : Result (Unit {0}) StreamError → Type 0
   LeavesCounted result = LeavesCountedWith S K AreSearched false rule source source' sink sink' counts counts' result
 

@@ -1,5 +1,5 @@
 -- The piece of a run, made of the number of its pattern and of its bytes.
-use Rattle.std.specs.Prelude.{◌≡◌, ℕ, Bool, false, List, [], ◌∷◌, ◌++◌, slice_index_or, slice_range}
+use Rattle.std.specs.Prelude.{◌≡◌, ℕ, Bool, List, [], ◌∷◌, ◌++◌, slice_index_or, slice_range}
 use Rattle.std.specs.Io.{StartsWith}
 use Rattle.aho_core.specs.Occurrence.{Occurrence}
 use Rattle.aho_core.specs.Patterns.{Patterns}
@@ -26,15 +26,13 @@ covered_through haystack at (run ∷ runs) piece = slice_range haystack at run.s
 -- of a cover these first runs were written with their pieces, and nothing behind the piece of the run that follows them
 pub record EndsAmong (haystack : List ℕ) (piece : Occurrence → List ℕ) (first later : List Occurrence) (written : List ℕ) : Type 0 where
   pub whole : StartsWith written (covered_through haystack 0 first piece)
-  pub no_more : (next : Occurrence) (rest : List Occurrence) → later ≡ next ∷ rest → StartsWith (covered_through haystack 0 (first ++ next ∷ []) piece) written
+  pub no_more : (next : Occurrence) (rest : List Occurrence) → later ≡ next ∷ rest
+      → StartsWith (covered_through haystack 0 (first ++ next ∷ []) piece) written
 
 -- the cover of a text: each run is replaced by the piece that is made of it. Of all that occurs, or of the words alone
 abbrev pub IsCoverWith : (words : Bool) → Patterns → List ℕ → PieceRule → List ℕ → Type 0
-IsCoverWith words p haystack rule output = (runs : List Occurrence) × AreRunsWith words p haystack runs × (output ≡ replaced_by haystack runs (piece_in rule haystack))
-
--- of all that occurs
-abbrev pub IsCoverBy : Patterns → List ℕ → PieceRule → List ℕ → Type 0
-IsCoverBy p haystack rule output = IsCoverWith false p haystack rule output
+IsCoverWith words p haystack rule output =
+    (runs : List Occurrence) × AreRunsWith words p haystack runs × (output ≡ replaced_by haystack runs (piece_in rule haystack))
 
 -- as it is computed
 abbrev pub cover_with : (words : Bool) → Patterns → List ℕ → PieceRule → List ℕ

@@ -18,7 +18,8 @@ use Rattle.aho_cover.specs.Words.{all_runs, ending_with, kept_with, runs_with}
 
 -- before the first byte
 abbrev pub unbegun_cover : Buffered → Hand → ℕ → Bool → CoverProgress
-unbegun_cover buffer hand sid words = record { buffer = buffer; read = 0; since = 0; copied = 0; fed = 0; sid = sid; hand = hand; words = words; ended = false }
+unbegun_cover buffer hand sid words =
+    record { buffer = buffer; read = 0; since = 0; copied = 0; fed = 0; sid = sid; hand = hand; words = words; ended = false }
 
 -- how many of the bytes that were read wait for the next: the last one, where words are asked for and the end was not seen
 abbrev pub waiting : (words ended : Bool) → ℕ

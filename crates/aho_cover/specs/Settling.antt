@@ -23,11 +23,13 @@ StopsSettling K Q sink sink' counts counts' pieces place s = (at : ℕ) → Writ
 
 -- bytes that no run holds were written up to such a place
 abbrev pub WritesOutside : {W : Type 0} → SinkGhosts W → W → W → ℕ → CoverProgress → CoverProgress → Type 0
-WritesOutside K sink sink' place s s' = (at : ℕ) (rule : PieceRule) (counts : List ℕ) → WritesOn K sink sink' counts counts (ClearlyCovered rule s at place) (HasCovered rule s' at)
+WritesOutside K sink sink' place s s' = (at : ℕ) (rule : PieceRule) (counts : List ℕ)
+    → WritesOn K sink sink' counts counts (ClearlyCovered rule s at place) (HasCovered rule s' at)
 
 -- a write of them failed
 abbrev pub StopsOutside : {W : Type 0} → SinkGhosts W → W → W → ℕ → CoverProgress → Type 0
-StopsOutside K sink sink' place s = (at : ℕ) (rule : PieceRule) (counts : List ℕ) → WritesOn K sink sink' counts counts (ClearlyCovered rule s at place) (IsBeginning s.words rule)
+StopsOutside K sink sink' place s = (at : ℕ) (rule : PieceRule) (counts : List ℕ)
+    → WritesOn K sink sink' counts counts (ClearlyCovered rule s at place) (IsBeginning s.words rule)
 
 -- a write failed, once so many bytes were walked
 abbrev pub StopsAt : {W P : Type 0} → SinkGhosts W → PieceGhosts P → W → W → List ℕ → List ℕ → P → CoverProgress → ℕ → Type 0
@@ -36,5 +38,6 @@ StopsAt K Q sink sink' counts counts' pieces s at = WritesOn K sink sink' counts
 
 -- more of the first run was fed: what was covered, of all that could be walked, is the same
 abbrev pub FeedsFirst : {P : Type 0} → PieceGhosts P → P → P → CoverProgress → CoverProgress → Type 0
-FeedsFirst Q pieces pieces' s s' = (written : Output) (p : Patterns) (haystack : List ℕ) → Feeding (Q.holds pieces) s (HasCovered (Q.rule pieces) s (walk_end s)) p haystack written
+FeedsFirst Q pieces pieces' s s' = (written : Output) (p : Patterns) (haystack : List ℕ)
+    → Feeding (Q.holds pieces) s (HasCovered (Q.rule pieces) s (walk_end s)) p haystack written
     → Feeding (Q.holds pieces') s' (HasCovered (Q.rule pieces) s' (walk_end s)) p haystack written

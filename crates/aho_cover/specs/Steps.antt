@@ -27,14 +27,16 @@ abbrev pub CoversFed : {A P : Type 0} → Automata A → PieceGhosts P → A →
 CoversFed G Q a pieces s at = Feeding (Q.holds pieces) s (CoversOn G a (Q.rule pieces) s at)
 
 -- a walk from one place to another writes and counts what settles on its way
-abbrev pub WalksAlong : {A W P : Type 0} → Automata A → SinkGhosts W → PieceGhosts P → A → P → P → W → W → List ℕ → List ℕ → CoverProgress → ℕ → CoverProgress → ℕ → Type 0
+abbrev pub WalksAlong : {A W P : Type 0} → Automata A → SinkGhosts W → PieceGhosts P → A
+    → P → P → W → W → List ℕ → List ℕ → CoverProgress → ℕ → CoverProgress → ℕ → Type 0
 WalksAlong G K Q a pieces pieces' sink sink' counts counts' s at s' at' = WritesOn K sink sink' counts counts'
     (Feeding (Q.holds pieces) s (CoversOn G a (Q.rule pieces) s at))
     (Feeding (Q.holds pieces') s' (CoversOn G a (Q.rule pieces) s' at'))
 
 -- what was covered up to one place is covered up to another, and nothing was written in between
 abbrev pub PassesOver : {A : Type 0} → Automata A → A → CoverProgress → ℕ → CoverProgress → ℕ → Type 0
-PassesOver G a s at s' at' = (rule : PieceRule) (p : Patterns) (haystack : List ℕ) (written : Output) → CoversOn G a rule s at p haystack written → CoversOn G a rule s' at' p haystack written
+PassesOver G a s at s' at' = (rule : PieceRule) (p : Patterns) (haystack : List ℕ) (written : Output)
+    → CoversOn G a rule s at p haystack written → CoversOn G a rule s' at' p haystack written
 
 -- the walk may go on, with so many bytes walked
 pub record CanWalk {A : Type 0} (G : Automata A) (walk : Counted A) (rule : PieceRule) (holds : List ℕ → Type 0) (s : CoverProgress) (at : ℕ) : Type 0 where
@@ -42,7 +44,8 @@ pub record CanWalk {A : Type 0} (G : Automata A) (walk : Counted A) (rule : Piec
   pub no_empty : 1 ≤ shortest (G.lengths walk.automaton.now)
   pub is_state : G.valid walk.automaton.now s.sid
   pub cheap : walk.work + G.depth walk.automaton.now s.sid ≤ 2 * at
-  pub stands : (p : Patterns) × (haystack : List ℕ) × (written : Output) × Feeding holds s (CoversOn G walk.automaton.now rule s at) p haystack written
+  pub stands : (p : Patterns) × (haystack : List ℕ) × (written : Output)
+      × Feeding holds s (CoversOn G walk.automaton.now rule s at) p haystack written
 
 -- the buffer may be rolled: each byte that was not written and lies in no run in hand is among those that a roll keeps
 abbrev pub MayRoll : CoverProgress → Type 0
@@ -66,4 +69,5 @@ CoversToEnd G a rule holds s at p haystack written = Feeding holds s (CoversOn G
 
 -- of some such stream
 abbrev pub CoversSomeToEnd : {A : Type 0} → Automata A → A → PieceRule → (List ℕ → Type 0) → CoverProgress → ℕ → Type 0
-CoversSomeToEnd G a rule holds s at = (p : Patterns) × (haystack : List ℕ) × (written : Output) × CoversToEnd G a rule holds s at p haystack written
+CoversSomeToEnd G a rule holds s at =
+    (p : Patterns) × (haystack : List ℕ) × (written : Output) × CoversToEnd G a rule holds s at p haystack written

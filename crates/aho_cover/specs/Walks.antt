@@ -45,4 +45,5 @@ LiesAheadOfSome G a at sid bytes = (p : Patterns) × (haystack : List ℕ) × Li
 
 -- a walk on from there, whatever the text is
 abbrev pub ReachesFrom : {A : Type 0} → Automata A → A → ℕ → ℕ → List ℕ → Reached → Type 0
-ReachesFrom G a at sid bytes reached = (p : Patterns) (haystack : List ℕ) → LiesAhead G a at sid bytes p haystack → Reaches G a p haystack at reached
+ReachesFrom G a at sid bytes reached = (p : Patterns) (haystack : List ℕ)
+    → LiesAhead G a at sid bytes p haystack → Reaches G a p haystack at reached

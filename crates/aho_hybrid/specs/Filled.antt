@@ -70,7 +70,8 @@ pub record AreStateNumbers (row_depth : ℕ) (states : List State) (classes : Li
 -- how deep the states below the count are that have a row, in the order of the rows
 pub record AreDepths (row_depth : ℕ) (states : List State) (count : ℕ) (depths : List ℕ) : Type 0 where
   pub sized : length depths ≡ rows_count row_depth (take count states)
-  pub depth : (sid : ℕ) → sid < count → is_deep row_depth (state_at states sid) ≡ false → slice_index_or depths (rows_count row_depth (take sid states)) 0 ≡ depth_in states sid
+  pub depth : (sid : ℕ) → sid < count → is_deep row_depth (state_at states sid) ≡ false
+      → slice_index_or depths (rows_count row_depth (take sid states)) 0 ≡ depth_in states sid
 
 -- ---- lists and transitions
 
@@ -184,7 +185,8 @@ rows_refusal nfa row_depth =
 
 -- why the states are refused, with rows for at most so many bytes
 abbrev pub IsRowsRefusal : NFA → ℕ → BuildError → Type 0
-IsRowsRefusal nfa budget error = (row_depth : ℕ) × IsRowDepth (states_of nfa) (classes_of nfa) budget row_depth × (error ≡ rows_refusal nfa row_depth)
+IsRowsRefusal nfa budget error =
+    (row_depth : ℕ) × IsRowDepth (states_of nfa) (classes_of nfa) budget row_depth × (error ≡ rows_refusal nfa row_depth)
 
 -- ---- rows
 
@@ -272,7 +274,8 @@ pub record AreRows (plan : Parts) (count : ℕ) (entries : List ℕ) (low : ℕ)
   pub sized : length entries ≡ row_in plan count
   pub entry : (i class : ℕ) → i < count → IsShallow plan i → class < class_count plan.classes
       → slice_index_or entries (row_in plan i + class) 0 ≡ number_in plan (leads_in plan (source_in plan.special i) class)
-  pub step : (i class : ℕ) → i < count → IsShallow plan i → class < class_count plan.classes → IsStep plan.states (source_in plan.special i) (slice_index_or plan.firsts class 0)
+  pub step : (i class : ℕ) → i < count → IsShallow plan i → class < class_count plan.classes
+      → IsStep plan.states (source_in plan.special i) (slice_index_or plan.firsts class 0)
   pub listed : (i : ℕ) → i < count → IsShallow plan i → IsListAt plan.lists (slice_index_or entries (row_in plan i + class_count plan.classes) 0) (matches_in plan.states (source_in plan.special i))
   pub others : (i : ℕ) → i < count → IsShallow plan i → low ≤ row_in plan i → matches_in plan.states (source_in plan.special i) ≡ []
   pub some : 0 < low
@@ -304,7 +307,8 @@ pub record IsNear (plan : Parts) (sid : ℕ) (entries : List ℕ) (near : Near) 
 -- each byte that is not taken leads from the one state as it leads from the other
 abbrev pub AreAlike : List State → List Bool → ℕ → ℕ → Type 0
 AreAlike states taken sid at =
-    (byte : ℕ) → byte < 256 → slice_index_or taken byte true ≡ false → IsState states at × (step_in states No at byte ≡ step_in states No sid byte)
+    (byte : ℕ) → byte < 256 → slice_index_or taken byte true ≡ false
+    → IsState states at × (step_in states No at byte ≡ step_in states No sid byte)
 
 -- ---- records
 
@@ -358,7 +362,8 @@ pub record IsListing (plan : Parts) (count sid : ℕ) : Type 0 where
 
 -- a low number of the rows is 1, or no further than the row of a state that lists a pattern
 abbrev pub IsLowOfRows : Parts → ℕ → ℕ → Type 0
-IsLowOfRows plan count low = (low ≤ 1) ⊎ ((sid : ℕ) × IsListing plan count sid × IsShallow plan sid × (low ≤ row_in plan sid + stride_of plan.classes))
+IsLowOfRows plan count low =
+    (low ≤ 1) ⊎ ((sid : ℕ) × IsListing plan count sid × IsShallow plan sid × (low ≤ row_in plan sid + stride_of plan.classes))
 
 -- one of the records is 0, or no further than the number of a deep state that lists a pattern
 abbrev pub IsLowOfRecords : Parts → ℕ → ℕ → Type 0

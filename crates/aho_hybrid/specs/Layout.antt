@@ -115,7 +115,8 @@ along t byte (suc left) sid = if is_row t sid then entry_in t sid byte else told
 -- how many states are looked at
 abbrev pub looks_along : Layout → ℕ → ℕ → ℕ → ℕ
 looks_along t byte zero sid = 0
-looks_along t byte (suc left) sid = 1 + (if is_row t sid || is_some (child_in t sid byte) then 0 else looks_along t byte left (link_in t sid))
+looks_along t byte (suc left) sid =
+    1 + (if is_row t sid || is_some (child_in t sid byte) then 0 else looks_along t byte left (link_in t sid))
 
 -- where a byte leads, and the look-ups that this takes
 abbrev pub next_state_in : Layout → ℕ → ℕ → ℕ
@@ -187,8 +188,10 @@ pub record IsSoundRows (t : Layout) : Type 0 where
 pub record IsSoundDeep (t : Layout) : Type 0 where
   pub moves : (sid : ℕ) → IsDeep t sid → record_word t sid 3 + record_word t sid 4 ≤ length t.moves
   pub rising : (sid : ℕ) → IsDeep t sid → AreRisingMoves (moves_in t sid)
-  pub next : (sid byte next : ℕ) → IsDeep t sid → byte < 256 → child_in t sid byte ≡ Some next → IsStateIn t next × (depth_below_rows t next ≤ depth_below_rows t sid + 1)
-  pub link : (sid byte : ℕ) → IsDeep t sid → byte < 256 → child_in t sid byte ≡ None → IsStateIn t (link_in t sid) × (depth_below_rows t (link_in t sid) < depth_below_rows t sid)
+  pub next : (sid byte next : ℕ) → IsDeep t sid → byte < 256 → child_in t sid byte ≡ Some next
+      → IsStateIn t next × (depth_below_rows t next ≤ depth_below_rows t sid + 1)
+  pub link : (sid byte : ℕ) → IsDeep t sid → byte < 256 → child_in t sid byte ≡ None
+      → IsStateIn t (link_in t sid) × (depth_below_rows t (link_in t sid) < depth_below_rows t sid)
 
 pub record IsSoundLayout (t : Layout) : Type 0 where
   pub in_rows : IsSoundRows t

@@ -32,7 +32,8 @@ pub record IsLaidOutOf (nfas : Ghosts NFA) (nfa : NFA) (budget : ℕ) (t : Layou
 pub record AreMarkedIn (skips : Bool) (p : Patterns) (t : Layout) : Type 0 where
   pub special : (word : List ℕ) (sid : ℕ) → IsHeldIn t p No word sid
       → is_special_number t sid ≡ (nat_eq sid 0 || (nat_lt 0 (length (list_in t sid)) || (skips && nat_eq sid t.start)))
-  pub marked : (word : List ℕ) (sid : ℕ) → IsHeldIn t p No word sid → is_marked_number t sid ≡ (nat_eq sid 0 || nat_lt 0 (length (list_in t sid)))
+  pub marked : (word : List ℕ) (sid : ℕ) → IsHeldIn t p No word sid
+      → is_marked_number t sid ≡ (nat_eq sid 0 || nat_lt 0 (length (list_in t sid)))
 
 -- so it is said of an automaton: a state that is held is special just where it is dead, lists a pattern or, with a prefilter, is a start
 pub record IsMarkedExactly {A : Type 0} (automata : Ghosts A) (a : A) (p : Patterns) : Type 0 where

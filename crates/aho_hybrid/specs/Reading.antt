@@ -27,10 +27,12 @@ pub record IsLayoutOf (t : Layout) (p : Patterns) (kind : MatchKind) (lengths : 
   pub lengths_are : lengths ≡ map length p.words
   pub lists : (word : List ℕ) → All (λ byte. byte < 256) word → list_in t (run_from t t.start word) ≡ matches_of p (held_after p No word)
   pub dies : (word : List ℕ) → All (λ byte. byte < 256) word → nat_eq (run_from t t.start word) 0 ≡ is_none (held_after p No word)
-  pub begins : (word : List ℕ) → All (λ byte. byte < 256) word → nat_eq (run_from t t.start word) t.start ≡ true → held_after p No word ≡ Some []
+  pub begins : (word : List ℕ) → All (λ byte. byte < 256) word
+      → nat_eq (run_from t t.start word) t.start ≡ true → held_after p No word ≡ Some []
   pub stands : (word : List ℕ) → All (λ byte. byte < 256) word → run_from t t.start word ≡ standing_in t (held_after p No word)
   pub none : list_in t 0 ≡ []
-  pub deepness : (word : List ℕ) → All (λ byte. byte < 256) word → depth_of_state t (run_from t t.start word) ≡ depth_of (held_after p No word)
+  pub deepness : (word : List ℕ) → All (λ byte. byte < 256) word
+      → depth_of_state t (run_from t t.start word) ≡ depth_of (held_after p No word)
 
 -- by its number a state has a row, or is deep
 pub row-test : (t : Layout) (sid : ℕ) → HasRow t sid → is_row t sid ≡ true
@@ -56,12 +58,14 @@ pub state-of_deep : (t : Layout) (sid : ℕ) → IsDeep t sid → IsStateIn t si
 state-of_deep t sid deep = record { with_row = λ e. absurd (both_ways (is_row t sid) (deep-test t sid deep) e); without_row = λ e. deep }
 
 -- a step from a state with a row, and from a deep one
-pub along-row : (t : Layout) (byte left sid : ℕ) → is_row t sid ≡ true → 0 < left → (along t byte left sid ≡ entry_in t sid byte) × (looks_along t byte left sid ≡ 1)
+pub along-row : (t : Layout) (byte left sid : ℕ) → is_row t sid ≡ true → 0 < left
+    → (along t byte left sid ≡ entry_in t sid byte) × (looks_along t byte left sid ≡ 1)
 along-row t byte zero sid row some = absurd (omega arith)
 along-row t byte (suc left) sid row some =
     (cond-true (is_row t sid) _ _ row, ap (λ b. 1 + (if b || is_some (child_in t sid byte) then 0 else looks_along t byte left (link_in t sid))) row)
 
-pub along-child : (t : Layout) (byte left sid next : ℕ) → is_row t sid ≡ false → child_in t sid byte ≡ Some next → 0 < left → (along t byte left sid ≡ next) × (looks_along t byte left sid ≡ 1)
+pub along-child : (t : Layout) (byte left sid next : ℕ) → is_row t sid ≡ false → child_in t sid byte ≡ Some next
+    → 0 < left → (along t byte left sid ≡ next) × (looks_along t byte left sid ≡ 1)
 along-child t byte zero sid next deep child some = absurd (omega arith)
 along-child t byte (suc left) sid next deep child some = (
   cond-false (is_row t sid) _ _ deep ∙ ap (λ o. told_or o (along t byte left (link_in t sid))) child,
@@ -87,7 +91,8 @@ module _ (t : Layout) (sound : IsSoundLayout t) where
   abbrev IsPaidAlong : ℕ → ℕ → ℕ → Type 0
   IsPaidAlong byte left sid = IsStateIn t (along t byte left sid) × (looks_along t byte left sid + depth_below_rows t (along t byte left sid) ≤ depth_below_rows t sid + 2)
 
-  paid-step : (byte left sid : ℕ) → byte < 256 → depth_below_rows t sid < left + 1 → HasRow t sid ⊎ IsDeep t sid → (o : Option ℕ) → child_in t sid byte ≡ o
+  paid-step : (byte left sid : ℕ) → byte < 256 → depth_below_rows t sid < left + 1
+      → HasRow t sid ⊎ IsDeep t sid → (o : Option ℕ) → child_in t sid byte ≡ o
       → ((next : ℕ) → depth_below_rows t next < left → IsStateIn t next → IsPaidAlong byte left next) → IsPaidAlong byte (suc left) sid
   paid-step byte left sid small less (inl row) o child rest =
       let class = class_of-count t.classes byte in
@@ -113,10 +118,13 @@ module _ (t : Layout) (sound : IsSoundLayout t) where
 
   -- with more states than may be looked at the step is the same
   abbrev AreAlike : ℕ → ℕ → ℕ → ℕ → Type 0
-  AreAlike byte left other sid = (along t byte left sid ≡ along t byte other sid) × (looks_along t byte left sid ≡ looks_along t byte other sid)
+  AreAlike byte left other sid =
+      (along t byte left sid ≡ along t byte other sid) × (looks_along t byte left sid ≡ looks_along t byte other sid)
 
-  alike-step : (byte left other sid : ℕ) → byte < 256 → depth_below_rows t sid < left + 1 → depth_below_rows t sid < other + 1 → HasRow t sid ⊎ IsDeep t sid → (o : Option ℕ) → child_in t sid byte ≡ o
-      → ((next : ℕ) → depth_below_rows t next < left → depth_below_rows t next < other → IsStateIn t next → AreAlike byte left other next) → AreAlike byte (suc left) (suc other) sid
+  alike-step : (byte left other sid : ℕ) → byte < 256 → depth_below_rows t sid < left + 1
+      → depth_below_rows t sid < other + 1 → HasRow t sid ⊎ IsDeep t sid → (o : Option ℕ) → child_in t sid byte ≡ o
+      → ((next : ℕ) → depth_below_rows t next < left → depth_below_rows t next < other → IsStateIn t next → AreAlike byte left other next)
+      → AreAlike byte (suc left) (suc other) sid
   alike-step byte left other sid small less more (inl row) o child rest =
       let one = along-row t byte (suc left) sid (row-test t sid row) (omega arith) in
       let two = along-row t byte (suc other) sid (row-test t sid row) (omega arith) in
@@ -132,7 +140,8 @@ module _ (t : Layout) (sound : IsSoundLayout t) where
       let further = rest (link_in t sid) (omega (arith, is.1, less)) (omega (arith, is.1, more)) is.0 in
       (one.0 ∙ further.0 ∙ sym two.0, one.1 ∙ ap (λ (n : ℕ). 1 + n) further.1 ∙ sym two.1)
 
-  along-alike : (byte left other sid : ℕ) → byte < 256 → depth_below_rows t sid < left → depth_below_rows t sid < other → IsStateIn t sid → AreAlike byte left other sid
+  along-alike : (byte left other sid : ℕ) → byte < 256 → depth_below_rows t sid < left
+      → depth_below_rows t sid < other → IsStateIn t sid → AreAlike byte left other sid
   along-alike byte zero other sid small less more state = absurd (omega (arith, less))
   along-alike byte (suc left) zero sid small less more state = absurd (omega (arith, more))
   along-alike byte (suc left) (suc other) sid small less more state =
@@ -161,7 +170,8 @@ module _ (t : Layout) (sound : IsSoundLayout t) where
   pub next-state : (sid byte : ℕ) → byte < 256 → IsStateIn t sid → IsStateIn t (next_state_in t sid byte)
   next-state sid byte small state = (along-paid byte (depth_below_rows t sid + 1) sid small (omega arith) state).0
 
-  pub next-paid : (sid byte : ℕ) → byte < 256 → IsStateIn t sid → looks_in t sid byte + depth_below_rows t (next_state_in t sid byte) ≤ depth_below_rows t sid + 2
+  pub next-paid : (sid byte : ℕ) → byte < 256 → IsStateIn t sid
+      → looks_in t sid byte + depth_below_rows t (next_state_in t sid byte) ≤ depth_below_rows t sid + 2
   next-paid sid byte small state = (along-paid byte (depth_below_rows t sid + 1) sid small (omega arith) state).1
 
   -- from a dead state it leads to a dead state again
@@ -177,11 +187,13 @@ module _ (t : Layout) (sound : IsSoundLayout t) where
 
   module _ (p : Patterns) (kind : MatchKind) (lengths : List ℕ) (of : IsLayoutOf t p kind lengths) where
     -- the held state is the one to which the bytes lead that reach it
-    held-run : (word : List ℕ) (sid : ℕ) (reached : IsReached p word) → sid ≡ standing_in t (held_after p No word) → sid ≡ run_from t t.start reached.0
+    held-run : (word : List ℕ) (sid : ℕ) (reached : IsReached p word)
+        → sid ≡ standing_in t (held_after p No word) → sid ≡ run_from t t.start reached.0
     held-run word sid (bytes, small, same) is = is ∙ ap (standing_in t) (sym same) ∙ sym (of.stands bytes small)
 
     -- a state that follows the held one is held after one more byte
-    pub held-next : (anchored : Anchored) (word : List ℕ) (sid byte next : ℕ) → byte < 256 → next ≡ next_state_in t sid byte → IsHeldIn t p anchored word sid → IsHeldIn t p anchored (word ++ byte ∷ []) next
+    pub held-next : (anchored : Anchored) (word : List ℕ) (sid byte next : ℕ) → byte < 256
+        → next ≡ next_state_in t sid byte → IsHeldIn t p anchored word sid → IsHeldIn t p anchored (word ++ byte ∷ []) next
     held-next No word sid byte next small is ((bytes, all_small, same), stands) =
         let longer = All-push (λ (b : ℕ). b < 256) bytes byte all_small small in
         let reached : held_after p No (bytes ++ byte ∷ []) ≡ held_after p No (word ++ byte ∷ []) =
@@ -192,18 +204,22 @@ module _ (t : Layout) (sound : IsSoundLayout t) where
         )
     held-next Yes word sid byte next small is held = absurd held
 
-    lists : (anchored : Anchored) (word : List ℕ) (sid : ℕ) → IsHeldIn t p anchored word sid → list_in t sid ≡ matches_of p (held_after p anchored word)
+    lists : (anchored : Anchored) (word : List ℕ) (sid : ℕ) → IsHeldIn t p anchored word sid
+        → list_in t sid ≡ matches_of p (held_after p anchored word)
     lists No word sid (reached, is) = ap (list_in t) (held-run word sid reached is) ∙ of.lists reached.0 reached.1 ∙ ap (matches_of p) reached.2
     lists Yes word sid held = absurd held
 
-    dies : (anchored : Anchored) (word : List ℕ) (sid : ℕ) → IsHeldIn t p anchored word sid → nat_eq sid 0 ≡ is_none (held_after p anchored word)
-    dies No word sid (reached, is) = ap (λ (n : ℕ). nat_eq n 0) (held-run word sid reached is) ∙ of.dies reached.0 reached.1 ∙ ap is_none reached.2
+    dies : (anchored : Anchored) (word : List ℕ) (sid : ℕ) → IsHeldIn t p anchored word sid
+        → nat_eq sid 0 ≡ is_none (held_after p anchored word)
+    dies No word sid (reached, is) =
+        ap (λ (n : ℕ). nat_eq n 0) (held-run word sid reached is) ∙ of.dies reached.0 reached.1 ∙ ap is_none reached.2
     dies Yes word sid held = absurd held
 
     none : (sid : ℕ) → nat_eq sid 0 ≡ true → list_in t sid ≡ []
     none sid dead = ap (list_in t) (eqb-true sid 0 dead) ∙ of.none
 
-    begun : (word : List ℕ) (sid : ℕ) → IsHeldIn t p No word sid → nat_eq sid t.start ≡ true → IsHeldIn t p No [] sid × (held_after p No word ≡ Some [])
+    begun : (word : List ℕ) (sid : ℕ) → IsHeldIn t p No word sid → nat_eq sid t.start ≡ true
+        → IsHeldIn t p No [] sid × (held_after p No word ≡ Some [])
     begun word sid (reached, is) first = (
       (([], All-nil (λ (b : ℕ). b < 256), refl), eqb-true sid t.start first),
       sym reached.2 ∙ of.begins reached.0 reached.1 (sym (ap (λ (n : ℕ). nat_eq n t.start) (held-run word sid reached is)) ∙ first),
@@ -211,18 +227,21 @@ module _ (t : Layout) (sound : IsSoundLayout t) where
 
     -- the held state is as deep as the word's
     pub reaches_in : (word : List ℕ) (sid : ℕ) → IsHeldIn t p No word sid → depth_of_state t sid ≡ depth_of (held_after p No word)
-    reaches_in word sid (reached, is) = ap (depth_of_state t) (held-run word sid reached is) ∙ of.deepness reached.0 reached.1 ∙ ap depth_of reached.2
+    reaches_in word sid (reached, is) =
+        ap (depth_of_state t) (held-run word sid reached is) ∙ of.deepness reached.0 reached.1 ∙ ap depth_of reached.2
 
     -- the states that may be held have the laws of an automaton
     pub reads_of : Reads p kind lengths (IsHeldIn t p) (list_in t) (λ sid. nat_eq sid 0) (λ sid. nat_eq sid t.start)
     reads_of = reads_by_words p kind lengths (IsHeldIn t p) (list_in t) (λ sid. nat_eq sid 0) (λ sid. nat_eq sid t.start) of.kind_is of.lengths_are lists dies none begun
 
   -- a state that is held after some bytes is held after any others that lead to the same state of the words
-  pub alike_of : (p : Patterns) (word other : List ℕ) (sid : ℕ) → IsHeldIn t p No word sid → held_after p No other ≡ held_after p No word → IsHeldIn t p No other sid
+  pub alike_of : (p : Patterns) (word other : List ℕ) (sid : ℕ) → IsHeldIn t p No word sid
+      → held_after p No other ≡ held_after p No word → IsHeldIn t p No other sid
   alike_of p word other sid ((bytes, small, reached), is) same = ((bytes, small, reached ∙ sym same), is ∙ ap (standing_in t) (sym same))
 
   -- the look-ups of the held state's step are those of the word's
-  pub held-looks : (p : Patterns) (anchored : Anchored) (word : List ℕ) (sid byte : ℕ) → IsHeldIn t p anchored word sid → looks_in t sid byte ≡ lookups_in t p word byte
+  pub held-looks : (p : Patterns) (anchored : Anchored) (word : List ℕ) (sid byte : ℕ)
+      → IsHeldIn t p anchored word sid → looks_in t sid byte ≡ lookups_in t p word byte
   held-looks p No word sid byte held = ap (λ (n : ℕ). looks_in t n byte) held.1
   held-looks p Yes word sid byte held = absurd held
 

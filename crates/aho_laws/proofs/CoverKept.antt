@@ -169,9 +169,6 @@ module _ (p : Patterns) (haystack : List ℕ) where
       }
 
   -- by another kind the same occurs
-  same-by_longest : (start end : ℕ) (m : Occurrence) → Occurs p No haystack start end m → Occurs (by_longest p) No haystack start end m
-  same-by_longest start end m h = record { numbered = h.numbered; after_start = h.after_start; before_end = h.before_end; sized = h.sized; same = h.same; admitted = h.admitted }
-
   back-by_longest : (start end : ℕ) (m : Occurrence) → Occurs (by_longest p) No haystack start end m → Occurs p No haystack start end m
   back-by_longest start end m h = record { numbered = h.numbered; after_start = h.after_start; before_end = h.before_end; sized = h.sized; same = h.same; admitted = h.admitted }
 

@@ -76,7 +76,8 @@ pub record HasSameTrie (old new : StateTables) : Type 0 where
 
 -- the states before this one list what their words do
 abbrev pub ListsBefore : Patterns → List (Option (List ℕ)) → ℕ → StateTables → Type 0
-ListsBefore p names count t = (i : ℕ) (word : List ℕ) → i < count → named_word names i ≡ Some word → list_of_state t i ≡ matches_of p (Some word)
+ListsBefore p names count t = (i : ℕ) (word : List ℕ) → i < count
+    → named_word names i ≡ Some word → list_of_state t i ≡ matches_of p (Some word)
 
 -- the links and the rows stay too
 pub record HasSameLinks (old new : StateTables) : Type 0 where

@@ -47,7 +47,8 @@ pub record IsTree (names : List (Option (List ℕ))) (tree : Tree) : Type 0 wher
   pub shallow : (i : ℕ) → deep_in tree i ≤ greatest_index
   pub rising : (i j : ℕ) → i ≤ j → begins_in tree i ≤ begins_in tree j
   pub within : (i : ℕ) → begins_in tree i ≤ length tree.bytes.items
-  pub child : (i j : ℕ) → IsChildIn tree i j → (word : List ℕ) × (named_word names i ≡ Some word) × (named_word names j ≡ Some (word ++ byte_in tree j ∷ []))
+  pub child : (i j : ℕ) → IsChildIn tree i j
+      → (word : List ℕ) × (named_word names i ≡ Some word) × (named_word names j ≡ Some (word ++ byte_in tree j ∷ []))
   pub parents : (j : ℕ) → 2 ≤ j → j < length tree.bytes.items → (i : ℕ) × IsChildIn tree i j
   pub last : tree.parent ≢ 0 → IsChildIn tree tree.parent (length tree.bytes.items - 1)
 
@@ -82,7 +83,8 @@ IsOwnBefore a b = (a.state < b.state) ⊎ ((a.state ≡ b.state) × (a.number < 
 
 -- they rise by state and number up to the last one, and of its state none is less than the least one
 pub record AreEnds (ends : Ends) : Type 0 where
-  pub rising : (i j : ℕ) (d : Own) → i < j → j < length ends.owns.items → IsOwnBefore (slice_index_or ends.owns.items i d) (slice_index_or ends.owns.items j d)
+  pub rising : (i j : ℕ) (d : Own) → i < j → j < length ends.owns.items
+      → IsOwnBefore (slice_index_or ends.owns.items i d) (slice_index_or ends.owns.items j d)
   pub below : All (λ own. own.state ≤ ends.last.state) ends.owns.items
   pub most : All (λ own. own.state ≡ ends.last.state → own.number ≤ ends.last.number) ends.owns.items
   pub fewest : All (λ own. own.state ≡ ends.last.state → ends.least.number ≤ own.number) ends.owns.items
@@ -108,7 +110,8 @@ pub record Passes (kind : MatchKind) (item : Item) (kept : Bool) (old new : Ends
   pub risen : old.passed ≤ item.state
   pub passed : new.passed ≡ item.state
   pub first : kept ≡ true → kind ≡ LeftmostFirst → All (λ own. own.state ≡ item.state → item.number < own.number) old.owns.items
-  pub dropped : kept ≡ false → (kind ≡ LeftmostFirst) × ((own : Own) × Contains old.owns.items own × (own.state ≡ item.state) × (own.number ≤ item.number))
+  pub dropped : kept ≡ false
+      → (kind ≡ LeftmostFirst) × ((own : Own) × Contains old.owns.items own × (own.state ≡ item.state) × (own.number ≤ item.number))
 
 -- its bytes are at their end, and it ended; or it went on
 abbrev pub own_of : Item → Own
@@ -122,7 +125,8 @@ SettlesItem kind item kept old new =
 
 -- no kept pattern that is shorter than this, and earlier, begins the pattern of this number, by the kind that leaves such ones out
 abbrev pub IsNotBegun : Patterns → ℕ → ℕ → Type 0
-IsNotBegun p depth k = (i : ℕ) → p.kind ≡ LeftmostFirst → i < k → is_kept p i ≡ true → Begins (pattern_word p i) (pattern_word p k) → depth ≤ length (pattern_word p i)
+IsNotBegun p depth k = (i : ℕ) → p.kind ≡ LeftmostFirst → i < k → is_kept p i ≡ true
+    → Begins (pattern_word p i) (pattern_word p k) → depth ≤ length (pattern_word p i)
 
 -- the item is at the state of its first bytes, and no shorter pattern leaves it out
 pub record IsArrived (p : Patterns) (depth : ℕ) (names : List (Option (List ℕ))) (text : List ℕ) (item : Item) : Type 0 where

@@ -84,7 +84,8 @@ along_links (suc left) t byte sid = if is_row_state t sid then row_entry_at t si
 -- how many states are looked at
 abbrev pub looks_on_links : ℕ → StateTables → ℕ → ℕ → ℕ
 looks_on_links zero t byte sid = 0
-looks_on_links (suc left) t byte sid = 1 + (if is_row_state t sid || is_some (child_by t sid byte) then 0 else looks_on_links left t byte (link_at t sid))
+looks_on_links (suc left) t byte sid =
+    1 + (if is_row_state t sid || is_some (child_by t sid byte) then 0 else looks_on_links left t byte (link_at t sid))
 
 -- where a byte leads, and the look-ups that this takes; an anchored step follows no link
 abbrev pub next_at : StateTables → Anchored → ℕ → ℕ → ℕ

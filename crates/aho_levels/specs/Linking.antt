@@ -32,8 +32,10 @@ AreFolded ignore_case bytes = (i : ℕ) → i < length bytes → folded_by ignor
 pub record AreSet (ignore_case : Bool) (bytes : List ℕ) (first row count : ℕ) (old new : List ℕ) : Type 0 where
   pub sized : length new ≡ length old
   pub kept : (i : ℕ) → i < row → slice_index_or new i 0 ≡ slice_index_or old i 0
-  pub child : (k byte : ℕ) → k < count → byte < 256 → folded_by ignore_case byte ≡ slice_index_or bytes k 0 → slice_index_or new (row + byte) 0 ≡ first + k
-  pub other : (byte : ℕ) → byte < 256 → ((k : ℕ) → k < count → folded_by ignore_case byte ≢ slice_index_or bytes k 0) → slice_index_or new (row + byte) 0 ≡ slice_index_or old (row + byte) 0
+  pub child : (k byte : ℕ) → k < count → byte < 256 → folded_by ignore_case byte ≡ slice_index_or bytes k 0
+      → slice_index_or new (row + byte) 0 ≡ first + k
+  pub other : (byte : ℕ) → byte < 256 → ((k : ℕ) → k < count → folded_by ignore_case byte ≢ slice_index_or bytes k 0)
+      → slice_index_or new (row + byte) 0 ≡ slice_index_or old (row + byte) 0
 
 -- ---- layouts that grow
 

@@ -55,8 +55,10 @@ pub record AreLevels (p : Patterns) (names : List (Option (List ℕ))) (t : Stat
 
 -- each state that has a link leads on failure where its word does, and a row leads where the word's step does
 pub record AreLinked (p : Patterns) (names : List (Option (List ℕ))) (t : StateTables) : Type 0 where
-  pub links : (i : ℕ) (word : List ℕ) → i < length t.fails → named_word names i ≡ Some word → word ≢ [] → IsStateNamed names (failure_of p word) (link_at t i)
-  pub rows : (i byte : ℕ) (state : Option (List ℕ)) → i < t.row_count → byte < 256 → IsStateNamed names state i → IsStateNamed names (follow p No state (folded p byte)) (row_entry_at t i byte)
+  pub links : (i : ℕ) (word : List ℕ) → i < length t.fails → named_word names i ≡ Some word
+      → word ≢ [] → IsStateNamed names (failure_of p word) (link_at t i)
+  pub rows : (i byte : ℕ) (state : Option (List ℕ)) → i < t.row_count → byte < 256 → IsStateNamed names state i
+      → IsStateNamed names (follow p No state (folded p byte)) (row_entry_at t i byte)
 
 -- by this naming of its states the layout leads as the words do, as far as links are made
 pub record LeadsAsWords (p : Patterns) (t : StateTables) (names : List (Option (List ℕ))) : Type 0 where
@@ -79,4 +81,5 @@ pub record IsLevelsOf (t : StateTables) (p : Patterns) (kind : MatchKind) (lengt
 
 -- by every naming the state is the one that is held after the word
 abbrev pub IsHeldByNames : StateTables → Patterns → Anchored → List ℕ → ℕ → Type 0
-IsHeldByNames t p anchored word sid = (names : List (Option (List ℕ))) → NamesAll p t names → IsStateNamed names (held_after p anchored word) sid
+IsHeldByNames t p anchored word sid = (names : List (Option (List ℕ)))
+    → NamesAll p t names → IsStateNamed names (held_after p anchored word) sid

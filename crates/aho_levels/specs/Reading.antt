@@ -63,7 +63,8 @@ module _ (p : Patterns) (names : List (Option (List ℕ))) (t : StateTables) (le
       ((child : ℕ) × (child_at t i (folded p byte) ≡ Some child) × (named_word names child ≡ Some (w ++ folded p byte ∷ [])))
       (child_at t i (folded p byte) ≡ None) node (levels.children i w byte named small)
 
-  no-child : (i : ℕ) (w : List ℕ) (byte : ℕ) → named_word names i ≡ Some w → byte < 256 → is_node p (w ++ folded p byte ∷ []) ≡ false → child_at t i (folded p byte) ≡ None
+  no-child : (i : ℕ) (w : List ℕ) (byte : ℕ) → named_word names i ≡ Some w → byte < 256
+      → is_node p (w ++ folded p byte ∷ []) ≡ false → child_at t i (folded p byte) ≡ None
   no-child i w byte named small other =
       MatchBool-at_false
       ((child : ℕ) × (child_at t i (folded p byte) ≡ Some child) × (named_word names child ≡ Some (w ++ folded p byte ∷ [])))
@@ -76,7 +77,8 @@ module _ (p : Patterns) (names : List (Option (List ℕ))) (t : StateTables) (le
       let is : IsFolded p x = all-middle (IsFolded p) u x v (levels.folded q (u ++ x ∷ v) to) in
       let parts : (u ++ x ∷ []) ++ v ≡ u ++ x ∷ v = append_assoc u (x ∷ []) v in
       let whole : is_node p ((u ++ x ∷ []) ++ v) ≡ true = ap (is_node p) parts ∙ levels.nodes q (u ++ x ∷ v) to in
-      let node : is_node p (u ++ folded p x ∷ []) ≡ true = ap (λ (y : ℕ). is_node p (u ++ y ∷ [])) is.1 ∙ is_node-front p (u ++ x ∷ []) v whole in
+      let node : is_node p (u ++ folded p x ∷ []) ≡ true =
+      ap (λ (y : ℕ). is_node p (u ++ y ∷ [])) is.1 ∙ is_node-front p (u ++ x ∷ []) v whole in
       let child = to-child s u x from is.0 node in
       let led : child_at t s x ≡ Some child.0 = ap (child_at t s) (sym is.1) ∙ child.1 in
       let named : named_word names child.0 ≡ Some (u ++ x ∷ []) = child.2 ∙ ap (λ (y : ℕ). Some (u ++ y ∷ [])) is.1 in
@@ -107,7 +109,8 @@ module _ (p : Patterns) (t : StateTables) (names : List (Option (List ℕ))) (le
   deep-root sid deep named = absurd (both_ways (is_row_state t sid) deep (has-row sid (omega (arith, unique p names t leads.levels sid 1 [] named leads.levels.root))))
 
   -- a step from the state of a node that has no row
-  deep-step : (left sid byte : ℕ) (w : List ℕ) → byte < 256 → sid < length t.fails → is_row_state t sid ≡ false → named_word names sid ≡ Some w → (o : Option ℕ) → child_by t sid byte ≡ o
+  deep-step : (left sid byte : ℕ) (w : List ℕ) → byte < 256 → sid < length t.fails
+      → is_row_state t sid ≡ false → named_word names sid ≡ Some w → (o : Option ℕ) → child_by t sid byte ≡ o
       → ((state : Option (List ℕ)) → IsStateNamed names state (link_at t sid) → IsStateNamed names (follow p No state (folded p byte)) (along_links left t byte (link_at t sid)))
       → IsStateNamed names (follow p No (Some w) (folded p byte)) (along_links (suc left) t byte sid)
   deep-step left sid byte w small there deep named (Some q) child rest =
@@ -130,28 +133,33 @@ module _ (p : Patterns) (t : StateTables) (names : List (Option (List ℕ))) (le
       ]
 
   -- by its row, or by its child or its link
-  by-row : (left sid byte : ℕ) (state : Option (List ℕ)) → byte < 256 → sid < left + 1 → sid < length t.fails → (is_row_state t sid ≡ true) ⊎ (is_row_state t sid ≡ false) → IsStateNamed names state sid
+  by-row : (left sid byte : ℕ) (state : Option (List ℕ)) → byte < 256 → sid < left + 1 → sid < length t.fails
+      → (is_row_state t sid ≡ true) ⊎ (is_row_state t sid ≡ false) → IsStateNamed names state sid
       → ((further : ℕ) (other : Option (List ℕ)) → further < left → further < length t.fails → IsStateNamed names other further → IsStateNamed names (follow p No other (folded p byte)) (along_links left t byte further))
       → IsStateNamed names (follow p No state (folded p byte)) (along_links (suc left) t byte sid)
   by-row left sid byte state small less there (inl row) is rest =
       subst (IsStateNamed names (follow p No state (folded p byte))) (sym (along-row (suc left) t byte sid row (omega arith)).0)
       (leads.linked.rows sid byte state (ltb-true sid t.row_count row) small is)
-  by-row left sid byte None small less there (inr deep) is rest = absurd (both_ways (is_row_state t sid) deep (has-row sid (omega (arith, is))))
+  by-row left sid byte None small less there (inr deep) is rest =
+      absurd (both_ways (is_row_state t sid) deep (has-row sid (omega (arith, is))))
   by-row left sid byte (Some w) small less there (inr deep) is rest =
       let before = can.walkable.link sid (ltb-false sid t.row_count deep) there in
       deep-step left sid byte w small there deep is (child_by t sid byte) refl
       (λ other named. rest (link_at t sid) other (omega (arith, before, less)) (omega (arith, before, there)) named)
 
   -- down the links a byte leads where the word's step does
-  pub along-named : (left sid byte : ℕ) (state : Option (List ℕ)) → byte < 256 → sid < left → sid < length t.fails → IsStateNamed names state sid
+  pub along-named : (left sid byte : ℕ) (state : Option (List ℕ)) → byte < 256
+      → sid < left → sid < length t.fails → IsStateNamed names state sid
       → IsStateNamed names (follow p No state (folded p byte)) (along_links left t byte sid)
   along-named zero sid byte state small less there is = absurd (omega (arith, less))
   along-named (suc left) sid byte state small less there is =
       by-row left sid byte state small (omega (arith, less)) there (cases_Bool (is_row_state t sid)) is (λ further other near linked named. along-named left further byte other small near linked named)
 
   -- an anchored step leads where the word's does
-  anchored-named : (sid byte : ℕ) (state : Option (List ℕ)) → byte < 256 → IsStateNamed names state sid → IsStateNamed names (follow p Yes state (folded p byte)) (next_at t Yes sid byte)
-  anchored-named sid byte None small is = ap (λ (n : ℕ). told_else (child_by t n byte) 0) is ∙ ap (λ (o : Option ℕ). told_else o 0) (can.children.dead_none _)
+  anchored-named : (sid byte : ℕ) (state : Option (List ℕ)) → byte < 256 → IsStateNamed names state sid
+      → IsStateNamed names (follow p Yes state (folded p byte)) (next_at t Yes sid byte)
+  anchored-named sid byte None small is =
+      ap (λ (n : ℕ). told_else (child_by t n byte) 0) is ∙ ap (λ (o : Option ℕ). told_else o 0) (can.children.dead_none _)
   anchored-named sid byte (Some w) small is =
       elim (cases_Bool (is_node p (w ++ folded p byte ∷ []))) [
         | inl node ↦
@@ -163,7 +171,8 @@ module _ (p : Patterns) (t : StateTables) (names : List (Option (List ℕ))) (le
             (ap (λ (o : Option ℕ). told_else o 0) (by-folded sid byte ∙ no-child p names t leads.levels sid w byte is small other))
       ]
 
-  pub next-named : (anchored : Anchored) (sid byte : ℕ) (state : Option (List ℕ)) → byte < 256 → sid < length t.fails → IsStateNamed names state sid
+  pub next-named : (anchored : Anchored) (sid byte : ℕ) (state : Option (List ℕ))
+      → byte < 256 → sid < length t.fails → IsStateNamed names state sid
       → IsStateNamed names (follow p anchored state (folded p byte)) (next_at t anchored sid byte)
   next-named No sid byte state small there is = along-named (sid + 1) sid byte state small (omega arith) there is
   next-named Yes sid byte state small there is = anchored-named sid byte state small is
@@ -189,7 +198,8 @@ module _ (t : StateTables) (sound : IsSoundStates t) where
   begins_of p Yes names naming = subst (λ (s : Option (List ℕ)). IsStateNamed names s 1) (sym (cond-true (is_node p []) (Some []) None (is_node-root p))) naming.leads.levels.root
 
   -- a state that follows the held one is held after one more byte
-  pub held-next : (p : Patterns) (anchored : Anchored) (word : List ℕ) (sid byte next : ℕ) → byte < 256 → IsStateNumber t sid → next ≡ next_at t anchored sid byte
+  pub held-next : (p : Patterns) (anchored : Anchored) (word : List ℕ) (sid byte next : ℕ)
+      → byte < 256 → IsStateNumber t sid → next ≡ next_at t anchored sid byte
       → IsHeldByNames t p anchored word sid → IsHeldByNames t p anchored (word ++ byte ∷ []) next
   held-next p anchored word sid byte next small state is held names naming =
       subst (IsStateNamed names (held_after p anchored (word ++ byte ∷ []))) (sym is)
@@ -197,8 +207,10 @@ module _ (t : StateTables) (sound : IsSoundStates t) where
       (next-named p t names naming.leads sound.steps anchored sid byte (held_after p anchored word) small (omega (arith, state, sound.fails)) (held names naming)))
 
   -- a state that is held after some bytes is held after any others that lead to the same state of the words
-  pub alike_of : (p : Patterns) (word other : List ℕ) (sid : ℕ) → IsHeldByNames t p No word sid → held_after p No other ≡ held_after p No word → IsHeldByNames t p No other sid
-  alike_of p word other sid held same names naming = subst (λ (s : Option (List ℕ)). IsStateNamed names s sid) (sym same) (held names naming)
+  pub alike_of : (p : Patterns) (word other : List ℕ) (sid : ℕ) → IsHeldByNames t p No word sid
+      → held_after p No other ≡ held_after p No word → IsHeldByNames t p No other sid
+  alike_of p word other sid held same names naming =
+      subst (λ (s : Option (List ℕ)). IsStateNamed names s sid) (sym same) (held names naming)
 
   module _ (p : Patterns) (kind : MatchKind) (lengths : List ℕ) (of : IsLevelsOf t p kind lengths) where
     -- the states that may be held have the laws of an automaton
@@ -215,10 +227,12 @@ module _ (t : StateTables) (sound : IsSoundStates t) where
 
     -- the held state is as deep as the word's
     pub reaches_in : (word : List ℕ) (sid : ℕ) → IsHeldByNames t p No word sid → depth_at t sid ≡ depth_of (held_after p No word)
-    reaches_in word sid held = deep-named p of.names t of.naming.leads.levels sound.steps (held_after p No word) sid (held of.names of.naming)
+    reaches_in word sid held =
+        deep-named p of.names t of.naming.leads.levels sound.steps (held_after p No word) sid (held of.names of.naming)
 
     -- the look-ups of the held state's step are those of the word's
-    pub held-looks : (anchored : Anchored) (word : List ℕ) (sid byte : ℕ) → IsHeldByNames t p anchored word sid → looks_of_step t anchored sid byte ≡ lookups_at t p anchored word byte
+    pub held-looks : (anchored : Anchored) (word : List ℕ) (sid byte : ℕ) → IsHeldByNames t p anchored word sid
+        → looks_of_step t anchored sid byte ≡ lookups_at t p anchored word byte
     held-looks anchored word sid byte held =
         ap (λ (n : ℕ). looks_of_step t anchored n byte) (state-named p of.names t of.naming.leads.levels (held_after p anchored word) sid (held of.names of.naming))
 
@@ -226,7 +240,8 @@ module _ (t : StateTables) (sound : IsSoundStates t) where
   pub unmarked_of : (sid : ℕ) → is_marked_in t sid ≡ false → (nat_eq sid 0 ≡ false) × (list_of_state t sid ≡ [])
   unmarked_of sid high = parts (nat_eq sid 0) (place_of_list t sid) refl refl high
     where
-      parts : (dead : Bool) (place : ℕ) → nat_eq sid 0 ≡ dead → place_of_list t sid ≡ place → (dead || nat_lt 0 place) ≡ false → (nat_eq sid 0 ≡ false) × (list_of_state t sid ≡ [])
+      parts : (dead : Bool) (place : ℕ) → nat_eq sid 0 ≡ dead → place_of_list t sid ≡ place
+          → (dead || nat_lt 0 place) ≡ false → (nat_eq sid 0 ≡ false) × (list_of_state t sid ≡ [])
       parts true place is at clash = cc
       parts false place is at none =
           let first : place_of_list t sid ≡ 0 = omega (arith, at, ltb-false 0 place none) in

@@ -30,6 +30,7 @@ pub record AddsItem (ignore_case : Bool) (words : List (List ℕ)) (root number 
 -- the words of just these numbers were added
 pub record HasItems (ignore_case : Bool) (words : List (List ℕ)) (root : ℕ) (numbers : List ℕ) (made : Ordered) : Type 0 where
   pub numbered : map (λ (item : Item). item.number) made.items.items ≡ numbers
-  pub placed : (kind : MatchKind) → All (λ (item : Item). (item.state ≡ root) × IsUnderway (patterns_of_kind kind ignore_case words) 0 made.text.items item) made.items.items
+  pub placed : (kind : MatchKind)
+      → All (λ (item : Item). (item.state ≡ root) × IsUnderway (patterns_of_kind kind ignore_case words) 0 made.text.items item) made.items.items
   pub folded : All (λ byte. (byte < 256) × (folded_by ignore_case byte ≡ byte)) made.text.items
   pub sized : length made.text.items ≡ bytes_together (words_at words numbers)

@@ -7,12 +7,14 @@ use Rattle.aho_core.specs.declared.search.Anchored.TheVariants.{No, Yes}
 use Rattle.aho_levels.specs.Layout.{CanStepThrough, IsStateNumber, StateTables, along_links, child_by, depth_at, row_entry_at, is_row_state, link_at, looks_on_links, looks_of_step, next_at, told_else}
 
 -- from a state with a row, by a child, and along a link
-pub along-row : (left : ℕ) (t : StateTables) (byte sid : ℕ) → is_row_state t sid ≡ true → 0 < left → (along_links left t byte sid ≡ row_entry_at t sid byte) × (looks_on_links left t byte sid ≡ 1)
+pub along-row : (left : ℕ) (t : StateTables) (byte sid : ℕ) → is_row_state t sid ≡ true → 0 < left
+    → (along_links left t byte sid ≡ row_entry_at t sid byte) × (looks_on_links left t byte sid ≡ 1)
 along-row zero t byte sid row some = absurd (omega (arith, some))
 along-row (suc left) t byte sid row some =
     (cond-true (is_row_state t sid) _ _ row, ap (λ b. 1 + (if b || is_some (child_by t sid byte) then 0 else looks_on_links left t byte (link_at t sid))) row)
 
-pub along-child : (left : ℕ) (t : StateTables) (byte sid next : ℕ) → is_row_state t sid ≡ false → child_by t sid byte ≡ Some next → 0 < left → (along_links left t byte sid ≡ next) × (looks_on_links left t byte sid ≡ 1)
+pub along-child : (left : ℕ) (t : StateTables) (byte sid next : ℕ) → is_row_state t sid ≡ false
+    → child_by t sid byte ≡ Some next → 0 < left → (along_links left t byte sid ≡ next) × (looks_on_links left t byte sid ≡ 1)
 along-child zero t byte sid next deep child some = absurd (omega (arith, some))
 along-child (suc left) t byte sid next deep child some = (
   cond-false (is_row_state t sid) _ _ deep ∙ ap (λ o. told_else o (along_links left t byte (link_at t sid))) child,
@@ -36,7 +38,8 @@ module _ (t : StateTables) (can : CanStepThrough t) where
   is-state : (sid : ℕ) → sid < length t.fails → IsStateNumber t sid
   is-state sid there = omega (arith, there, can.sized.some_links)
 
-  paid-step : (left byte sid : ℕ) → byte < 256 → sid < left + 1 → sid < length t.fails → (is_row_state t sid ≡ true) ⊎ (is_row_state t sid ≡ false) → (o : Option ℕ) → child_by t sid byte ≡ o
+  paid-step : (left byte sid : ℕ) → byte < 256 → sid < left + 1 → sid < length t.fails
+      → (is_row_state t sid ≡ true) ⊎ (is_row_state t sid ≡ false) → (o : Option ℕ) → child_by t sid byte ≡ o
       → ((next : ℕ) → next < left → next < length t.fails → IsPaidAlong left byte next) → IsPaidAlong (suc left) byte sid
   paid-step left byte sid small less there (inl row) o child rest =
       let led = along-row (suc left) t byte sid row (omega arith) in
@@ -66,8 +69,10 @@ module _ (t : StateTables) (can : CanStepThrough t) where
   abbrev AreAlike : ℕ → ℕ → ℕ → ℕ → Type 0
   AreAlike left other byte sid = (along_links left t byte sid ≡ along_links other t byte sid) × (looks_on_links left t byte sid ≡ looks_on_links other t byte sid)
 
-  alike-step : (left other byte sid : ℕ) → sid < left + 1 → sid < other + 1 → sid < length t.fails → (is_row_state t sid ≡ true) ⊎ (is_row_state t sid ≡ false) → (o : Option ℕ) → child_by t sid byte ≡ o
-      → ((next : ℕ) → next < left → next < other → next < length t.fails → AreAlike left other byte next) → AreAlike (suc left) (suc other) byte sid
+  alike-step : (left other byte sid : ℕ) → sid < left + 1 → sid < other + 1 → sid < length t.fails
+      → (is_row_state t sid ≡ true) ⊎ (is_row_state t sid ≡ false) → (o : Option ℕ) → child_by t sid byte ≡ o
+      → ((next : ℕ) → next < left → next < other → next < length t.fails → AreAlike left other byte next)
+      → AreAlike (suc left) (suc other) byte sid
   alike-step left other byte sid less more there (inl row) o child rest =
       let one = along-row (suc left) t byte sid row (omega arith) in
       let two = along-row (suc other) t byte sid row (omega arith) in
@@ -109,9 +114,11 @@ module _ (t : StateTables) (can : CanStepThrough t) where
       looks_fuel = ap (λ (n : ℕ). looks_on_links n t byte sid) one_more
 
   -- a byte leads from state to state, under either anchoring, and its look-ups are paid
-  told-state : (sid byte : ℕ) → IsStateNumber t sid → (o : Option ℕ) → child_by t sid byte ≡ o → IsStateNumber t (told_else o 0) × (1 + depth_at t (told_else o 0) ≤ depth_at t sid + 2)
+  told-state : (sid byte : ℕ) → IsStateNumber t sid → (o : Option ℕ) → child_by t sid byte ≡ o
+      → IsStateNumber t (told_else o 0) × (1 + depth_at t (told_else o 0) ≤ depth_at t sid + 2)
   told-state sid byte is None child = (omega (arith, can.sized.two), omega (arith, can.children.dead_depth))
-  told-state sid byte is (Some next) child = (can.children.state sid _ next is child, omega (arith, can.children.deeper sid _ next is child))
+  told-state sid byte is (Some next) child =
+      (can.children.state sid _ next is child, omega (arith, can.children.deeper sid _ next is child))
 
   pub next-paid : (anchored : Anchored) (sid byte : ℕ) → byte < 256 → sid < length t.fails
       → IsStateNumber t (next_at t anchored sid byte) × (looks_of_step t anchored sid byte + depth_at t (next_at t anchored sid byte) ≤ depth_at t sid + 2)

@@ -1,5 +1,5 @@
 -- What the operations on vectors of 32 bytes hold at each lane.
-use Rattle.std.proofs.Common.{◌≡◌, ◌≢◌, ◌↔◌, ℕ, Bool, true, false, not, cond, eqb, map, ◌+◌, ◌*◌, ◌/◌, ◌%◌, ◌<◌, ◌≤◌, List, length, get_or, replicate, refl, sym, ap, ◌∙◌, arith, w8}
+use Rattle.std.proofs.Common.{◌≡◌, ◌≢◌, ◌↔◌, ℕ, Bool, true, false, not, cond, eqb, map, ◌+◌, ◌*◌, ◌/◌, ◌%◌, ◌<◌, List, length, get_or, replicate, refl, sym, ap, ◌∙◌, arith, w8}
 use Rattle.std.specs.Simd.Lanes.{mask_l, zip2}
 use Rattle.std.proofs.lemmas.Simd.{bit_mask_l, Each1-from_get_or, SwzOk, SwzOk-from_below, get_or-replicate, get_or-swz_l_below, get_or-zip2, length-swz_l, length-zip2, swz_l}
 use Rattle.std.proofs.lemmas.Bool.Decides.{nat_tests}

@@ -1,5 +1,5 @@
 -- What vectors hold that were looked up at bytes that were loaded.
-use Rattle.std.proofs.Common.{bit_and, ◌≡◌, ℕ, ◌+◌, List, get_or, ap, ◌∙◌, arith}
+use Rattle.std.proofs.Common.{bit_and, ℕ, ◌+◌, List, get_or, ap, ◌∙◌, arith}
 use Rattle.std.specs.Simd.Lanes.{zip2}
 use Rattle.aho_prefilter.specs.Packed.{HasLanes}
 use Rattle.aho_prefilter.proofs.Lanes.{HasLanes-zip2}

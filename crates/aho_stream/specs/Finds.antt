@@ -65,7 +65,8 @@ FillsForMatch A automaton lookups s s' bytes failed =
 -- a call of `next` reads some bytes, and its answer says what it should, as soon as it is settled
 pub record FindsNextInStream {A R : Type 0} (G : Ghosts A) (S : SourceGhosts R) (it it' : StreamChunkIter A R) (found : Option (Result Occurrence StreamError)) : Type 0 where
   pub reads : ReadsOn G (automaton_of it) (lookups_of it) (lookups_of it') it.progress it'.progress (S.remaining it.source.now) (S.remaining it'.source.now)
-  pub finds : (p : Patterns) (given : List ℕ) → G.is_of (automaton_of it) p → HasGiven G it p given → Finds p it.progress it'.progress (given ++ reads.bytes) found
+  pub finds : (p : Patterns) (given : List ℕ) → G.is_of (automaton_of it) p
+      → HasGiven G it p given → Finds p it.progress it'.progress (given ++ reads.bytes) found
   pub prompt : FillsNothing it.progress it'.progress reads.bytes (tells_error found)
       ⊎ FillsForMatch G (automaton_of it) (lookups_of it) it.progress it'.progress reads.bytes (tells_error found)
   pub call : StreamCall S it it' found

@@ -87,7 +87,8 @@ lists-word byte zero = sym (own-root byte)
 lists-word byte (suc n) = sym (ap (λ (xs : List ℕ). xs ++ own_matches (one_pattern byte) []) (own-byte byte) ∙ ap (λ (xs : List ℕ). 0 ∷ xs) (own-root byte))
 
 -- the laws at the byte's own pattern
-reads_byte : (byte : ℕ) → Reads (one_pattern byte) Standard (1 ∷ []) (IsHeldByOne byte (one_pattern byte)) list_of (λ sid. false) is_start_of_one
+reads_byte : (byte : ℕ)
+    → Reads (one_pattern byte) Standard (1 ∷ []) (IsHeldByOne byte (one_pattern byte)) list_of (λ sid. false) is_start_of_one
 reads_byte byte =
     reads_by_names (one_pattern byte) IsHeldState (word_held byte) Standard (1 ∷ []) list_of (λ sid. false) is_start_of_one refl refl
     (λ anchored sid held. lists-word byte sid)
@@ -103,15 +104,18 @@ reads_byte byte =
     root byte sid first = ap (word_held byte) (eqb-true sid 0 first)
 
 -- the laws, whatever the patterns are called
-pub reads_one : (byte : ℕ) (p : Patterns) → p ≡ one_pattern byte → Reads p Standard (1 ∷ []) (IsHeldByOne byte p) list_of (λ sid. false) is_start_of_one
+pub reads_one : (byte : ℕ) (p : Patterns) → p ≡ one_pattern byte
+    → Reads p Standard (1 ∷ []) (IsHeldByOne byte p) list_of (λ sid. false) is_start_of_one
 reads_one byte p of = subst (λ (q : Patterns). Reads q Standard (1 ∷ []) (IsHeldByOne byte q) list_of (λ sid. false) is_start_of_one) (sym of) (reads_byte byte)
 
 -- a state that is held after some bytes is held after any others that lead to the same state of the words
-pub alike_one : (byte : ℕ) (p : Patterns) (word other : List ℕ) (sid : ℕ) → IsHeldByOne byte p No word sid → held_after p No other ≡ held_after p No word → IsHeldByOne byte p No other sid
+pub alike_one : (byte : ℕ) (p : Patterns) (word other : List ℕ) (sid : ℕ) → IsHeldByOne byte p No word sid
+    → held_after p No other ≡ held_after p No word → IsHeldByOne byte p No other sid
 alike_one byte p word other sid held same = (held.0, held.1 ∙ sym same)
 
 -- a state is as deep as the word for which it stands is long
-pub reaches_one : (byte : ℕ) (p : Patterns) (word : List ℕ) (sid : ℕ) → IsHeldByOne byte p No word sid → sid ≡ depth_of (held_after p No word)
+pub reaches_one : (byte : ℕ) (p : Patterns) (word : List ℕ) (sid : ℕ)
+    → IsHeldByOne byte p No word sid → sid ≡ depth_of (held_after p No word)
 reaches_one byte p word sid held = by_word sid held.0 ∙ ap depth_of held.1
   where
     by_word : (sid : ℕ) → sid < 2 → sid ≡ depth_of (word_held byte sid)
@@ -119,7 +123,8 @@ reaches_one byte p word sid held = by_word sid held.0 ∙ ap depth_of held.1
     by_word (suc n) small = omega (arith, small)
 
 -- a state that follows is held after one more byte
-pub held-next : (byte : ℕ) (p : Patterns) (anchored : Anchored) (word : List ℕ) (x sid next : ℕ) → p ≡ one_pattern byte → next ≡ next_of byte x → IsHeldByOne byte p anchored word sid → IsHeldByOne byte p anchored (word ++ x ∷ []) next
+pub held-next : (byte : ℕ) (p : Patterns) (anchored : Anchored) (word : List ℕ) (x sid next : ℕ) → p ≡ one_pattern byte
+    → next ≡ next_of byte x → IsHeldByOne byte p anchored word sid → IsHeldByOne byte p anchored (word ++ x ∷ []) next
 held-next byte p No word x sid next of is held =
     held_by_step p IsHeldState (word_held byte) No word x sid next held (small (nat_eq x byte) next is)
     (ap (word_held byte) is ∙ sym (subst (λ (q : Patterns). follow q No (word_held byte sid) (folded q x) ≡ word_held byte (next_of byte x)) (sym of) (follow-word byte sid x)))

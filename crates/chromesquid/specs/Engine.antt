@@ -158,7 +158,8 @@ laws_by (Noncontiguous nfa) p of = nfa-laws nfa p of
 laws_by (Rows hybrid) p of = rows-laws hybrid p of
 laws_by (Levels levels) p of = levels-laws levels p of
 
-pub alike_by : (e : Engine) (p : Patterns) (word other : List ℕ) (sid : ℕ) → IsEngineOf e p → IsHeldBy e p No word sid → held_after p No other ≡ held_after p No word → IsHeldBy e p No other sid
+pub alike_by : (e : Engine) (p : Patterns) (word other : List ℕ) (sid : ℕ) → IsEngineOf e p
+    → IsHeldBy e p No word sid → held_after p No other ≡ held_after p No word → IsHeldBy e p No other sid
 alike_by (Noncontiguous nfa) p word other sid of = nfa-alike nfa p word other sid of
 alike_by (Rows hybrid) p word other sid of = rows-alike hybrid p word other sid of
 alike_by (Levels levels) p word other sid of = levels-alike levels p word other sid of

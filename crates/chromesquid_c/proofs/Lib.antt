@@ -1,4 +1,3 @@
-pub mod Evidence
 pub mod HeldStreams
 pub mod Helds
 pub mod Laws

@@ -54,7 +54,11 @@ pub record FailsTelling (settings : Settings) (items : List (Bor (List ℕ))) (s
 
 -- what an option is called
 abbrev pub error_option_name : ℕ → List ℕ
-error_option_name option = if nat_eq option MATCH_KIND then codes "match kind" else (if nat_eq option START_KIND then codes "start kind" else (if nat_eq option SIZE then codes "size" else (if nat_eq option LATER then codes "later option" else codes "automaton")))
+error_option_name option =
+    if nat_eq option MATCH_KIND then codes "match kind" else (
+    if nat_eq option START_KIND then codes "start kind" else (
+    if nat_eq option SIZE then codes "size" else (
+    if nat_eq option LATER then codes "later option" else codes "automaton")))
 
 -- the text of an error of this status: as a build's error is printed, or that a number of an option means nothing; none of another
 abbrev pub text_by : ℕ → CsError → List ℕ

@@ -1,5 +1,5 @@
 -- What searches find by expressions that match alike.
-use Rattle.std.proofs.Common.{◌≡◌, ◌≢◌, ℕ, ◌<◌, ◌≤◌, ◌-◌, ◌*◌, ◌+◌, List, All, Option, None, Some, option_map, false, sym, ap, ◌∙◌, refl, arith, get_or, subst, Fits, w8}
+use Rattle.std.proofs.Common.{◌≡◌, ℕ, ◌<◌, ◌≤◌, ◌-◌, ◌*◌, ◌+◌, List, All, Option, None, Some, option_map, false, sym, ap, ◌∙◌, refl, arith, get_or, subst, Fits, w8}
 use Rattle.std.proofs.lemmas.List.{get_or_default}
 use Rattle.std.proofs.lemmas.Option.{none-some, same_Some}
 use Rattle.regex.specs.Patterns.{Match, Re, SameCaptures, find, span, slot_of}

@@ -1,5 +1,5 @@
 -- A text stands in a line from a place on where it occurs in what is left of the line there.
-use Rattle.std.proofs.Common.{◌≡◌, ℕ, ◌+◌, ◌-◌, ◌<◌, ◌≤◌, List, length, drop, get_or, Option, None, Some, is_some, IsTrue, sym, ap, ◌∙◌, refl, arith, length-drop}
+use Rattle.std.proofs.Common.{◌≡◌, ℕ, ◌+◌, ◌-◌, ◌≤◌, List, length, drop, get_or, Option, None, Some, is_some, IsTrue, sym, ap, ◌∙◌, refl, arith, length-drop}
 use Rattle.std.proofs.lemmas.List.{get_or-drop}
 use Rattle.memchr.specs.Find.{FindsNeedle, OccursAt}
 use Rattle.secret_rules.specs.Standing.{StandsFrom}

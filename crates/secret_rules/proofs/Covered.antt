@@ -1,6 +1,6 @@
 -- What stands for all that is covered of a line.
 use Rattle.std.proofs.Common.{◌≡◌, inl, inr, ℕ, zero, suc, ◌+◌, ◌<◌, ◌≤◌, Bool, false, List, [], ◌∷◌, ◌++◌, length, map, refl, sym, ◌∙◌, ap, subst, arith}
-use Rattle.std.specs.Prelude.{◌⊎◌, ◌-◌, nat_lt, Option, None, Some, IfSome, slice_index_or}
+use Rattle.std.specs.Prelude.{◌-◌, nat_lt, Option, None, Some, IfSome, slice_index_or}
 use Rattle.std.specs.Borrow.{Bor}
 use Rattle.std.proofs.lemmas.List.{length-map}
 use Rattle.std.proofs.lemmas.Option.{slice_get_within}

@@ -1,5 +1,5 @@
 -- The bytes of a line as they are read for a visitor.
-use Rattle.std.proofs.Common.{◌≡◌, ℕ, ◌+◌, ◌<◌, ◌≤◌, List, [], ◌++◌, length, sym, ◌∙◌, subst, arith, length-append}
+use Rattle.std.proofs.Common.{◌≡◌, ℕ, ◌+◌, List, [], ◌++◌, length, sym, subst, arith, length-append}
 use Rattle.secret_rules.specs.Marking.{HasMarked}
 use Rattle.secret_rules.specs.SeenLines.{HasKept, HoldsBehind}
 use Rattle.secret_rules.specs.declared.marker.Marker.{Marker}

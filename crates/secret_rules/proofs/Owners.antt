@@ -1,5 +1,5 @@
 -- Which rule each keyword is of.
-use Rattle.std.proofs.Common.{◌≡◌, ◌∙◌, ℕ, zero, suc, ◌+◌, ◌-◌, ◌<◌, ◌≤◌, ◌++◌, List, [], ◌∷◌, Some, length, length-append, drop, flat_map, get_or, map, ap, ap₂, sym, refl, subst, arith, add-zero, add-one, append_assoc, inl, inr, String, Global, string_bytes}
+use Rattle.std.proofs.Common.{◌≡◌, ◌∙◌, ℕ, zero, suc, ◌+◌, ◌-◌, ◌<◌, ◌++◌, List, [], ◌∷◌, Some, length, length-append, drop, flat_map, get_or, map, ap, ap₂, sym, refl, subst, arith, add-zero, add-one, append_assoc, inl, inr, String, Global, string_bytes}
 use Rattle.std.proofs.lemmas.Bool.{cases_lt}
 use Rattle.std.proofs.lemmas.List.{drop_more, get_or-append_right, get_or_append_left, get_or-append-add, length-map}
 use Rattle.std.proofs.lemmas.Option.{none-some, same_Some, slice_get-get_or}

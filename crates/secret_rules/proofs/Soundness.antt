@@ -1,5 +1,5 @@
 -- Rules with which nothing is wrong, one after another.
-use Rattle.std.proofs.Common.{◌≡◌, ℕ, ◌+◌, ◌<◌, List, [], ◌∷◌, get_or, length, subst, sym, take, inl, inr}
+use Rattle.std.proofs.Common.{ℕ, ◌+◌, ◌<◌, List, [], ◌∷◌, get_or, length, subst, sym, take, inl, inr}
 use Rattle.std.proofs.lemmas.List.{take_more}
 use Rattle.aho_core.specs.Listing.{IsMember}
 use Rattle.aho_laws.proofs.Listed.{member-of_append}

@@ -1,5 +1,5 @@
 -- What the text of an expression is read as: by the grammar of the kit's `regex`, with Unicode off.
-use Rattle.std.specs.Prelude.{ℕ, ◌≤◌, false, List, [], length, IsSomeAnd, option_map, unwrap_or, chars}
+use Rattle.std.specs.Prelude.{ℕ, ◌≤◌, false, List, length, IsSomeAnd, option_map, unwrap_or, chars}
 use Rattle.regex.specs.Patterns.{Re, Config, default_config, empty}
 use Rattle.regex_syntax.specs.Grammar.{read}
 use Rattle.regex_syntax.specs.Verdict.{default_flags}

@@ -1,5 +1,5 @@
 -- The line that is being read, and how far a cover has come.
-use Rattle.std.specs.Prelude.{◌≡◌, ◌+◌, ◌<◌, ◌≤◌, ℕ, Bool, true, false, List, [], ◌∷◌, ◌++◌, Option, IfSome, IsOk, Result, IfErr, length, map}
+use Rattle.std.specs.Prelude.{◌≡◌, ◌+◌, ◌<◌, ◌≤◌, ℕ, Bool, true, false, List, [], ◌∷◌, ◌++◌, IfSome, IsOk, Result, IfErr, length, map}
 use Rattle.std.specs.Io.{StartsWith}
 use Rattle.std.specs.Io.KnownBytes.{Appends}
 use Rattle.aho_core.specs.Cover.{AreRunsOf}
@@ -104,7 +104,8 @@ module _ {W : Type 0} (K : SinkGhosts W) (Searched : Patterns → Type 0) (words
         → BeginsNextLine rule lines runs part (lines_from read (bytes ++ more)) all
 
 -- and the call has come so far with these bytes
-pub record GoesOnBehind {A W P : Type 0} (K : SinkGhosts W) (Q : PieceGhosts P) (Searched : Patterns → Type 0) (words : Bool) (rules : List Rule) (most : ℕ) (rule : PieceRule) (sink sink' : W) (counts counts' : List ℕ) (line' : OpenLine A) (pieces' : P) (before : List (List ℕ)) (read bytes : List ℕ) : Type 0 where
+pub record GoesOnBehind {A W P : Type 0} (K : SinkGhosts W) (Q : PieceGhosts P) (Searched : Patterns → Type 0) (words : Bool) (rules : List Rule) (most : ℕ) (rule : PieceRule)
+    (sink sink' : W) (counts counts' : List ℕ) (line' : OpenLine A) (pieces' : P) (before : List (List ℕ)) (read bytes : List ℕ) : Type 0 where
   pub before' : List (List ℕ)
   pub read' : List ℕ
   pub writes : WritesLines K Searched words rules most rule sink sink' counts counts' before read bytes before' read'

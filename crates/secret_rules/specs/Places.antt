@@ -1,5 +1,5 @@
 -- Where the readers of some rules stand.
-use Rattle.std.specs.Prelude.{◌≡◌, ◌<◌, ℕ, List, Option, Some, length, slice_get}
+use Rattle.std.specs.Prelude.{◌≡◌, ℕ, List, Option, Some, length, slice_get}
 use Rattle.secret_rules.specs.Rules.{regex_of}
 use Rattle.secret_rules.specs.declared.rule.Rule.{Rule}
 

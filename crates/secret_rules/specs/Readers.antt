@@ -1,5 +1,5 @@
 -- What a reader searches for.
-use Rattle.std.specs.Prelude.{◌≡◌, ◌≤◌, ℕ, List, []}
+use Rattle.std.specs.Prelude.{◌≡◌, ℕ, List}
 use Rattle.regex.specs.Bytes.{matcher_pattern}
 use Rattle.regex.specs.Locations.{AreLocationsOf, location_count}
 use Rattle.regex.specs.Patterns.{Match, Re, SameCaptures, find, span}

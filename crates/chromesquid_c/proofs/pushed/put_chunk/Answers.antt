@@ -1,5 +1,5 @@
 -- It fits, so it is put.
-use Rattle.std.proofs.Common.{◌≡◌, ◌∙◌, ◌<◌, ◌≤◌, ℕ, List, length, ap, subst, inl, inr, arith}
+use Rattle.std.proofs.Common.{◌≡◌, ◌∙◌, ◌≤◌, ℕ, List, length, ap, subst, inl, inr, arith}
 use Rattle.std.proofs.lemmas.Bool.{cases_eq}
 use Rattle.aho_core.specs.Replacement.{pieces_of}
 use Rattle.aho_stream.specs.Replacing.{chunk_bytes}

@@ -1,5 +1,5 @@
 -- The handle leads to the stream that was made.
-use Rattle.std.proofs.Common.{◌≡◌, Ok, Err, sym, subst}
+use Rattle.std.proofs.Common.{Ok, Err, sym, subst}
 use Rattle.std.specs.Prelude.{IfOk, Result}
 use Rattle.chromesquid_c.specs.Streaming.{HasBegun}
 use Rattle.chromesquid_c.proofs.stream.stream_of.Goals as goal

@@ -1,4 +1,4 @@
-use Rattle.std.proofs.Common.{◌≡◌, ◌∙◌, arith, option_map, string_bytes}
+use Rattle.std.proofs.Common.{arith, option_map, string_bytes}
 use Rattle.std.proofs.lemmas.List.{length-map}
 use Rattle.secret_rules.proofs.Compiled.{IsExpression-read, IsExpression-refused, group_total-read}
 use Rattle.secret_rules.proofs.expression.groups_of.Goals as goal

@@ -1,4 +1,4 @@
-use Rattle.std.proofs.Common.{◌≡◌, ◌∙◌, ◌++◌, ◌+◌, ◌∷◌, ◌⊎◌, ◌↔◌, List, ℕ, [], map, false, refl, sym, ap, IsTrue}
+use Rattle.std.proofs.Common.{◌≡◌, ◌∙◌, ◌++◌, ◌+◌, ◌∷◌, List, ℕ, map, false, refl, sym, ap, IsTrue}
 use Rattle.std.proofs.lemmas.List.{append-nil}
 use Rattle.regex.specs.Patterns.{Match, span}
 use Rattle.regex.specs.Search.{matches_after}

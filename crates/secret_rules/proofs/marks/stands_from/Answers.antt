@@ -1,4 +1,3 @@
-use Rattle.std.proofs.Common.{◌≡◌}
 use Rattle.std.proofs.lemmas.List.{take_rest}
 use Rattle.secret_rules.proofs.Behind.{StandsFrom-found}
 use Rattle.secret_rules.proofs.marks.stands_from.Goals as goal

@@ -1,4 +1,4 @@
-use Rattle.std.proofs.Common.{◌≡◌, ◌-◌, ◌<◌, length, sym, subst, rules, ◌∙◌}
+use Rattle.std.proofs.Common.{◌-◌, ◌<◌, length, sym, subst, rules, ◌∙◌}
 use Rattle.std.proofs.lemmas.Bool.{eqb-true}
 use Rattle.aho_core.specs.Listing.{IsMember}
 use Rattle.secret_rules.proofs.Owners.{member-get_or}

@@ -1,4 +1,4 @@
-use Rattle.std.proofs.Common.{◌≡◌, ◌∙◌, ◌+◌, List, sym, subst, take}
+use Rattle.std.proofs.Common.{◌+◌, List, sym, subst, take}
 use Rattle.aho_build.proofs.StoppedBuilds.{IfErr-given}
 use Rattle.toml.specs.View.{items_view, view}
 use Rattle.toml.specs.declared.value.Value.{Value}

@@ -1,4 +1,4 @@
-use Rattle.std.proofs.Common.{◌≡◌, ◌∙◌, sym, arith}
+use Rattle.std.proofs.Common.{◌∙◌, sym, arith}
 use Rattle.secret_rules.proofs.Groups.{first_filled-here, first_filled-next}
 use Rattle.secret_rules.proofs.reader.first_secret.Goals as goal
 

@@ -1,4 +1,4 @@
-use Rattle.std.proofs.Common.{◌≡◌, ◌∙◌, ◌-◌, sym, arith, false, subst}
+use Rattle.std.proofs.Common.{◌-◌, sym, arith, false, subst}
 use Rattle.std.proofs.lemmas.Option.{IfSome_then}
 use Rattle.regex.specs.Patterns.{SameCaptures, Re}
 use Rattle.secret_rules.proofs.Alike.{next_none, next_found, next_further}

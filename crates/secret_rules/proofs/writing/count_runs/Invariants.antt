@@ -1,4 +1,4 @@
-use Rattle.std.proofs.Common.{◌≡◌, take}
+use Rattle.std.proofs.Common.{take}
 use Rattle.aho_cover.specs.Counting.{CountsThese}
 use Rattle.secret_rules.proofs.writing.count_runs.Given as goal
 

@@ -1,4 +1,4 @@
-use Rattle.std.proofs.Common.{◌≡◌, ◌++◌, ◌≤◌, ℕ, drop}
+use Rattle.std.proofs.Common.{◌≡◌, drop}
 use Rattle.aho_cover.specs.Pieces.{piece_in}
 use Rattle.secret_rules.specs.Writing.{LieFrom}
 use Rattle.secret_rules.proofs.WrittenLines.{HasWritten}

@@ -1,5 +1,5 @@
 -- The end changes nothing of what was pushed.
-use Rattle.std.proofs.Common.{◌≡◌, ◌++◌, ◌∙◌, List, ℕ, true, refl, sym, ap, subst, append-nil}
+use Rattle.std.proofs.Common.{◌∙◌, List, ℕ, refl, sym, ap, subst, append-nil}
 use Rattle.aho_core.specs.Patterns.{Patterns}
 use Rattle.aho_stream.specs.After.{IsAfter}
 use Rattle.aho_stream.specs.declared.progress.StreamProgress.{StreamProgress}

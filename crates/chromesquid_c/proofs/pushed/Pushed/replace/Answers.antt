@@ -1,5 +1,5 @@
 -- The room is long enough for the chunk that is told.
-use Rattle.std.proofs.Common.{◌≡◌, ◌∙◌, ◌-◌, ◌≤◌, ℕ, List, length, map, max, subst, arith}
+use Rattle.std.proofs.Common.{◌-◌, ◌≤◌, length, map, max, subst, arith}
 use Rattle.std.specs.Prelude.{Option}
 use Rattle.aho_core.specs.Laws.{longest}
 use Rattle.aho_core.specs.Replacement.{pieces_of}

@@ -1,5 +1,5 @@
 -- How the loop over the matches goes on, and what was collected at its end.
-use Rattle.std.proofs.Common.{◌≡◌, ◌++◌, ◌∷◌, [], List, Option, Some, Result, ◌∙◌, ap, map, subst, sym}
+use Rattle.std.proofs.Common.{List, Option, Some, Result, ◌∙◌, ap, map, subst, sym}
 use Rattle.std.specs.Iterator.{Yields}
 use Rattle.aho_core.specs.Occurrence.{Occurrence}
 use Rattle.aho_core.specs.declared.error.stream.StreamError.{StreamError}

@@ -1,4 +1,4 @@
-use Rattle.std.proofs.Common.{◌≡◌, subst, sym, ℕ, List}
+use Rattle.std.proofs.Common.{subst, sym, ℕ, List}
 use Rattle.std.proofs.lemmas.Result.{IfOk-weaker}
 use Rattle.regex.specs.Bytes.{regex_pattern}
 use Rattle.regex.specs.Patterns.{Re, SameCaptures}

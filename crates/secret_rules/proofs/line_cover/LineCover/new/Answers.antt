@@ -1,4 +1,4 @@
-use Rattle.std.proofs.Common.{◌≡◌, ◌+◌, ◌∙◌, List, ap, sym, length, arith}
+use Rattle.std.proofs.Common.{◌+◌, ◌∙◌, List, ap, sym, length, arith}
 use Rattle.aho_core.specs.Numbers.{greatest_index}
 use Rattle.secret_rules.specs.declared.rule.Rule.{Rule}
 use Rattle.secret_rules.proofs.Covered.{numbers-fit, patterns-counted}

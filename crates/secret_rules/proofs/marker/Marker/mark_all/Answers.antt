@@ -1,4 +1,4 @@
-use Rattle.std.proofs.Common.{◌≡◌, ◌∙◌, ◌<◌, ◌≤◌, List, arith, length, subst, sym}
+use Rattle.std.proofs.Common.{◌∙◌, ◌<◌, ◌≤◌, List, arith, length, subst, sym}
 use Rattle.secret_rules.specs.Marking.{marker_rules}
 use Rattle.secret_rules.specs.Marks.{IsRuleAt}
 use Rattle.secret_rules.specs.declared.rule.Rule.{Rule}

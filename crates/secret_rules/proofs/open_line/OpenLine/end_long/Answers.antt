@@ -1,4 +1,4 @@
-use Rattle.std.proofs.Common.{◌≡◌, ℕ, refl, ◌∙◌}
+use Rattle.std.proofs.Common.{refl}
 use Rattle.std.proofs.lemmas.Result.{err_from_is_err_and}
 use Rattle.aho_cover.proofs.Written.{on_err}
 use Rattle.secret_rules.specs.LineCovers.{AreSearchedFor}

@@ -1,4 +1,4 @@
-use Rattle.std.proofs.Common.{◌≡◌, ℕ, [], ◌∷◌, ◌++◌, ◌+◌, ◌∙◌, length, take, drop, refl, sym, ap, arith}
+use Rattle.std.proofs.Common.{◌++◌, ◌+◌, ◌∙◌, length, take, drop, refl, sym, ap, arith}
 use Rattle.std.proofs.lemmas.List.{length-drop, take_rest}
 use Rattle.std.proofs.lemmas.Result.{err_from_is_err_and}
 use Rattle.aho_cover.proofs.Written.{on_err}

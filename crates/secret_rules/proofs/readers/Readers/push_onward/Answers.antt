@@ -1,4 +1,4 @@
-use Rattle.std.proofs.Common.{◌≡◌, ◌∙◌, ◌<◌, ◌↔◌, sym, subst, Some, arith, List, ℕ, length}
+use Rattle.std.proofs.Common.{◌≡◌, ◌<◌, sym, subst, Some, arith, List, length}
 use Rattle.std.proofs.lemmas.Option.{slice_get_within}
 use Rattle.std.specs.List.{slice_get}
 use Rattle.secret_rules.specs.Rules.{regex_of}

@@ -1,4 +1,4 @@
-use Rattle.std.proofs.Common.{◌≡◌, ap}
+use Rattle.std.proofs.Common.{ap}
 use Rattle.secret_rules.specs.declared.rule.Rule.{Rule}
 use Rattle.secret_rules.proofs.Placed.{read-is}
 use Rattle.secret_rules.proofs.rules.Rules.new.Goals as goal
