@@ -1,16 +1,19 @@
 -- What a message tells is one that may be told.
-use Rattle.acgrep.proofs.Common.{Errors, IsOneOf, Job, Lines, Matches, Nothing, Objects, Outcome, Seen, Shown, SinkGhosts, Source, Tells, TellsBytes, TellsSome, Unread, cases_Bool, cases_lt, common_steps, get_or, some-one, some-tells, some-then, some-weaker, take_all}
+use Rattle.acgrep.proofs.Common.{Errors, IsOneOf, Job, Lines, Matches, Nothing, Objects, Outcome, Seen, Shown, SinkGhosts, Source, Tells, TellsBytes, TellsSome, Unread, cases_Bool, cases_lt, common_steps, get_or, reason_text, some-one, some-tells, some-then, some-weaker, take_all}
 use Rattle.std.proofs.Common.{◌++◌, ◌-◌, ◌<◌, ◌∙◌, ◌∷◌, ◌≡◌, ◌≤◌, ◌⊎◌, Bool, Bor, List, None, Option, Some, [], ap, arith, codes, drop, false, inl, inr, length, refl, subst, sym, take, true, ℕ}
 use Rattle.std.specs.Prelude.{IfSome, MatchBool, if◌then◌else◌, map, nat_lt, slice_index_or}
 use Rattle.tool_parts.proofs.Lines.{tells-none, tells-weaker, then-some}
+use Rattle.std.specs.Str.{is_utf8}
 use Rattle.tool_parts.specs.Messages.{message_of}
 use Rattle.acgrep.specs.Arguments.{Said, origin_of}
 use Rattle.acgrep.specs.Files.{IsNamed, shown_name}
 use Rattle.acgrep.specs.Folders.{Known}
 use Rattle.acgrep.specs.InTurn.{is_enough, seen_after, status_by}
 use Rattle.acgrep.specs.Runs.{origins_of}
-use Rattle.acgrep.specs.Told.{IsMessage, IsToldCause, IsUnopened, MayName, MaySaid, MayTell, TellsIf, TellsOfOutcome, TellsOutcome, TellsStatus, files_told, names_said, shown_names, source_names}
+use Rattle.acgrep.specs.Told.{IsMessage, IsToldCause, IsUnopened, MayName, MaySaid, MayTell, TellsIf, TellsOfOutcome, TellsOutcome, TellsStatus, files_told, names_said, no_text_text, obstacle_text, shown_names, source_names}
 use Rattle.acgrep.specs.declared.arguments.Source.TheVariants.{File}
+use Rattle.acgrep.specs.declared.failure.Obstacle.{Obstacle}
+use Rattle.acgrep.specs.declared.failure.Obstacle.TheVariants.{Closed, Fault, Loop, NoInput, Output}
 use Rattle.acgrep.specs.declared.files.Outcome.TheVariants.{Searched, Stopped}
 use Rattle.acgrep.specs.declared.options.Shown.TheVariants.{Count, Lacking, Names}
 use Rattle.acgrep.proofs.InTurn.{enough_only}
@@ -49,6 +52,18 @@ module _ {E : Type 0} (K : SinkGhosts E) (names : List (List ℕ)) where
       → TellsBytes K old new (message_of (codes "acgrep") name line cause) → TellsSome K (IsMessage names) old new
   tells-cause old new name line cause named caused told =
       some-one K (IsMessage names) old new (message_of (codes "acgrep") name line cause) (record { message = record { name = name; line = line; cause = cause }; name = named; cause = caused; is = refl }) told
+
+-- what keeps a file from being searched is a cause that is told
+pub obstacle_caused : (name : List ℕ) (why : Obstacle) → IsToldCause (obstacle_text name why) ⊎ IsUnopened (Some name) (obstacle_text name why)
+obstacle_caused name Output = inl (inr (inr (inr (inr (inl refl)))))
+obstacle_caused name Loop = inl (inr (inr (inr (inl refl))))
+obstacle_caused name NoInput = inl (inr (inr (inr (inr (inr (inr refl))))))
+obstacle_caused name (Fault reason) = inl (inl (reason, refl))
+obstacle_caused name (Closed reason) = closed (is_utf8 name) refl
+  where
+    closed : (is : Bool) → is_utf8 name ≡ is → IsToldCause (if is then reason_text reason else no_text_text) ⊎ IsUnopened (Some name) (if is then reason_text reason else no_text_text)
+    closed true text = inl (inl (reason, refl))
+    closed false other = inr (other, refl)
 
 -- an element of a list is among the names of all
 pub among-at : {X : Type 0} (f : X → List ℕ) (xs : List X) (i : ℕ) (d : X) → i < length xs → IsOneOf (f (get_or xs i d)) (map f xs)

@@ -22,6 +22,8 @@ use Rattle.acgrep.specs.Runs.{AfterRules, AreReached, IsByPatterns, names_by, or
 use Rattle.acgrep.specs.declared.arguments.Source.{Source}
 use Rattle.acgrep.specs.declared.wrong.Wrong.{Wrong}
 use Rattle.acgrep.specs.declared.wrong.Wrong.TheVariants.{NoArgument, NoNumber, NoPattern, NotFound, TakesNone, UnknownBinary, UnknownColor, UnknownDevices, UnknownField, UnknownFolders, UnknownKind, UnknownLetter}
+use Rattle.acgrep.specs.declared.failure.Obstacle.{Obstacle}
+use Rattle.acgrep.specs.declared.failure.Obstacle.TheVariants.{Closed, Fault, Loop, NoInput, Output}
 use Rattle.acgrep.specs.declared.files.Outcome.{Outcome}
 use Rattle.acgrep.specs.declared.files.Outcome.TheVariants.{Searched, Stopped, Unread}
 use Rattle.acgrep.specs.declared.all_options.Valued.{Valued}
@@ -52,6 +54,17 @@ zero_text = codes "the pattern holds a zero byte, which ends a line under -z"
 -- and of one whose name is not UTF-8
 abbrev pub no_text_text : List ℕ
 no_text_text = codes "its name is not UTF-8, so it cannot be opened"
+
+-- why a file of this name is not searched, as it is told
+abbrev pub obstacle_text : List ℕ → Obstacle → List ℕ
+obstacle_text name Output = output_text
+obstacle_text name Loop = loop_text
+obstacle_text name NoInput = unusable_text
+obstacle_text name (Closed reason) = if is_utf8 name then reason_text reason else no_text_text
+obstacle_text name (Fault reason) = reason_text reason
+
+abbrev pub obstacle_line : List ℕ → Obstacle → List ℕ
+obstacle_line name why = message_by (codes "acgrep") (record { name = Some name; line = None; cause = obstacle_text name why })
 
 -- its name is why, and it is told only where that is so
 abbrev pub IsUnopened : Option (List ℕ) → List ℕ → Type 0

@@ -271,6 +271,7 @@ fn search_ruled<F: Open + Folders, R: Read, W: Sink, E: Sink>(
 /// Whether neither an option nor an operand gives a pattern, and lines are not selected by rules.
 fn lacks_pattern(given: &Given<'_>) -> bool
     ensures by { IsTrue result → given.now.flags.by_rules ≡ false }
+    ensures none { IsTrue result → GivesNone (said given.now) }
     ensures some { result ≡ false → given.now.flags.by_rules ≡ false → GivesNone (said given.now) → ⊥ }
 {
     !given.flags.by_rules && given.sources.is_empty() && given.operands.is_empty()

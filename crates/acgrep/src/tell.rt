@@ -1,10 +1,10 @@
 //! What is told on standard error: why something was not done.
 
 ghost use Rattle.acgrep.specs.Mistakes.{memory_line};
-ghost use Rattle.acgrep.specs.Told.{IsToldCause, IsUnopened, TellsCause, TellsOfFile, TellsOfNamed, TellsWrong, misuse_parts, named_parts, number_parts, valued_name};
+ghost use Rattle.acgrep.specs.Told.{TellsCause, TellsOfFile, TellsOfNamed, TellsWrong, misuse_parts, named_parts, number_parts, obstacle_line, obstacle_text, valued_name};
 ghost use Rattle.std.specs.List.{concat};
 ghost use Rattle.tool_parts.specs.Telling.{TellsBytes};
-ghost use Rattle.std.specs.Prelude.{◌≡◌, ◌⊎◌, Some};
+ghost use Rattle.std.specs.Prelude.{◌≡◌};
 
 use crate::all_options::Valued;
 use crate::failure::Obstacle;
@@ -45,13 +45,14 @@ pub fn tell_memory<E: Sink>(errors: &mut Errors<'_, E>)
 /// Tells why a file of this name is not searched, or not to its end.
 pub fn tell_file<E: Sink>(name: &[u8], why: Obstacle, errors: &mut Errors<'_, E>)
     ensures told { TellsOfFile E.Sink name.now errors.old errors.new }
+    ensures exact { TellsBytes E.Sink errors.old errors.new (obstacle_line name.now why) }
 {
     errors.tell(PROGRAM, Some(name), None, cause_of(name, why));
 }
 
 /// Why it is not. A name that is not UTF-8 is a reason of its own.
 fn cause_of(name: &[u8], why: Obstacle) -> &'static [u8]
-    ensures cause { IsToldCause result.now ⊎ IsUnopened (Some name.now) result.now }
+    ensures cause { result.now ≡ obstacle_text name.now why }
 {
     match why {
         Obstacle::Output => SAME,
