@@ -5,7 +5,7 @@ use Rattle.std.specs.List.{ends_with}
 use Rattle.std.specs.List.Sorted.{IsPermutation, IsSorted}
 use Rattle.std.specs.Ordering.{nat_cmp}
 use Rattle.std.specs.Prelude.{◌&&◌, ◌++◌, ◌||◌, ◌∷◌, ◌≡◌, ◌⊎◌, Bool, IfSome, List, MatchBool, None, Option, [], codes, false, if◌then◌else◌, map, nat_eq, not, true, unwrap_or, ℕ}
-use Rattle.std.specs.Str.{IsUtf8}
+use Rattle.std.specs.Str.{IsUtf8, is_utf8}
 use Rattle.acgrep.specs.Listed.{listed_bytes}
 use Rattle.acgrep.specs.Rules.{RuleSaid, is_left_out, without_slashes}
 use Rattle.acgrep.specs.declared.folders.Folders.{Ghosts as FolderGhosts}
@@ -97,9 +97,10 @@ pub record HoldsNames (tree : Tree) (folder : List ℕ) (names : List (List ℕ)
 abbrev pub is_spot_left : List RuleSaid → (is_folder : Bool) → Spot → Bool
 is_spot_left rules is_folder spot = is_left_out rules is_folder spot.given spot.name
 
--- below a folder they leave out what cannot be looked at, as if it were a file
+-- below a folder they leave out what cannot be looked at, as if it were a file. Of a name that is not UTF-8 nothing can be known, and it
+-- may well be a folder: it is left out where a folder of that name is left out too
 abbrev pub is_lost_left : List RuleSaid → Spot → Bool
-is_lost_left rules spot = not spot.given && is_spot_left rules false spot
+is_lost_left rules spot = not spot.given && is_spot_left rules false spot && (is_utf8 spot.name || is_spot_left rules true spot)
 
 -- nothing is known of a name, or it is not UTF-8
 abbrev pub IsUnknown : Tree → Bool → List ℕ → Type 0

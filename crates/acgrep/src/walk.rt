@@ -9,6 +9,7 @@ ghost use Rattle.acgrep.specs.Rules.{RuleSaid, rules_said};
 
 use crate::failure::{Obstacle, Stop};
 use crate::folders::{Folders, Kind};
+use crate::json::is_text;
 use crate::open::{Identity, is_input};
 use crate::rules::{Rule, is_left_out, without_slashes};
 use std::alloc::{AllocError, Global};
@@ -238,11 +239,14 @@ fn lose(
     found.miss(spot.name, Obstacle::Closed(reason))
 }
 
-/// Whether rules leave out what cannot be looked at: not where it is an operand.
+/// Whether rules leave out what cannot be looked at, as they would a file: not where it is an operand, nor where its name alone keeps it
+/// from being looked at and they leave out no folder of that name.
 fn is_lost_left(rules: &[Rule<'_>], spot: &Pending) -> bool
     ensures left { result ≡ is_lost_left (rules_said rules.now) (spot_of spot.now) }
 {
-    !spot.given && is_spot_left(rules, false, spot)
+    !spot.given
+        && is_spot_left(rules, false, spot)
+        && (is_text(spot.name.as_slice()) || is_spot_left(rules, true, spot))
 }
 
 /// Whether rules leave out a file, or a folder, of a name.

@@ -4,7 +4,7 @@ use Rattle.std.specs.Prelude.{◌≡◌, ◌⊎◌, ℕ, ◌++◌, ◌||◌, not
 use Rattle.std.specs.Str.{IsUtf8}
 use Rattle.tool_parts.specs.Arguments.{texts}
 use Rattle.tool_parts.specs.declared.failure.Failure.TheVariants.{Usage}
-use Rattle.acredact.specs.Arguments.{Given, ItemsSoFar, all_asked, by_argument, has}
+use Rattle.acredact.specs.Arguments.{Given, ItemsSoFar, all_asked, by_argument, gives_rules, has}
 use Rattle.acredact.specs.Calls.{gives_pattern}
 use Rattle.acredact.specs.Messages.{line_about}
 use Rattle.acredact.specs.Reads.{bytes_of_names}
@@ -91,11 +91,15 @@ unnamed_line name = line_about name (codes "its name is not UTF-8, so it cannot 
 abbrev pub unnamed_lines : List (List ℕ) → List ℕ
 unnamed_lines names = concat (map unnamed_line names)
 
+-- files are read for something: for patterns, or for what rules mark
+abbrev pub seeks_any : List Given → Bool
+seeks_any given = gives_pattern given || gives_rules given
+
 -- what is to be told of such files, by what else is given: where no file is read, nothing. Where no other file is given, and where all
 -- files have one output, nothing else is to be done
 abbrev pub told_by : List Given → (none : Bool) → Told
 told_by given none =
-    if none || has Help given || has Version given || not (gives_pattern given) then Nothing
+    if none || has Help given || has Version given || not (seeks_any given) then Nothing
     else if has Output given || not (has File given) then EachAlone
     else Each
 
