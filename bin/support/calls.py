@@ -1,21 +1,13 @@
 """Random calls of a program, compared with what others or a slow model do: for bin/compare-acgrep and bin/compare-acredact."""
-import argparse, collections, os, random, sys, tempfile
-from . import program_of
+import collections, os, random, sys, tempfile
+from . import options, program_of
 
 TOLD = 3  # so many calls that differ are told, and of others how many they are
 
 
-def parser(name, told):
-    """The options that both scripts have; `told` is what a script says of itself."""
-    options = argparse.ArgumentParser(description=told, formatter_class=argparse.RawDescriptionHelpFormatter, usage=argparse.SUPPRESS)
-    options.add_argument("-s", type=int, default=1, metavar="SEED")
-    options.add_argument("-p", default=program_of(name), metavar="PROGRAM")
-    return options
-
-
-def asked(options):
-    """What was asked for, with the whole path of the program, which has to be there."""
-    asked = options.parse_args()
+def asked(name, told, **known):
+    """What a script is asked for, by its own options and those that both have, with the whole path of the program, which has to be there."""
+    asked = options(told, s=1, p=program_of(name), **known).parse_args()
     if not os.path.exists(asked.p):
         sys.exit(f"{os.path.basename(sys.argv[0])}: there is no {asked.p}: bin/refresh-programs or bin/unproved builds it")
     asked.p = os.path.abspath(asked.p)
