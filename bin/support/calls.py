@@ -1,5 +1,5 @@
 """Random calls of a program, compared with what others or a slow model do: for bin/compare-acgrep and bin/compare-acredact."""
-import collections, os, random, sys, tempfile
+import collections, json, os, random, re, sys, tempfile
 from . import options, program_of
 
 TOLD = 3  # so many calls that differ are told, and of others how many they are
@@ -21,6 +21,14 @@ def files_in(folder):
             if os.path.isfile(path):
                 with open(path, "rb") as file:
                     yield f"  {os.path.relpath(path, folder)!r}: {file.read(300)!r}"
+
+
+def in_json(text):
+    """A text as a string of JSON, as our programs write it."""
+    told = '"' + re.sub(r"[\0-\x1f]", lambda it: f"\\u{ord(it[0]):04X}", re.sub(r'["\\]', r"\\\g<0>", text)) + '"'
+    if json.loads(told) != text:
+        sys.exit(f"{os.path.basename(sys.argv[0])}: {told} is not {text!r} in JSON")
+    return told
 
 
 def compared(what, call, program, seed, count):
