@@ -78,6 +78,12 @@ def write_part(command, lines):
     write(os.path.join(TOP, "docs", "SPEED.md"), page)
 
 
+def refuse(why):
+    """Ends the script where an argument is wrong, or something is missing."""
+    print(f"{os.path.basename(sys.argv[0])}: {why}", file=sys.stderr)
+    sys.exit(2)
+
+
 def options(told, **known):
     """The options of a script, by what it says of itself: each has a default, or a type where there is none, and False where it has no value."""
     parser = argparse.ArgumentParser(description=told, formatter_class=argparse.RawDescriptionHelpFormatter, usage=argparse.SUPPRESS)
