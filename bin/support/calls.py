@@ -1,5 +1,5 @@
 """Random calls of a program, compared with what others or a slow model do: for bin/compare-acgrep and bin/compare-acredact."""
-import collections, json, os, random, re, sys, tempfile
+import collections, json, os, pathlib, random, re, sys, tempfile
 from . import options, program_of
 
 TOLD = 3  # so many calls that differ are told, and of others how many they are
@@ -16,11 +16,9 @@ def asked(name, told, **known):
 
 def files_in(folder):
     """A line for each file of a folder, with how it begins."""
-    for at, _, names in os.walk(folder):
-        for path in (os.path.join(at, name) for name in sorted(names)):
-            if os.path.isfile(path):
-                with open(path, "rb") as file:
-                    yield f"  {os.path.relpath(path, folder)!r}: {file.read(300)!r}"
+    for path in sorted(pathlib.Path(folder).rglob("*")):
+        if path.is_file():
+            yield f"  {str(path.relative_to(folder))!r}: {path.read_bytes()[:300]!r}"
 
 
 def in_json(text):
