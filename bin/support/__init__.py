@@ -1,6 +1,6 @@
 """What the scripts of bin and .ci in Python share: where things stand, files, processes and pages. `texts` makes random texts, `timing` measures
 programs, `chart` draws a chart, `peers` builds the programs of others that are measured beside ours, and `line_rules` is a model of rules."""
-import importlib.machinery, importlib.util, os, re, shutil, signal, subprocess, sys
+import argparse, importlib.machinery, importlib.util, os, re, shutil, signal, subprocess, sys
 
 TOP = os.path.realpath(os.path.join(os.path.dirname(os.path.realpath(__file__)), "..", ".."))
 STANDS = os.path.join(TOP, "bin", "program")  # the programs and the C library, as they were proved and built
@@ -76,6 +76,25 @@ def write_part(command, lines):
     """Writes these lines into docs/SPEED.md, between the marks that name the command."""
     page = re.sub(PART.format(re.escape(command)), lambda it: it[1] + "\n".join(lines) + "\n" + it[2], read("docs/SPEED.md"), count=1, flags=re.S)
     write(os.path.join(TOP, "docs", "SPEED.md"), page)
+
+
+def refuse(why):
+    """Ends the script where an argument is wrong, or something is missing."""
+    print(f"{os.path.basename(sys.argv[0])}: {why}", file=sys.stderr)
+    sys.exit(2)
+
+
+def options(told, **known):
+    """The options of a script, by what it says of itself: each has a default, or a type where there is none, and False where it has no value."""
+    parser = argparse.ArgumentParser(description=told, formatter_class=argparse.RawDescriptionHelpFormatter, usage=argparse.SUPPRESS)
+    for name, default in known.items():
+        option = f"-{name}" if len(name) == 1 else f"--{name}"
+        if default is False:
+            parser.add_argument(option, action="store_true")
+        else:
+            value, kind = re.search(rf"{option} ([A-Z]+)", told), default if isinstance(default, type) else type(default)
+            parser.add_argument(option, type=kind, default=None if kind is default else default, metavar=value and value[1])
+    return parser
 
 
 def helps(words, told):

@@ -1,21 +1,13 @@
 """Random calls of a program, compared with what others or a slow model do: for bin/compare-acgrep and bin/compare-acredact."""
-import argparse, collections, os, random, sys, tempfile
-from . import program_of
+import collections, json, os, pathlib, random, re, sys, tempfile
+from . import options, program_of
 
 TOLD = 3  # so many calls that differ are told, and of others how many they are
 
 
-def parser(name, told):
-    """The options that both scripts have; `told` is what a script says of itself."""
-    options = argparse.ArgumentParser(description=told, formatter_class=argparse.RawDescriptionHelpFormatter, usage=argparse.SUPPRESS)
-    options.add_argument("-s", type=int, default=1, metavar="SEED")
-    options.add_argument("-p", default=program_of(name), metavar="PROGRAM")
-    return options
-
-
-def asked(options):
-    """What was asked for, with the whole path of the program, which has to be there."""
-    asked = options.parse_args()
+def asked(name, told, **known):
+    """What a script is asked for, by its own options and those that both have, with the whole path of the program, which has to be there."""
+    asked = options(told, s=1, p=program_of(name), **known).parse_args()
     if not os.path.exists(asked.p):
         sys.exit(f"{os.path.basename(sys.argv[0])}: there is no {asked.p}: bin/refresh-programs or bin/unproved builds it")
     asked.p = os.path.abspath(asked.p)
@@ -24,11 +16,17 @@ def asked(options):
 
 def files_in(folder):
     """A line for each file of a folder, with how it begins."""
-    for at, _, names in os.walk(folder):
-        for path in (os.path.join(at, name) for name in sorted(names)):
-            if os.path.isfile(path):
-                with open(path, "rb") as file:
-                    yield f"  {os.path.relpath(path, folder)!r}: {file.read(300)!r}"
+    for path in sorted(pathlib.Path(folder).rglob("*")):
+        if path.is_file():
+            yield f"  {str(path.relative_to(folder))!r}: {path.read_bytes()[:300]!r}"
+
+
+def in_json(text):
+    """A text as a string of JSON, as our programs write it."""
+    told = '"' + re.sub(r"[\0-\x1f]", lambda it: f"\\u{ord(it[0]):04X}", re.sub(r'["\\]', r"\\\g<0>", text)) + '"'
+    if json.loads(told) != text:
+        sys.exit(f"{os.path.basename(sys.argv[0])}: {told} is not {text!r} in JSON")
+    return told
 
 
 def compared(what, call, program, seed, count):

@@ -46,18 +46,11 @@ def in_toml(rules):
 
 def matches_of(expression, line):
     """All matches, each as far to the left as can be; an empty one right behind another is none."""
-    found, at, last = [], 0, -1
-    while at <= len(line):
-        match = expression.search(line, at)
-        if not match:
-            break
-        if match.span() == (last, last):
-            at += 1
-            continue
-        found.append(match)
+    last = -1
+    for match in expression.finditer(line):
+        if match.span() != (last, last):
+            yield match
         last = match.end()
-        at = last + (match.start() == last)
-    return found
 
 
 def secret_in(rule, match):
@@ -70,7 +63,7 @@ def marks_in(rules, goes_on, line):
     """What each rule marks in a line, with its number; of those that mark up to a text it is noted which go on."""
     for number, rule in enumerate(rules):
         applies = not rule["keywords"] or any(it.lower() in line.lower() for it in rule["keywords"])
-        matches = matches_of(rule["expression"], line) if applies else []
+        matches = [*matches_of(rule["expression"], line)] if applies else []
         if rule["until"] is None:
             yield from ((*secret_in(rule, it), number) for it in matches)
             continue
@@ -108,12 +101,10 @@ def in_parts(dice, text):
     """A pipe that gives a text: at once, or where the system does so part by part, each to a read of its own."""
     cut = dice.random() < 0.6
     reads, writes = os.pipe2(os.O_DIRECT if cut else 0)
-    at = 0
-    for left in range(14, 0, -1):
-        count = len(text) - at if left == 1 or not cut else dice.randint(1, 8)
-        if at < len(text):
-            os.write(writes, text[at : at + count])
-        at += count
+    for size in [*(dice.randint(1, 8) for _ in range(13 * cut)), len(text)]:
+        part, text = text[:size], text[size:]
+        if part:
+            os.write(writes, part)
     os.close(writes)
     return reads
 

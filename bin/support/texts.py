@@ -43,17 +43,17 @@ def some_log(dice, words, length=0, common=COMMON, count=8, place=4):
 
 def unlike(dice, count):
     """Words that look like those of the text and do not occur in it."""
-    words = set()
+    words = {}  # in the order in which they were made
     while len(words) < count:
         word = "".join(dice.choices(PARTS, k=dice.randint(3, 5)))
         if not any(word in common for common in COMMON):
-            words.add(word)
-    return [word.encode() for word in sorted(words, key=lambda word: dice.random())]
+            words[word.encode()] = None
+    return sorted(words, key=lambda word: dice.random())
 
 
 def picked(dice, letters, count, least, most):
     """So many words of random letters, of such lengths."""
-    words = {bytes(dice.choices(letters, k=dice.randint(least, most))) for _ in range(count * 2)}
+    words = dict.fromkeys(bytes(dice.choices(letters, k=dice.randint(least, most))) for _ in range(count * 2))
     return sorted(words, key=lambda word: dice.random())[:count]
 
 

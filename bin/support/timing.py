@@ -28,24 +28,15 @@ def least_of(folder, calls, runs, most):
         for call, output, seconds in zip(calls, outputs, seen):
             if max(seconds, default=0) < most:
                 seconds.append(used_by(call, output, most)[0])
-    return [least_in(seconds, most) for seconds in seen], outputs
-
-
-def least_in(seen, most):
-    """The least of these seconds, of both kinds."""
-    least = Seconds("inf" if max(seen) >= most else min(seen))
-    least.clock = min(it.clock for it in seen)
-    return least
+    least = [Seconds("inf" if max(seconds) >= most else min(seconds)) for seconds in seen]
+    for one, seconds in zip(least, seen):
+        one.clock = min(it.clock for it in seconds)
+    return least, outputs
 
 
 def are_same(outputs):
     """Whether these files have the same bytes."""
     return len({open(output, "rb").read() for output in outputs}) <= 1
-
-
-def same_of(outputs, least, most):
-    """Whether those of these calls that ended have written the same."""
-    return are_same([output for output, seconds in zip(outputs, least) if seconds < most])
 
 
 def shown(seconds, most):
