@@ -1,7 +1,7 @@
 -- What searching does, whatever patterns the searcher was built from.
 use Rattle.acgrep.specs.Common.{Appends, Bor, IsBuiltFrom, Patterns, Readers, Searcher, SinkGhosts, Writers}
 use Rattle.std.specs.Prelude.{◌∷◌, Bool, IfOk, List, OnErr, OnOk, Option, Result, [], ℕ}
-use Rattle.acgrep.specs.Contexts.{BeginsLines, BeginsSearched, IsChosenBy, SearchesText, ShowsEach, ShowsGroup, WalksBegun, WalksLines, WalksText, walk_of}
+use Rattle.acgrep.specs.Contexts.{BeginsLines, BeginsSearched, IsChosenBy, SearchesText, ShowsEach, WalksBegun, WalksLines, WalksText, walk_of}
 use Rattle.acgrep.specs.Files.{BeginsFile, SearchesReader}
 use Rattle.acgrep.specs.Filled.{bytes_buffered}
 use Rattle.acgrep.specs.Guarded.{FindsSelected}
@@ -127,8 +127,3 @@ module _ {R W : Type 0} (readers : Readers R) (sinks : SinkGhosts W) (searcher :
 abbrev pub ShowsEachBy : {W : Type 0} → Writers W → Searcher → Job → Place → List (List ℕ) → W → W → {T E : Type 0} → Result T E → Type 0
 ShowsEachBy writers searcher job place ls old new result = (p : Patterns) → IsBuiltFrom searcher p
     → OnOk result ((bytes : List ℕ) × ShowsEach p job place ls bytes × Appends (writers.contents old) (writers.contents new) bytes)
-
--- and of a selected one with those held before it
-abbrev pub ShowsGroupBy : {W : Type 0} → Writers W → Searcher → Job → Context → State → List ℕ → W → W → {T E : Type 0} → Result T E → Type 0
-ShowsGroupBy writers searcher job context state line old new result = (p : Patterns) → IsBuiltFrom searcher p
-    → OnOk result ((bytes : List ℕ) × ShowsGroup p job context (walk_of state) line bytes × Appends (writers.contents old) (writers.contents new) bytes)

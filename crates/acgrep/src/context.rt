@@ -6,7 +6,7 @@ ghost use Rattle.chromesquid.specs.Searcher.{IsBuiltFrom, IsBuiltFromSome};
 ghost use Rattle.acgrep.specs.Contexts.{IsChosenBy, beside, separator_if};
 ghost use Rattle.acgrep.specs.Filled.{held_lines};
 ghost use Rattle.acgrep.specs.Printed.{Puts};
-ghost use Rattle.acgrep.specs.Searched.{BeginsLineAround, BeginsTextBy, BeginsWalkWhere, BegunBy, ShowsEachBy, ShowsGroupBy, SearchesTextBy, StepsBy, WalksBy, WalksWhere};
+ghost use Rattle.acgrep.specs.Searched.{BeginsLineAround, BeginsTextBy, BeginsWalkWhere, BegunBy, ShowsEachBy, SearchesTextBy, StepsBy, WalksBy, WalksWhere};
 ghost use Rattle.acgrep.specs.Selected.{ForJob, IsNoneSelected};
 ghost use Rattle.acgrep.specs.Written.{IsMatched};
 
@@ -28,7 +28,6 @@ pub fn search_text<W: Sink>(
     job: &Job<'_>,
     text: &[u8],
     state: &mut State,
-    page: &mut Vec<u8>,
     output: &mut W,
 ) -> Result<(), Stop>
     requires of { IsBuiltFromSome searcher.now }
@@ -46,8 +45,8 @@ pub fn search_text<W: Sink>(
         state.old state.new output.old output.new text.now result }
 {
     match job.around() {
-        Some(context) => search_around(searcher, job, &context, text, state, page, output),
-        None => search_plain(searcher, job, text, state, page, output),
+        Some(context) => search_around(searcher, job, &context, text, state, output),
+        None => search_plain(searcher, job, text, state, output),
     }
 }
 
@@ -58,7 +57,6 @@ fn search_around<W: Sink>(
     context: &Context,
     text: &[u8],
     state: &mut State,
-    page: &mut Vec<u8>,
     output: &mut W,
 ) -> Result<(), Stop>
     requires of { IsBuiltFromSome searcher.now }
@@ -72,7 +70,7 @@ fn search_around<W: Sink>(
     let mut rest = text;
     while job.goes_on(rest, state) {
         let end = line_end(rest, job.style.ending);
-        pass_any(searcher, job, context, &rest[..end], state, page, output)?;
+        pass_any(searcher, job, context, &rest[..end], state, output)?;
         rest = behind(rest, end);
     }
     Ok(())
@@ -85,7 +83,6 @@ fn pass_any<W: Sink>(
     context: &Context,
     line: &[u8],
     state: &mut State,
-    page: &mut Vec<u8>,
     output: &mut W,
 ) -> Result<(), Stop>
     requires of { IsBuiltFromSome searcher.now }
@@ -95,9 +92,9 @@ fn pass_any<W: Sink>(
         state.old state.new output.old output.new context.now line.now result }
 {
     if is_chosen(searcher, job, line, state.selected)? {
-        return pass_chosen(searcher, job, context, line, state, page, output);
+        return pass_chosen(searcher, job, context, line, state, output);
     }
-    pass_beside(searcher, job, context, line, state, page, output)
+    pass_beside(searcher, job, context, line, state, output)
 }
 
 /// Whether a line is selected, and more are asked for.
@@ -125,14 +122,13 @@ fn has_match(searcher: &AhoCorasick, job: &Job<'_>, line: &[u8]) -> Result<bool,
     }
 }
 
-/// Goes over a line that is selected, and writes what is asked of it and of those before it.
+/// Goes over a line that is selected. What is asked of it and of those that are held before it is put together first.
 fn pass_chosen<W: Sink>(
     searcher: &AhoCorasick,
     job: &Job<'_>,
     context: &Context,
     line: &[u8],
     state: &mut State,
-    page: &mut Vec<u8>,
     output: &mut W,
 ) -> Result<(), Stop>
     requires of { IsBuiltFromSome searcher.now }
@@ -141,32 +137,21 @@ fn pass_chosen<W: Sink>(
     ensures begun { BeginsWalkWhere W.Sink searcher.now job.now
         state.old state.new output.old output.new true context.now line.now result }
 {
-    page.clear();
-    put_group(searcher, job, context, line, state, page)?;
-    write_whole(output, page.as_slice())?;
+    state.page.clear();
+    put_between(job, is_parted(context, &state.trail), &mut state.page)?;
+    put_each_line(
+        searcher,
+        &job.beside(),
+        &state.trail.held,
+        state.trail.first,
+        &mut state.page,
+    )?;
+    put_shown(searcher, job, line, state.place, &mut state.page)?;
+    write_whole(output, state.page.as_slice())?;
     state.trail.restart(context.after);
     state.selected = state.selected.saturating_add(1);
     state.place = behind_line(state.place, line);
     Ok(())
-}
-
-/// Puts together what is asked of a selected line and of those that are held before it.
-fn put_group<W: Write>(
-    searcher: &AhoCorasick,
-    job: &Job<'_>,
-    context: &Context,
-    line: &[u8],
-    state: &State,
-    output: &mut W,
-) -> Result<(), Stop>
-    requires of { IsBuiltFromSome searcher.now }
-    ensures shown { ShowsGroupBy W.Write searcher.now job.now
-        context.now state.now line.now output.old output.new result }
-{
-    let trail = &state.trail;
-    put_between(job, is_parted(context, trail), output)?;
-    put_each_line(searcher, &job.beside(), &trail.held, trail.first, output)?;
-    put_shown(searcher, job, line, state.place, output)
 }
 
 /// Whether a line stands between the next one and those that were written before.
@@ -217,7 +202,6 @@ fn pass_beside<W: Sink>(
     context: &Context,
     line: &[u8],
     state: &mut State,
-    page: &mut Vec<u8>,
     output: &mut W,
 ) -> Result<(), Stop>
     requires of { IsBuiltFromSome searcher.now }
@@ -227,7 +211,7 @@ fn pass_beside<W: Sink>(
         state.old state.new output.old output.new false context.now line.now result }
 {
     if state.trail.due > 0 {
-        return pass_due(searcher, job, context, line, state, page, output);
+        return pass_due(searcher, job, context, line, state, output);
     }
     state.trail.hold(context.before, line, state.place)?;
     state.place = behind_line(state.place, line);
@@ -241,7 +225,6 @@ fn pass_due<W: Sink>(
     context: &Context,
     line: &[u8],
     state: &mut State,
-    page: &mut Vec<u8>,
     output: &mut W,
 ) -> Result<(), Stop>
     requires of { IsBuiltFromSome searcher.now }
@@ -251,9 +234,9 @@ fn pass_due<W: Sink>(
     ensures begun { BeginsWalkWhere W.Sink searcher.now job.now
         state.old state.new output.old output.new false context.now line.now result }
 {
-    page.clear();
-    put_shown(searcher, &job.beside(), line, state.place, page)?;
-    write_whole(output, page.as_slice())?;
+    state.page.clear();
+    put_shown(searcher, &job.beside(), line, state.place, &mut state.page)?;
+    write_whole(output, state.page.as_slice())?;
     state.trail.due -= 1;
     state.place = behind_line(state.place, line);
     Ok(())

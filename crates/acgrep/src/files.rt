@@ -155,7 +155,6 @@ pub fn search_names<F: Open, R: Read, W: Sink, E: Sink>(
         tell_memory(errors);
         return 2;
     };
-    let mut page = Vec::new(job.alloc);
     let mut state = State::new(job.alloc, job.first);
     let seen = search_each(
         searcher,
@@ -165,7 +164,6 @@ pub fn search_names<F: Open, R: Read, W: Sink, E: Sink>(
         &mut buffer,
         input,
         &mut state,
-        &mut page,
         output,
         errors,
     );
@@ -181,7 +179,6 @@ fn search_each<F: Open, R: Read, W: Sink, E: Sink>(
     buffer: &mut Buffer,
     input: &mut R,
     state: &mut State,
-    page: &mut Vec<u8>,
     output: &mut W,
     errors: &mut Errors<'_, E>,
 ) -> Seen
@@ -205,7 +202,6 @@ fn search_each<F: Open, R: Read, W: Sink, E: Sink>(
             buffer,
             input,
             state,
-            page,
             output,
             errors,
         );
@@ -234,7 +230,6 @@ fn search_name<F: Open, R: Read, W: Sink, E: Sink>(
     buffer: &mut Buffer,
     input: &mut R,
     state: &mut State,
-    page: &mut Vec<u8>,
     output: &mut W,
     errors: &mut Errors<'_, E>,
 ) -> Outcome
@@ -255,16 +250,14 @@ fn search_name<F: Open, R: Read, W: Sink, E: Sink>(
         match input_obstacle(&named, files) {
             Some(why) => why,
             None => {
-                return search_one(searcher, &named, buffer, input, state, page, output, errors);
+                return search_one(searcher, &named, buffer, input, state, output, errors);
             }
         }
     } else {
         match open_other(&named, files, name) {
             Err(why) => why,
             Ok(mut file) => {
-                return search_one(
-                    searcher, &named, buffer, &mut file, state, page, output, errors,
-                );
+                return search_one(searcher, &named, buffer, &mut file, state, output, errors);
             }
         }
     };
@@ -279,7 +272,6 @@ fn search_one<R: Read, W: Sink, E: Sink>(
     buffer: &mut Buffer,
     reader: &mut R,
     state: &mut State,
-    page: &mut Vec<u8>,
     output: &mut W,
     errors: &mut Errors<'_, E>,
 ) -> Outcome
@@ -293,14 +285,14 @@ fn search_one<R: Read, W: Sink, E: Sink>(
         errors.old errors.new }
 {
     if job.is_guarded() {
-        return match search_guarded(searcher, job, buffer, reader, state, page, output) {
+        return match search_guarded(searcher, job, buffer, reader, state, output) {
             Ok(any) => Outcome::Searched(any),
             Err(stop) => break_off(job, state.selected, &stop, output, errors),
         };
     }
     state.begin(job);
     let alone = job.takes_text();
-    match search_front(searcher, job, alone, buffer, reader, state, page, output) {
+    match search_front(searcher, job, alone, buffer, reader, state, output) {
         Ok(_) => end_file(job, state.selected, output, errors),
         Err(stop) => break_off(job, state.selected, &stop, output, errors),
     }

@@ -28,7 +28,6 @@ pub fn search_guarded<R: Read, W: Sink>(
     buffer: &mut Buffer,
     input: &mut R,
     state: &mut State,
-    page: &mut Vec<u8>,
     output: &mut W,
 ) -> Result<bool, Stop>
     requires of { IsBuiltFromSome searcher.now }
@@ -42,7 +41,7 @@ pub fn search_guarded<R: Read, W: Sink>(
     ensures reads { ReadsOn (R.remaining input.old) (R.remaining input.new) }
 {
     state.begin(job);
-    let binary = search_front(searcher, job, true, buffer, input, state, page, output)?;
+    let binary = search_front(searcher, job, true, buffer, input, state, output)?;
     let any = state.selected > 0;
     if !binary {
         return Ok(any);
@@ -50,8 +49,8 @@ pub fn search_guarded<R: Read, W: Sink>(
     if job.is_full(state.selected) {
         return Ok(any);
     }
-    if finds(searcher, job, buffer, input, state, page, output)? {
-        write_binary(&job.style, page, output)?;
+    if finds(searcher, job, buffer, input, state, output)? {
+        write_binary(&job.style, &mut state.page, output)?;
         return Ok(true);
     }
     Ok(any)
@@ -64,7 +63,6 @@ fn finds<R: Read, W: Sink>(
     buffer: &mut Buffer,
     input: &mut R,
     state: &mut State,
-    page: &mut Vec<u8>,
     output: &mut W,
 ) -> Result<bool, Stop>
     requires of { IsBuiltFromSome searcher.now }
@@ -76,9 +74,7 @@ fn finds<R: Read, W: Sink>(
 {
     let seeking = job.seeking();
     state.begin(&seeking);
-    search_behind(
-        searcher, &seeking, false, buffer, input, state, page, output,
-    )?;
+    search_behind(searcher, &seeking, false, buffer, input, state, output)?;
     Ok(state.selected > 0)
 }
 

@@ -170,6 +170,8 @@ pub struct State {
     pub selected: u64,
     /// What is known of the lines before it, where lines around selected ones are written.
     pub trail: Trail,
+    /// What is put together for one write.
+    pub page: Vec<u8>,
 }
 
 impl State {
@@ -181,6 +183,7 @@ impl State {
             place: first,
             selected: 0,
             trail: Trail::new(alloc, first),
+            page: Vec::new(alloc),
         }
     }
 

@@ -55,7 +55,6 @@ pub fn search_plain<W: Sink>(
     job: &Job<'_>,
     text: &[u8],
     state: &mut State,
-    page: &mut Vec<u8>,
     output: &mut W,
 ) -> Result<(), Stop>
     requires of { IsBuiltFromSome searcher.now }
@@ -68,7 +67,7 @@ pub fn search_plain<W: Sink>(
 {
     let mut rest = text;
     while job.goes_on(rest, state) {
-        rest = search_some(searcher, job, rest, state, page, output)?;
+        rest = search_some(searcher, job, rest, state, output)?;
     }
     Ok(())
 }
@@ -79,7 +78,6 @@ fn search_some<'t, W: Sink>(
     job: &Job<'_>,
     text: &'t [u8],
     state: &mut State,
-    page: &mut Vec<u8>,
     output: &mut W,
 ) -> Result<&'t [u8], Stop>
     requires of { IsBuiltFromSome searcher.now }
@@ -94,19 +92,12 @@ fn search_some<'t, W: Sink>(
 {
     match next_line(searcher, text, job.style.ending)? {
         Some(line) => {
-            pass_others(searcher, job, &text[..line.start], state, page, output)?;
-            pass_matched(
-                searcher,
-                job,
-                &text[line.start..line.end],
-                state,
-                page,
-                output,
-            )?;
+            pass_others(searcher, job, &text[..line.start], state, output)?;
+            pass_matched(searcher, job, &text[line.start..line.end], state, output)?;
             Ok(behind(text, line.end))
         }
         None => {
-            pass_others(searcher, job, text, state, page, output)?;
+            pass_others(searcher, job, text, state, output)?;
             Ok(&text[text.len()..])
         }
     }
@@ -118,7 +109,6 @@ fn pass_matched<W: Sink>(
     job: &Job<'_>,
     line: &[u8],
     state: &mut State,
-    page: &mut Vec<u8>,
     output: &mut W,
 ) -> Result<(), Stop>
     requires of { IsBuiltFromSome searcher.now }
@@ -131,7 +121,7 @@ fn pass_matched<W: Sink>(
         state.old state.new output.old output.new HasMatch line.now result }
 {
     let matched = is_match(searcher, job, line)?;
-    pass_line(searcher, job, matched, line, state, page, output)
+    pass_line(searcher, job, matched, line, state, output)
 }
 
 /// Whether a line in which a pattern occurs matches.
@@ -155,7 +145,6 @@ fn pass_line<W: Sink>(
     matched: bool,
     line: &[u8],
     state: &mut State,
-    page: &mut Vec<u8>,
     output: &mut W,
 ) -> Result<(), Stop>
     requires of { IsBuiltFromSome searcher.now }
@@ -168,7 +157,7 @@ fn pass_line<W: Sink>(
         state.old state.new output.old output.new (λ p line. IsMatched p job.now.fit line matched) line.now result }
 {
     if job.selects(matched) {
-        return pass_selected(searcher, job, line, state, page, output);
+        return pass_selected(searcher, job, line, state, output);
     }
     state.place = behind_line(state.place, line);
     Ok(())
@@ -181,7 +170,6 @@ fn pass_selected<W: Sink>(
     job: &Job<'_>,
     line: &[u8],
     state: &mut State,
-    page: &mut Vec<u8>,
     output: &mut W,
 ) -> Result<(), Stop>
     requires of { IsBuiltFromSome searcher.now }
@@ -197,10 +185,10 @@ fn pass_selected<W: Sink>(
         state.place = behind_line(state.place, line);
         return Ok(());
     }
-    page.clear();
-    put_shown(searcher, job, line, state.place, page)?;
+    state.page.clear();
+    put_shown(searcher, job, line, state.place, &mut state.page)?;
     state.selected = state.selected.saturating_add(1);
-    write_whole(output, page.as_slice())?;
+    write_whole(output, state.page.as_slice())?;
     state.place = behind_line(state.place, line);
     Ok(())
 }
@@ -211,7 +199,6 @@ fn pass_others<W: Sink>(
     job: &Job<'_>,
     text: &[u8],
     state: &mut State,
-    page: &mut Vec<u8>,
     output: &mut W,
 ) -> Result<(), Stop>
     requires of { IsBuiltFromSome searcher.now }
@@ -225,7 +212,7 @@ fn pass_others<W: Sink>(
         state.old state.new output.old output.new text.now result }
 {
     if job.invert {
-        return pass_each(searcher, job, text, state, page, output);
+        return pass_each(searcher, job, text, state, output);
     }
     skip(job, text, state);
     Ok(())
@@ -237,7 +224,6 @@ fn pass_each<W: Sink>(
     job: &Job<'_>,
     text: &[u8],
     state: &mut State,
-    page: &mut Vec<u8>,
     output: &mut W,
 ) -> Result<(), Stop>
     requires of { IsBuiltFromSome searcher.now }
@@ -251,7 +237,7 @@ fn pass_each<W: Sink>(
     let mut rest = text;
     while !rest.is_empty() {
         let end = line_end(rest, job.style.ending);
-        pass_selected(searcher, job, &rest[..end], state, page, output)?;
+        pass_selected(searcher, job, &rest[..end], state, output)?;
         rest = behind(rest, end);
     }
     Ok(())

@@ -41,7 +41,6 @@ pub fn search_front<R: Read, W: Sink>(
     buffer: &mut Buffer,
     input: &mut R,
     state: &mut State,
-    page: &mut Vec<u8>,
     output: &mut W,
 ) -> Result<bool, Stop>
     requires of { IsBuiltFromSome searcher.now }
@@ -57,7 +56,7 @@ pub fn search_front<R: Read, W: Sink>(
     ensures reads { ReadsOn (R.remaining input.old) (R.remaining input.new) }
 {
     buffer.clear();
-    search_behind(searcher, job, alone, buffer, input, state, page, output)
+    search_behind(searcher, job, alone, buffer, input, state, output)
 }
 
 /// The same of what is there and all that a reader gives behind it.
@@ -68,7 +67,6 @@ pub fn search_behind<R: Read, W: Sink>(
     buffer: &mut Buffer,
     input: &mut R,
     state: &mut State,
-    page: &mut Vec<u8>,
     output: &mut W,
 ) -> Result<bool, Stop>
     requires of { IsBuiltFromSome searcher.now }
@@ -81,16 +79,16 @@ pub fn search_behind<R: Read, W: Sink>(
     ensures reads { ReadsOn (R.remaining input.old) (R.remaining input.new) }
 {
     let count = buffer.bytes().len();
-    search_whole(searcher, job, buffer, count, state, page, output)?;
+    search_whole(searcher, job, buffer, count, state, output)?;
     for _ in 0..u64::MAX {
         if job.is_done(state) {
             return Ok(false);
         }
-        match read_front(searcher, job, alone, buffer, input, state, page, output)? {
+        match read_front(searcher, job, alone, buffer, input, state, output)? {
             Came::Text => {}
             Came::Binary => return Ok(true),
             Came::End => {
-                search_text(searcher, job, buffer.bytes(), state, page, output)?;
+                search_text(searcher, job, buffer.bytes(), state, output)?;
                 return Ok(false);
             }
         }
@@ -106,7 +104,6 @@ fn read_front<R: Read, W: Sink>(
     buffer: &mut Buffer,
     input: &mut R,
     state: &mut State,
-    page: &mut Vec<u8>,
     output: &mut W,
 ) -> Result<Came, Stop>
     requires of { IsBuiltFromSome searcher.now }
@@ -125,12 +122,12 @@ fn read_front<R: Read, W: Sink>(
     match first_zero(alone, buffer.bytes(), count, job.style.ending) {
         Some(start) => {
             let text = &buffer.bytes()[..start];
-            search_text(searcher, job, text, state, page, output)?;
+            search_text(searcher, job, text, state, output)?;
             buffer.drop_front(start);
             Ok(Came::Binary)
         }
         None => {
-            search_whole(searcher, job, buffer, count, state, page, output)?;
+            search_whole(searcher, job, buffer, count, state, output)?;
             Ok(Came::Text)
         }
     }
@@ -190,7 +187,6 @@ fn search_whole<W: Sink>(
     buffer: &mut Buffer,
     count: usize,
     state: &mut State,
-    page: &mut Vec<u8>,
     output: &mut W,
 ) -> Result<(), Stop>
     requires of { IsBuiltFromSome searcher.now }
@@ -203,7 +199,7 @@ fn search_whole<W: Sink>(
         (W.taken output.old) (W.taken output.new) (bytes_buffered buffer.old))) }
 {
     let whole = whole_lines(buffer.bytes(), count, job.style.ending);
-    search_text(searcher, job, &buffer.bytes()[..whole], state, page, output)?;
+    search_text(searcher, job, &buffer.bytes()[..whole], state, output)?;
     buffer.drop_front(whole);
     Ok(())
 }
