@@ -11,6 +11,7 @@ use crate::format::Piece;
 use crate::options::{Color, Context, Fit, Flags, Shown};
 use crate::print::{Form, Place, Style};
 use crate::trail::Trail;
+use chromesquid::AhoCorasick;
 use std::alloc::Global;
 
 /// What stands for a match that is counted: the number of its pattern.
@@ -159,6 +160,15 @@ impl<'a> Job<'a> {
     {
         !left.is_empty() && !self.is_done(state)
     }
+}
+
+/// What is sought in files, and what is written of it.
+#[derive(Clone, Copy)]
+pub struct Query<'a> {
+    /// What finds the patterns.
+    pub searcher: &'a AhoCorasick,
+    /// What is written of which lines.
+    pub job: Job<'a>,
 }
 
 /// How far a file was searched.
