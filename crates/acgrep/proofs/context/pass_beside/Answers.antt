@@ -1,10 +1,8 @@
 -- A line that is passed over is held.
-use Rattle.acgrep.proofs.Common.{Appends-nil}
-use Rattle.std.proofs.Common.{◌∷◌, ◌≡◌, [], ap, arith, refl}
-use Rattle.acgrep.specs.Contexts.{Holding, WalksSome, walk_of}
+use Rattle.std.proofs.Common.{◌≡◌, ap, arith, refl}
+use Rattle.acgrep.specs.Contexts.{Holding, walk_of}
 use Rattle.acgrep.proofs.Beginnings.{on_err}
-use Rattle.acgrep.proofs.Begun.{begins_nothing}
-use Rattle.acgrep.proofs.Stepped.{passed_lines, walk_same}
+use Rattle.acgrep.proofs.Stepped.{none_begun, passed_lines, walk_same}
 use Rattle.acgrep.proofs.context.pass_beside.Goals as goal
 
 pub returns-clause-walks : goal.returns-clause-walks
@@ -16,4 +14,4 @@ returns-clause-walks g c = λ p is passed.
 
 pub returns-in_err-hold-clause-begun : goal.returns-in_err-hold-clause-begun
 returns-in_err-hold-clause-begun g c = λ p is passed.
-    on_err c.from_residual.result (begins_nothing (WalksSome p c.args.query.now.job c.args.context.now (walk_of c.args.state.now)) (c.args.line.now ∷ []) _ _ [] (walk_of c.args.state.now, (refl, refl)) (Appends-nil _))
+    on_err c.from_residual.result (none_begun p c.args.query.now.job c.args.context.now (walk_of c.args.state.now) c.args.line.now _)

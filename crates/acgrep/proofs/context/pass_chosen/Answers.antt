@@ -1,12 +1,11 @@
 -- What was put together of a selected line and those that are held before it is written, or a beginning of it.
-use Rattle.acgrep.proofs.Common.{Appends, Appends-nil, AppendsBeginning, Job, Patterns}
-use Rattle.std.proofs.Common.{◌∷◌, ◌≡◌, List, Some, [], refl, subst, ℕ}
-use Rattle.acgrep.specs.Contexts.{ShowsEach, ShowsGroup, WalksSome, walk_of}
+use Rattle.acgrep.proofs.Common.{Appends, AppendsBeginning, Job, Patterns}
+use Rattle.std.proofs.Common.{◌≡◌, List, Some, subst, ℕ}
+use Rattle.acgrep.specs.Contexts.{ShowsEach, ShowsGroup, walk_of}
 use Rattle.acgrep.specs.Filled.{held_lines}
 use Rattle.acgrep.specs.Searchers.{Seeks}
 use Rattle.acgrep.proofs.Beginnings.{on_err, page_bytes}
-use Rattle.acgrep.proofs.Begun.{begins_nothing}
-use Rattle.acgrep.proofs.Stepped.{group_put, takes_begun, takes_lines, walk_same}
+use Rattle.acgrep.proofs.Stepped.{group_put, none_begun, takes_begun, takes_lines, walk_same}
 use Rattle.acgrep.proofs.context.pass_chosen.Given.{Over}
 use Rattle.acgrep.proofs.context.pass_chosen.Goals.{After-as_slice}
 use Rattle.acgrep.proofs.context.pass_chosen.Goals as goal
@@ -27,15 +26,15 @@ group_of g c p is =
 
 pub returns-in_err-put_between-clause-begun : goal.returns-in_err-put_between-clause-begun
 returns-in_err-put_between-clause-begun g c = λ p is chosen.
-    on_err c.from_residual.result (begins_nothing (WalksSome p c.args.query.now.job c.args.context.now (walk_of c.args.state.now)) (c.args.line.now ∷ []) _ _ [] (walk_of c.args.state.now, (refl, refl)) (Appends-nil _))
+    on_err c.from_residual.result (none_begun p c.args.query.now.job c.args.context.now (walk_of c.args.state.now) c.args.line.now _)
 
 pub returns-in_err-put_each_line-clause-begun : goal.returns-in_err-put_each_line-clause-begun
 returns-in_err-put_each_line-clause-begun g c = λ p is chosen.
-    on_err c.from_residual-in_err-put_each_line.result (begins_nothing (WalksSome p c.args.query.now.job c.args.context.now (walk_of c.args.state.now)) (c.args.line.now ∷ []) _ _ [] (walk_of c.args.state.now, (refl, refl)) (Appends-nil _))
+    on_err c.from_residual-in_err-put_each_line.result (none_begun p c.args.query.now.job c.args.context.now (walk_of c.args.state.now) c.args.line.now _)
 
 pub returns-in_err-put_shown-clause-begun : goal.returns-in_err-put_shown-clause-begun
 returns-in_err-put_shown-clause-begun g c = λ p is chosen.
-    on_err c.from_residual-in_err-put_shown.result (begins_nothing (WalksSome p c.args.query.now.job c.args.context.now (walk_of c.args.state.now)) (c.args.line.now ∷ []) _ _ [] (walk_of c.args.state.now, (refl, refl)) (Appends-nil _))
+    on_err c.from_residual-in_err-put_shown.result (none_begun p c.args.query.now.job c.args.context.now (walk_of c.args.state.now) c.args.line.now _)
 
 pub returns-in_err-write_whole-clause-begun : goal.returns-in_err-write_whole-clause-begun
 returns-in_err-write_whole-clause-begun g c = λ p is chosen.

@@ -1,11 +1,10 @@
 -- A line that is due is written.
-use Rattle.acgrep.proofs.Common.{Appends-nil, AppendsBeginning, Job}
-use Rattle.std.proofs.Common.{◌∷◌, ◌≡◌, Some, [], refl, subst}
-use Rattle.acgrep.specs.Contexts.{WalksSome, walk_of}
+use Rattle.acgrep.proofs.Common.{AppendsBeginning, Job}
+use Rattle.std.proofs.Common.{◌≡◌, Some, refl, subst}
+use Rattle.acgrep.specs.Contexts.{walk_of}
 use Rattle.acgrep.specs.Written.{WritesLine}
 use Rattle.acgrep.proofs.Beginnings.{on_err, page_bytes, page_writes}
-use Rattle.acgrep.proofs.Begun.{begins_nothing}
-use Rattle.acgrep.proofs.Stepped.{due_begun, due_lines, walk_same}
+use Rattle.acgrep.proofs.Stepped.{due_begun, due_lines, none_begun, walk_same}
 use Rattle.acgrep.proofs.context.pass_due.Goals as goal
 
 pub returns-clause-walks : goal.returns-clause-walks
@@ -21,7 +20,7 @@ returns-clause-walks g c = λ p is passed.
 
 pub returns-in_err-put_shown-clause-begun : goal.returns-in_err-put_shown-clause-begun
 returns-in_err-put_shown-clause-begun g c = λ p is passed.
-    on_err c.from_residual.result (begins_nothing (WalksSome p c.args.query.now.job c.args.context.now (walk_of c.args.state.now)) (c.args.line.now ∷ []) _ _ [] (walk_of c.args.state.now, (refl, refl)) (Appends-nil _))
+    on_err c.from_residual.result (none_begun p c.args.query.now.job c.args.context.now (walk_of c.args.state.now) c.args.line.now _)
 
 pub returns-in_err-write_whole-clause-begun : goal.returns-in_err-write_whole-clause-begun
 returns-in_err-write_whole-clause-begun g c = λ p is passed.
