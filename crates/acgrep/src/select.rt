@@ -1,6 +1,6 @@
 //! Which lines of a text are selected, and what is written of them.
 
-ghost use Rattle.std.specs.Prelude.{◌≡◌, ◌+◌, ◌%◌, ◌^◌, ◌≤◌, ◌<◌, IfOk, IfSome, OnOk, false, true, not, length};
+ghost use Rattle.std.specs.Prelude.{◌≡◌, ◌+◌, ◌%◌, ◌^◌, ◌≤◌, ◌<◌, IfOk, IfSome, OnOk, false, true, length};
 ghost use Rattle.memchr.specs.Find.{is_byte, places};
 ghost use Rattle.aho_core.specs.Patterns.{Patterns};
 ghost use Rattle.chromesquid.specs.Searcher.{IsBuiltFrom, IsBuiltFromSome};
