@@ -134,22 +134,14 @@ fn pass_chosen<W: Sink>(
     ensures begun { BeginsWalkWhere W.Sink query.now
         state.old state.new output.old output.new true context.now line.now result }
 {
+    let trail = &state.trail;
     state.page.clear();
-    put_between(
-        &query.job,
-        is_parted(context, &state.trail),
-        &mut state.page,
-    )?;
+    put_between(&query.job, is_parted(context, trail), &mut state.page)?;
     let beside = Query {
         searcher: query.searcher,
         job: query.job.beside(),
     };
-    put_each_line(
-        &beside,
-        &state.trail.held,
-        state.trail.first,
-        &mut state.page,
-    )?;
+    put_each_line(&beside, &trail.held, trail.first, &mut state.page)?;
     put_shown(query, line, state.place, &mut state.page)?;
     write_whole(output, state.page.as_slice())?;
     state.trail.restart(context.after);
