@@ -5,12 +5,16 @@ use Rattle.std.specs.Prelude.{◌&&◌, nat_lt}
 use Rattle.acgrep.specs.Contexts.{IsChosenBy, IsNotChosen, PassesBy, ShowsEach, ShowsGroup, Steps, Walk, WalksBegun, WalksLines, WalksSome, behind_chosen, behind_due, behind_passed, beside, separator_if}
 use Rattle.acgrep.specs.Lines.{lines}
 use Rattle.acgrep.specs.Written.{ShowsLine, WritesLine, after_line}
-use Rattle.acgrep.proofs.Begun.{begins_more, begins_some}
+use Rattle.acgrep.proofs.Begun.{begins_more, begins_nothing, begins_some}
 use Rattle.acgrep.proofs.Walked.{begun_behind, lines_join, lines_none, walks_one}
 pub use Rattle.acgrep.proofs.Grouped.{walk_same}
 
 module _ (p : Patterns) (job : Job) where
   module _ (context : Context) where
+    -- nothing is written of a line
+    pub none_begun : (w : Walk) (line : List ℕ) (x : Option (List ℕ)) → WalksBegun p job context w x x (line ∷ [])
+    none_begun w line x = begins_nothing (WalksSome p job context w) (line ∷ []) x x [] (w, (refl, refl)) (Appends-nil x)
+
     -- a selected line and those held before it are written
     pub takes_lines : (w w' : Walk) (line bytes : List ℕ) (x y : Option (List ℕ)) → IsChosenBy p job w.selected line true → ShowsGroup p job context w line bytes → w' ≡ behind_chosen context w line
         → Appends x y bytes → WalksLines p job context w w' x y (line ∷ [])

@@ -22,10 +22,6 @@ HoldNoEnding ending p =
 abbrev pub ForLines : (ending : ℕ) → (Patterns → Type 0) → (Patterns → Type 0) → Type 0
 ForLines ending Are Holds = (p : Patterns) → Are p → HoldNoEnding ending p → Holds p
 
--- so by what is written of each line
-abbrev pub ForJob : Job → (Patterns → Type 0) → (Patterns → Type 0) → Type 0
-ForJob job Are Holds = ForLines job.style.ending Are Holds
-
 -- the lines of a text, and whether it ends in one
 abbrev pub lines_by : Job → List ℕ → List (List ℕ)
 lines_by job text = lines job.style.ending text

@@ -17,7 +17,7 @@ use crate::colors::Screen;
 use crate::failure::Stop;
 use crate::files::{Files, search_names};
 use crate::folders::Folders;
-use crate::job::job_of;
+use crate::job::{Query, job_of};
 use crate::open::Open;
 use crate::options::Flags;
 use crate::tell::{tell_file, tell_memory};
@@ -55,8 +55,8 @@ pub fn search_operands<F: Open + Folders, R: Read, W: Sink, E: Sink>(
     let names = found.names.as_slice();
     let several = are_several(&given.flags, operands.names, names);
     let job = job_of(operands.alloc, given, screen, several);
-    let files = operands.files;
-    let status = search_names(searcher, &job, files, names, input, output, errors);
+    let query = Query { searcher, job };
+    let status = search_names(&query, operands.files, names, input, output, errors);
     status_below(&given.flags, found.unread.as_slice(), status)
 }
 

@@ -2,7 +2,7 @@
 
 ghost use Rattle.std.specs.Prelude.{◌≡◌, ◌≤◌, ◌<◌, ◌⊎◌, [], IsTrue, OnOk, false, length, true};
 ghost use Rattle.std.specs.Io.KnownBytes.{Appends};
-ghost use Rattle.chromesquid.specs.Searcher.{IsBuiltFrom, IsBuiltFromSome};
+ghost use Rattle.chromesquid.specs.Searcher.{IsBuiltFromSome};
 ghost use Rattle.acgrep.specs.Binary.{takes_text};
 ghost use Rattle.acgrep.specs.Filled.{ReadsOn};
 ghost use Rattle.acgrep.specs.Listed.{listed_bytes};
@@ -11,12 +11,12 @@ ghost use Rattle.acgrep.specs.Files.{AreFilesBegun, AreSearchedOr, BeginsName, B
 ghost use Rattle.acgrep.specs.InTurn.{AreSeen, IfBroken, IfSearched, is_enough, nothing_seen, seen_after, status_by};
 ghost use Rattle.acgrep.specs.Printed.{Puts};
 ghost use Rattle.acgrep.specs.Searched.{BeginsFileBy, SearchesReaderBy};
-ghost use Rattle.acgrep.specs.Selected.{ForJob};
+ghost use Rattle.acgrep.specs.Searchers.{ForQuery};
 
 use crate::buffer::Buffer;
 use crate::failure::Stop;
 use crate::guarded::search_guarded;
-use crate::job::{Job, State};
+use crate::job::{Job, Query, State};
 use crate::open::{Open, is_input};
 use crate::opening::{input_obstacle, open_other, pass_over};
 use crate::options::Shown;
@@ -24,7 +24,7 @@ use crate::print::{put_count, put_name};
 use crate::stream::search_front;
 use crate::tell::tell_memory;
 use crate::unread::{tell_stop, tell_total};
-use chromesquid::{AhoCorasick, Sink, write_whole};
+use chromesquid::{Sink, write_whole};
 use std::alloc::Global;
 use std::io;
 use std::io::{Read, Write};
@@ -127,89 +127,81 @@ fn is_enough(shown: Shown, any: bool) -> bool
 
 /// Searches the files of these names, and answers the status. A file that cannot be read does not stop the others.
 pub fn search_names<F: Open, R: Read, W: Sink, E: Sink>(
-    searcher: &AhoCorasick,
-    job: &Job<'_>,
+    query: &Query<'_>,
     files: &F,
     names: &[Vec<u8>],
     input: &mut R,
     output: &mut W,
     errors: &mut Errors<'_, E>,
 ) -> u8
-    requires of { IsBuiltFromSome searcher.now }
+    requires of { IsBuiltFromSome query.now.searcher.now }
     ensures bound { result ≤ 2 }
-    ensures searched { ForJob job.now (IsBuiltFrom searcher.now) (λ p. result < 2
-        → AreSearchedOr p job.now (F.holds files.now) (listed_bytes names.now)
+    ensures searched { ForQuery query.now (λ p. result < 2
+        → AreSearchedOr p query.now.job (F.holds files.now) (listed_bytes names.now)
         (R.remaining input.old) (R.remaining input.new)
         (W.taken output.old) (W.taken output.new) result) }
 
     // Whatever the status, a beginning of what is asked is written.
-    ensures begun { ForJob job.now (IsBuiltFrom searcher.now) (λ p.
-        AreFilesBegun p job.now (F.holds files.now) (listed_bytes names.now)
+    ensures begun { ForQuery query.now (λ p.
+        AreFilesBegun p query.now.job (F.holds files.now) (listed_bytes names.now)
         (R.remaining input.old) (W.taken output.old) (W.taken output.new)) }
 
     // What is told tells why a file was not searched; where the status tells of no error, nothing is told.
-    ensures told { TellsOfFiles E.Sink job.now.hushed job.now.label.now (listed_bytes names.now)
-        job.now.shown result errors.old errors.new }
+    ensures told { TellsOfFiles E.Sink query.now.job.hushed query.now.job.label.now (listed_bytes names.now)
+        query.now.job.shown result errors.old errors.new }
 {
-    let Ok(mut buffer) = Buffer::new(job.alloc) else {
+    let Ok(mut buffer) = Buffer::new(query.job.alloc) else {
         tell_memory(errors);
         return 2;
     };
-    let mut page = Vec::new(job.alloc);
-    let mut state = State::new(job.alloc, job.first);
+    let mut state = State::new(query.job.alloc, query.job.first);
     let seen = search_each(
-        searcher,
-        job,
+        query,
         files,
         names,
         &mut buffer,
         input,
         &mut state,
-        &mut page,
         output,
         errors,
     );
-    seen.status(job.shown)
+    seen.status(query.job.shown)
 }
 
 /// Searches the files of these names, one after another, and answers what was seen.
 fn search_each<F: Open, R: Read, W: Sink, E: Sink>(
-    searcher: &AhoCorasick,
-    job: &Job<'_>,
+    query: &Query<'_>,
     files: &F,
     names: &[Vec<u8>],
     buffer: &mut Buffer,
     input: &mut R,
     state: &mut State,
-    page: &mut Vec<u8>,
     output: &mut W,
     errors: &mut Errors<'_, E>,
 ) -> Seen
-    requires of { IsBuiltFromSome searcher.now }
-    ensures seen { ForJob job.now (IsBuiltFrom searcher.now) (λ p.
-        AreSeen (search_work p job.now (F.holds files.now)) job.now.shown (listed_bytes names.now)
+    requires of { IsBuiltFromSome query.now.searcher.now }
+    ensures seen { ForQuery query.now (λ p.
+        AreSeen (search_work p query.now.job (F.holds files.now)) query.now.job.shown (listed_bytes names.now)
         (R.remaining input.old) (R.remaining input.new)
         (W.taken output.old) (W.taken output.new) result) }
-    ensures told { TellsIf E.Sink (IsMessage (files_told job.now.hushed job.now.label.now (listed_bytes names.now)))
-        job.now.hushed result.failed errors.old errors.new }
+    ensures told { TellsIf E.Sink (IsMessage (files_told query.now.job.hushed query.now.job.label.now (listed_bytes names.now)))
+        query.now.job.hushed result.failed errors.old errors.new }
 {
     let mut seen = Seen::new();
     let mut rest = names;
     while goes_on(rest, seen) {
         let outcome = search_name(
-            searcher,
-            job,
+            query,
             files,
             rest[0].as_slice(),
             seen.selected,
             buffer,
             input,
             state,
-            page,
             output,
             errors,
         );
-        seen = seen.after(job.shown, outcome);
+        seen = seen.after(query.job.shown, outcome);
         rest = &rest[1..];
     }
     seen
@@ -226,45 +218,45 @@ pub fn goes_on(rest: &[Vec<u8>], seen: Seen) -> bool
 
 /// Searches the file of a name.
 fn search_name<F: Open, R: Read, W: Sink, E: Sink>(
-    searcher: &AhoCorasick,
-    job: &Job<'_>,
+    query: &Query<'_>,
     files: &F,
     name: &[u8],
     follows: bool,
     buffer: &mut Buffer,
     input: &mut R,
     state: &mut State,
-    page: &mut Vec<u8>,
     output: &mut W,
     errors: &mut Errors<'_, E>,
 ) -> Outcome
-    requires of { IsBuiltFromSome searcher.now }
-    ensures searched { ForJob job.now (IsBuiltFrom searcher.now) (λ p.
-        IfSearched result (SearchesName p job.now follows (F.holds files.now) name.now
+    requires of { IsBuiltFromSome query.now.searcher.now }
+    ensures searched { ForQuery query.now (λ p.
+        IfSearched result (SearchesName p query.now.job follows (F.holds files.now) name.now
         (R.remaining input.old) (R.remaining input.new)
         (W.taken output.old) (W.taken output.new))) }
-    ensures begun { ForJob job.now (IsBuiltFrom searcher.now) (λ p.
-        IfBroken result (BeginsName p job.now follows (F.holds files.now) name.now
+    ensures begun { ForQuery query.now (λ p.
+        IfBroken result (BeginsName p query.now.job follows (F.holds files.now) name.now
         (R.remaining input.old) (W.taken output.old) (W.taken output.new))) }
     ensures leaves { LeavesInput name.now (R.remaining input.old) (R.remaining input.new) }
-    ensures told { TellsOfOutcome E.Sink job.now.hushed (shown_name job.now.label.now name.now) result
+    ensures told { TellsOfOutcome E.Sink query.now.job.hushed (shown_name query.now.job.label.now name.now) result
         errors.old errors.new }
 {
-    let named = job_for(job, shown_name(job, name), follows);
+    let named = job_for(&query.job, shown_name(&query.job, name), follows);
+    let own = Query {
+        searcher: query.searcher,
+        job: named,
+    };
     let why = if is_input(name) {
         match input_obstacle(&named, files) {
             Some(why) => why,
             None => {
-                return search_one(searcher, &named, buffer, input, state, page, output, errors);
+                return search_one(&own, buffer, input, state, output, errors);
             }
         }
     } else {
         match open_other(&named, files, name) {
             Err(why) => why,
             Ok(mut file) => {
-                return search_one(
-                    searcher, &named, buffer, &mut file, state, page, output, errors,
-                );
+                return search_one(&own, buffer, &mut file, state, output, errors);
             }
         }
     };
@@ -274,35 +266,33 @@ fn search_name<F: Open, R: Read, W: Sink, E: Sink>(
 
 /// Searches what a reader gives, and writes what is asked of it.
 fn search_one<R: Read, W: Sink, E: Sink>(
-    searcher: &AhoCorasick,
-    job: &Job<'_>,
+    query: &Query<'_>,
     buffer: &mut Buffer,
     reader: &mut R,
     state: &mut State,
-    page: &mut Vec<u8>,
     output: &mut W,
     errors: &mut Errors<'_, E>,
 ) -> Outcome
-    requires of { IsBuiltFromSome searcher.now }
-    ensures searched { SearchesReaderBy R.Read W.Sink searcher.now job.now
+    requires of { IsBuiltFromSome query.now.searcher.now }
+    ensures searched { SearchesReaderBy R.Read W.Sink query.now
         reader.old reader.new output.old output.new result }
-    ensures begun { BeginsFileBy W.Sink searcher.now job.now
+    ensures begun { BeginsFileBy W.Sink query.now
         (R.remaining reader.old) output.old output.new result }
     ensures reads { ReadsOn (R.remaining reader.old) (R.remaining reader.new) }
-    ensures told { TellsOfOutcome E.Sink job.now.hushed job.now.style.name.now result
+    ensures told { TellsOfOutcome E.Sink query.now.job.hushed query.now.job.style.name.now result
         errors.old errors.new }
 {
-    if job.is_guarded() {
-        return match search_guarded(searcher, job, buffer, reader, state, page, output) {
+    if query.job.is_guarded() {
+        return match search_guarded(query, buffer, reader, state, output) {
             Ok(any) => Outcome::Searched(any),
-            Err(stop) => break_off(job, state.selected, &stop, output, errors),
+            Err(stop) => break_off(&query.job, state.selected, &stop, output, errors),
         };
     }
-    state.begin(job);
-    let alone = job.takes_text();
-    match search_front(searcher, job, alone, buffer, reader, state, page, output) {
-        Ok(_) => end_file(job, state.selected, output, errors),
-        Err(stop) => break_off(job, state.selected, &stop, output, errors),
+    state.begin(&query.job);
+    let alone = query.job.takes_text();
+    match search_front(query, alone, buffer, reader, state, output) {
+        Ok(_) => end_file(&query.job, state.selected, output, errors),
+        Err(stop) => break_off(&query.job, state.selected, &stop, output, errors),
     }
 }
 

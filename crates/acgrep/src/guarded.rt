@@ -4,54 +4,52 @@
 ghost use Rattle.std.specs.Prelude.{◌≡◌, [], OnErr, OnOk, true};
 ghost use Rattle.std.specs.Io.KnownBytes.{Appends};
 ghost use Rattle.aho_devices.specs.Counts.{AppendsBeginning};
-ghost use Rattle.chromesquid.specs.Searcher.{IsBuiltFrom, IsBuiltFromSome};
+ghost use Rattle.chromesquid.specs.Searcher.{IsBuiltFromSome};
 ghost use Rattle.acgrep.specs.Binary.{binary_by, is_guarded};
 ghost use Rattle.acgrep.specs.Filled.{ReadsOn};
 ghost use Rattle.acgrep.specs.Printed.{Puts};
 ghost use Rattle.acgrep.specs.Searched.{BeginsGuardedBy, FindsBy, SearchesGuardedBy};
-ghost use Rattle.acgrep.specs.Selected.{ForJob};
+ghost use Rattle.acgrep.specs.Searchers.{ForQuery};
 
 use crate::buffer::Buffer;
 use crate::failure::Stop;
-use crate::job::{Job, State};
+use crate::job::{Query, State};
 use crate::print::Style;
 use crate::stream::{search_behind, search_front};
-use chromesquid::{AhoCorasick, Sink, write_whole};
+use chromesquid::{Sink, write_whole};
 use std::io;
 use std::io::{Read, Write};
 
 /// Searches all that a reader gives, and answers whether a line is selected. Of the lines from the first on that holds a zero byte is
 /// told alone that one is, unless so many were selected before them as are asked for.
 pub fn search_guarded<R: Read, W: Sink>(
-    searcher: &AhoCorasick,
-    job: &Job<'_>,
+    query: &Query<'_>,
     buffer: &mut Buffer,
     input: &mut R,
     state: &mut State,
-    page: &mut Vec<u8>,
     output: &mut W,
 ) -> Result<bool, Stop>
-    requires of { IsBuiltFromSome searcher.now }
-    requires guarded { is_guarded job.now ≡ true }
-    ensures searched { SearchesGuardedBy R.Read W.Sink searcher.now job.now
+    requires of { IsBuiltFromSome query.now.searcher.now }
+    requires guarded { is_guarded query.now.job ≡ true }
+    ensures searched { SearchesGuardedBy R.Read W.Sink query.now
         input.old input.new output.old output.new result }
 
     // Where it fails a beginning of that is written.
-    ensures begun { BeginsGuardedBy R.Read W.Sink searcher.now job.now
+    ensures begun { BeginsGuardedBy R.Read W.Sink query.now
         input.old output.old output.new result }
     ensures reads { ReadsOn (R.remaining input.old) (R.remaining input.new) }
 {
-    state.begin(job);
-    let binary = search_front(searcher, job, true, buffer, input, state, page, output)?;
+    state.begin(&query.job);
+    let binary = search_front(query, true, buffer, input, state, output)?;
     let any = state.selected > 0;
     if !binary {
         return Ok(any);
     }
-    if job.is_full(state.selected) {
+    if query.job.is_full(state.selected) {
         return Ok(any);
     }
-    if finds(searcher, job, buffer, input, state, page, output)? {
-        write_binary(&job.style, page, output)?;
+    if finds(query, buffer, input, state, output)? {
+        write_binary(&query.job.style, &mut state.page, output)?;
         return Ok(true);
     }
     Ok(any)
@@ -59,26 +57,26 @@ pub fn search_guarded<R: Read, W: Sink>(
 
 /// Whether a line is selected of those that are there or come. Nothing is written.
 fn finds<R: Read, W: Sink>(
-    searcher: &AhoCorasick,
-    job: &Job<'_>,
+    query: &Query<'_>,
     buffer: &mut Buffer,
     input: &mut R,
     state: &mut State,
-    page: &mut Vec<u8>,
     output: &mut W,
 ) -> Result<bool, Stop>
-    requires of { IsBuiltFromSome searcher.now }
-    ensures found { FindsBy R.Read W.Sink searcher.now job.now
+    requires of { IsBuiltFromSome query.now.searcher.now }
+    ensures found { FindsBy R.Read W.Sink query.now
         buffer.old input.old input.new output.old output.new result }
-    ensures unwritten { ForJob job.now (IsBuiltFrom searcher.now) (λ p.
+    ensures unwritten { ForQuery query.now (λ p.
         OnErr result (Appends (W.taken output.old) (W.taken output.new) [])) }
     ensures reads { ReadsOn (R.remaining input.old) (R.remaining input.new) }
 {
-    let seeking = job.seeking();
+    let seeking = query.job.seeking();
     state.begin(&seeking);
-    search_behind(
-        searcher, &seeking, false, buffer, input, state, page, output,
-    )?;
+    let sought = Query {
+        searcher: query.searcher,
+        job: seeking,
+    };
+    search_behind(&sought, false, buffer, input, state, output)?;
     Ok(state.selected > 0)
 }
 

@@ -11,6 +11,7 @@ use crate::format::Piece;
 use crate::options::{Color, Context, Fit, Flags, Shown};
 use crate::print::{Form, Place, Style};
 use crate::trail::Trail;
+use chromesquid::AhoCorasick;
 use std::alloc::Global;
 
 /// What stands for a match that is counted: the number of its pattern.
@@ -161,6 +162,15 @@ impl<'a> Job<'a> {
     }
 }
 
+/// What is sought in files, and what is written of it.
+#[derive(Clone, Copy)]
+pub struct Query<'a> {
+    /// What finds the patterns.
+    pub searcher: &'a AhoCorasick,
+    /// What is written of which lines.
+    pub job: Job<'a>,
+}
+
 /// How far a file was searched.
 #[derive(Drop)]
 pub struct State {
@@ -170,6 +180,8 @@ pub struct State {
     pub selected: u64,
     /// What is known of the lines before it, where lines around selected ones are written.
     pub trail: Trail,
+    /// What is put together for one write.
+    pub page: Vec<u8>,
 }
 
 impl State {
@@ -181,6 +193,7 @@ impl State {
             place: first,
             selected: 0,
             trail: Trail::new(alloc, first),
+            page: Vec::new(alloc),
         }
     }
 

@@ -1,9 +1,8 @@
 //! Writing the matches of a line.
 
 ghost use Rattle.std.specs.Iterator.{IsFinite};
-ghost use Rattle.std.specs.Prelude.{◌≡◌, IfOk, IfSome, None, true};
+ghost use Rattle.std.specs.Prelude.{◌≡◌, IfOk, IfSome, None};
 ghost use Rattle.aho_core.specs.Iteration.{AreFinds};
-ghost use Rattle.aho_core.specs.Patterns.{Patterns};
 ghost use Rattle.aho_core.specs.Search.{plain_search};
 ghost use Rattle.chromesquid.specs.Searcher.{ForItsPatterns, IsBuiltFromSome};
 ghost use Rattle.acgrep.specs.Matches.{PutsColored, PutsMatches, behind_by, found_by, rest_behind, shown_from};
@@ -12,7 +11,7 @@ ghost use Rattle.acgrep.specs.declared.options.Fit.TheVariants.{AnyPart, WholeLi
 
 use crate::alone::{behind_alone, next_alone};
 use crate::failure::Stop;
-use crate::job::Job;
+use crate::job::Query;
 use crate::json::put_object;
 use crate::options::Fit;
 use crate::print::{Place, Style, part, put_head, put_match, put_up_to};
@@ -35,64 +34,60 @@ pub enum Shape {
 
 /// Writes a line with its matches that fit coloured.
 pub fn put_colored_line<W: Write>(
-    searcher: &AhoCorasick,
-    job: &Job<'_>,
+    query: &Query<'_>,
     place: Place,
     line: &[u8],
     output: &mut W,
 ) -> Result<(), Stop>
-    requires of { IsBuiltFromSome searcher.now }
-    ensures written { PutsColored W.Write searcher.now
-        job.now.fit job.now.style place line.now output.old output.new result }
+    requires of { IsBuiltFromSome query.now.searcher.now }
+    ensures written { PutsColored W.Write query.now
+        place line.now output.old output.new result }
 {
-    let style = &job.style;
+    let style = &query.job.style;
     let number = place.lines.wrapping_add(1);
     put_head(output, style, number, place.bytes, line)?;
-    put_matches(searcher, job, Shape::Colored, place, line, output)?;
+    put_matches(query, Shape::Colored, place, line, output)?;
     output.write_all(&[style.ending])?;
     Ok(())
 }
 
 /// Writes each match of a line that fits: each that is not empty, each of those that stand alone, or the one that is the line.
 pub fn put_matches<W: Write>(
-    searcher: &AhoCorasick,
-    job: &Job<'_>,
+    query: &Query<'_>,
     shape: Shape,
     place: Place,
     line: &[u8],
     output: &mut W,
 ) -> Result<(), Stop>
-    requires of { IsBuiltFromSome searcher.now }
-    ensures written { PutsMatches W.Write searcher.now
-        shape job.now.fit job.now.style place line.now output.old output.new result }
+    requires of { IsBuiltFromSome query.now.searcher.now }
+    ensures written { PutsMatches W.Write query.now
+        shape query.now.job.fit place line.now output.old output.new result }
 {
-    let style = &job.style;
-    match job.fit {
-        Fit::AnyPart => put_finds(searcher, job, shape, place, line, output),
-        Fit::WholeWord => put_alone(searcher, output, shape, style, place, line),
-        Fit::WholeLine => put_whole(searcher, output, shape, style, place, line),
+    match query.job.fit {
+        Fit::AnyPart => put_finds(query, shape, place, line, output),
+        Fit::WholeWord => put_alone(query, shape, place, line, output),
+        Fit::WholeLine => put_whole(query, shape, place, line, output),
     }
 }
 
 /// Writes each match of a line that iteration finds.
 fn put_finds<W: Write>(
-    searcher: &AhoCorasick,
-    job: &Job<'_>,
+    query: &Query<'_>,
     shape: Shape,
     place: Place,
     line: &[u8],
     output: &mut W,
 ) -> Result<(), Stop>
-    requires of { IsBuiltFromSome searcher.now }
-    ensures written { PutsMatches W.Write searcher.now
-        shape AnyPart job.now.style place line.now output.old output.new result }
+    requires of { IsBuiltFromSome query.now.searcher.now }
+    ensures written { PutsMatches W.Write query.now
+        shape AnyPart place line.now output.old output.new result }
 {
-    let style = &job.style;
-    if let Some(found) = list_finds(job.alloc, searcher, line) {
+    let style = &query.job.style;
+    if let Some(found) = list_finds(query.job.alloc, query.searcher, line) {
         put_listed(output, shape, style, place, line, found.as_slice())?;
         return Ok(());
     }
-    let matches = searcher.try_find_iter(line)?;
+    let matches = query.searcher.try_find_iter(line)?;
     put_each(output, shape, style, place, line, matches)?;
     Ok(())
 }
@@ -115,20 +110,20 @@ fn list_finds(alloc: Global, searcher: &AhoCorasick, line: &[u8]) -> Option<Vec<
 
 /// Writes each match of a line that stands alone.
 fn put_alone<W: Write>(
-    searcher: &AhoCorasick,
-    output: &mut W,
+    query: &Query<'_>,
     shape: Shape,
-    style: &Style<'_>,
     place: Place,
     line: &[u8],
+    output: &mut W,
 ) -> Result<(), Stop>
-    requires of { IsBuiltFromSome searcher.now }
-    ensures written { PutsMatches W.Write searcher.now
-        shape WholeWord style.now place line.now output.old output.new result }
+    requires of { IsBuiltFromSome query.now.searcher.now }
+    ensures written { PutsMatches W.Write query.now
+        shape WholeWord place line.now output.old output.new result }
 {
+    let style = &query.job.style;
     let mut at = 0;
     let mut from = 0;
-    while let Some(found) = next_alone(searcher, line, from)? {
+    while let Some(found) = next_alone(query.searcher, line, from)? {
         at = put_found(output, shape, style, place, line, at, &found)?;
         from = behind_alone(&found);
     }
@@ -138,18 +133,18 @@ fn put_alone<W: Write>(
 
 /// Writes the match of a line that is the line, if there is one.
 fn put_whole<W: Write>(
-    searcher: &AhoCorasick,
-    output: &mut W,
+    query: &Query<'_>,
     shape: Shape,
-    style: &Style<'_>,
     place: Place,
     line: &[u8],
+    output: &mut W,
 ) -> Result<(), Stop>
-    requires of { IsBuiltFromSome searcher.now }
-    ensures written { PutsMatches W.Write searcher.now
-        shape WholeLine style.now place line.now output.old output.new result }
+    requires of { IsBuiltFromSome query.now.searcher.now }
+    ensures written { PutsMatches W.Write query.now
+        shape WholeLine place line.now output.old output.new result }
 {
-    match find_whole(searcher, line)? {
+    let style = &query.job.style;
+    match find_whole(query.searcher, line)? {
         Some(found) => put_listed(output, shape, style, place, line, &[found])?,
         None => put_listed(output, shape, style, place, line, &[])?,
     }

@@ -1,17 +1,18 @@
 //! Which lines of a text are selected, and what is written of them.
 
-ghost use Rattle.std.specs.Prelude.{◌≡◌, ◌+◌, ◌%◌, ◌^◌, ◌≤◌, ◌<◌, IfOk, IfSome, OnOk, false, true, not, length};
+ghost use Rattle.std.specs.Prelude.{◌≡◌, ◌+◌, ◌%◌, ◌^◌, ◌≤◌, ◌<◌, IfOk, IfSome, OnOk, false, true, length};
 ghost use Rattle.memchr.specs.Find.{is_byte, places};
 ghost use Rattle.aho_core.specs.Patterns.{Patterns};
 ghost use Rattle.chromesquid.specs.Searcher.{IsBuiltFrom, IsBuiltFromSome};
 ghost use Rattle.acgrep.specs.declared.options.Fit.TheVariants.{AnyPart};
 ghost use Rattle.acgrep.specs.Searched.{BeginsOthersBy, BeginsPlainBy, BeginsWhere, SearchesPlainBy, SearchesSomeBy, TellsOthersBy, TellsWhere, WritesLineBy, WritesNextBy};
-ghost use Rattle.acgrep.specs.Selected.{EndsBy, FindsNone, ForJob, ForLines, IsLine, IsNextLine, IsNoneSelected, lines_by};
+ghost use Rattle.acgrep.specs.Searchers.{ForQuery, Seeks};
+ghost use Rattle.acgrep.specs.Selected.{EndsBy, FindsNone, ForLines, IsLine, IsNextLine, IsNoneSelected, lines_by};
 ghost use Rattle.acgrep.specs.Written.{HasMatch, IsMatched, IsSelected, NumbersLines, SamePlace, after_line, after_lines, is_full, next_count, place_behind, selects};
 
 use crate::alone::has_alone;
 use crate::failure::Stop;
-use crate::job::{Job, State};
+use crate::job::{Job, Query, State};
 use crate::lines::{behind, line_end, line_start};
 use crate::matches::{Shape, put_colored_line, put_matches};
 use crate::options::{Fit, Shown};
@@ -51,62 +52,51 @@ fn line_around(text: &[u8], place: usize, ending: u8) -> Span
 
 /// The same where no lines around selected ones are written.
 pub fn search_plain<W: Sink>(
-    searcher: &AhoCorasick,
-    job: &Job<'_>,
+    query: &Query<'_>,
     text: &[u8],
     state: &mut State,
-    page: &mut Vec<u8>,
     output: &mut W,
 ) -> Result<(), Stop>
-    requires of { IsBuiltFromSome searcher.now }
-    ensures none { ForJob job.now (IsBuiltFrom searcher.now) (λ p.
-        OnOk result (IsNoneSelected p job.now text.now state.new)) }
-    ensures written { SearchesPlainBy W.Sink searcher.now job.now
+    requires of { IsBuiltFromSome query.now.searcher.now }
+    ensures none { ForQuery query.now (λ p.
+        OnOk result (IsNoneSelected p query.now.job text.now state.new)) }
+    ensures written { SearchesPlainBy W.Sink query.now
         state.old state.new output.old output.new text.now result }
-    ensures begun { BeginsPlainBy W.Sink searcher.now job.now
+    ensures begun { BeginsPlainBy W.Sink query.now
         state.old state.new output.old output.new text.now result }
 {
     let mut rest = text;
-    while job.goes_on(rest, state) {
-        rest = search_some(searcher, job, rest, state, page, output)?;
+    while query.job.goes_on(rest, state) {
+        rest = search_some(query, rest, state, output)?;
     }
     Ok(())
 }
 
 /// Searches the lines up to the first with a match and that one, and answers what follows.
 fn search_some<'t, W: Sink>(
-    searcher: &AhoCorasick,
-    job: &Job<'_>,
+    query: &Query<'_>,
     text: &'t [u8],
     state: &mut State,
-    page: &mut Vec<u8>,
     output: &mut W,
 ) -> Result<&'t [u8], Stop>
-    requires of { IsBuiltFromSome searcher.now }
+    requires of { IsBuiltFromSome query.now.searcher.now }
     requires some { 0 < length text.now }
     ensures shorter { IfOk result (λ left. length left.now < length text.now) }
-    ensures none { ForJob job.now (IsBuiltFrom searcher.now) (λ p. job.now.invert ≡ false
-        → job.now.fit ≡ AnyPart → OnOk result (FindsNone p state.old state.new text.now)) }
-    ensures written { SearchesSomeBy W.Sink searcher.now job.now
+    ensures none { ForQuery query.now (λ p. query.now.job.invert ≡ false
+        → query.now.job.fit ≡ AnyPart → OnOk result (FindsNone p state.old state.new text.now)) }
+    ensures written { SearchesSomeBy W.Sink query.now
         state.old state.new output.old output.new text.now result }
-    ensures begun { BeginsPlainBy W.Sink searcher.now job.now
+    ensures begun { BeginsPlainBy W.Sink query.now
         state.old state.new output.old output.new text.now result }
 {
-    match next_line(searcher, text, job.style.ending)? {
+    match next_line(query.searcher, text, query.job.style.ending)? {
         Some(line) => {
-            pass_others(searcher, job, &text[..line.start], state, page, output)?;
-            pass_matched(
-                searcher,
-                job,
-                &text[line.start..line.end],
-                state,
-                page,
-                output,
-            )?;
+            pass_others(query, &text[..line.start], state, output)?;
+            pass_matched(query, &text[line.start..line.end], state, output)?;
             Ok(behind(text, line.end))
         }
         None => {
-            pass_others(searcher, job, text, state, page, output)?;
+            pass_others(query, text, state, output)?;
             Ok(&text[text.len()..])
         }
     }
@@ -114,61 +104,57 @@ fn search_some<'t, W: Sink>(
 
 /// Goes over a line in which a pattern occurs.
 fn pass_matched<W: Sink>(
-    searcher: &AhoCorasick,
-    job: &Job<'_>,
+    query: &Query<'_>,
     line: &[u8],
     state: &mut State,
-    page: &mut Vec<u8>,
     output: &mut W,
 ) -> Result<(), Stop>
-    requires of { IsBuiltFromSome searcher.now }
-    ensures selected { job.now.invert ≡ false → job.now.fit ≡ AnyPart
+    requires of { IsBuiltFromSome query.now.searcher.now }
+    ensures selected { query.now.job.invert ≡ false → query.now.job.fit ≡ AnyPart
         → OnOk result (0 < state.new.selected) }
     ensures placed { OnOk result (state.new.place ≡ after_line state.old.place line.now) }
-    ensures written { TellsWhere W.Sink searcher.now job.now
+    ensures written { TellsWhere W.Sink query.now
         state.old state.new output.old output.new HasMatch line.now result }
-    ensures begun { BeginsWhere W.Sink searcher.now job.now
+    ensures begun { BeginsWhere W.Sink query.now
         state.old state.new output.old output.new HasMatch line.now result }
 {
-    let matched = is_match(searcher, job, line)?;
-    pass_line(searcher, job, matched, line, state, page, output)
+    let matched = is_match(query, line)?;
+    pass_line(query, matched, line, state, output)
 }
 
 /// Whether a line in which a pattern occurs matches.
-pub fn is_match(searcher: &AhoCorasick, job: &Job<'_>, line: &[u8]) -> Result<bool, Stop>
-    requires of { IsBuiltFromSome searcher.now }
-    ensures any { job.now.fit ≡ AnyPart → IfOk result (λ matched. matched ≡ true) }
-    ensures matched { (p : Patterns) → IsBuiltFrom searcher.now p → HasMatch p line.now
-        → IfOk result (IsMatched p job.now.fit line.now) }
+pub fn is_match(query: &Query<'_>, line: &[u8]) -> Result<bool, Stop>
+    requires of { IsBuiltFromSome query.now.searcher.now }
+    ensures any { query.now.job.fit ≡ AnyPart → IfOk result (λ matched. matched ≡ true) }
+    ensures matched { (p : Patterns) → Seeks query.now p → HasMatch p line.now
+        → IfOk result (IsMatched p query.now.job.fit line.now) }
 {
-    match job.fit {
+    match query.job.fit {
         Fit::AnyPart => Ok(true),
-        Fit::WholeWord => has_alone(searcher, line),
-        Fit::WholeLine => is_whole(searcher, line),
+        Fit::WholeWord => has_alone(query.searcher, line),
+        Fit::WholeLine => is_whole(query.searcher, line),
     }
 }
 
 /// Goes over a line of which it is known whether it matches.
 fn pass_line<W: Sink>(
-    searcher: &AhoCorasick,
-    job: &Job<'_>,
+    query: &Query<'_>,
     matched: bool,
     line: &[u8],
     state: &mut State,
-    page: &mut Vec<u8>,
     output: &mut W,
 ) -> Result<(), Stop>
-    requires of { IsBuiltFromSome searcher.now }
-    ensures selected { matched ≡ true → job.now.invert ≡ false
+    requires of { IsBuiltFromSome query.now.searcher.now }
+    ensures selected { matched ≡ true → query.now.job.invert ≡ false
         → OnOk result (0 < state.new.selected) }
     ensures placed { OnOk result (state.new.place ≡ after_line state.old.place line.now) }
-    ensures written { TellsWhere W.Sink searcher.now job.now
-        state.old state.new output.old output.new (λ p line. IsMatched p job.now.fit line matched) line.now result }
-    ensures begun { BeginsWhere W.Sink searcher.now job.now
-        state.old state.new output.old output.new (λ p line. IsMatched p job.now.fit line matched) line.now result }
+    ensures written { TellsWhere W.Sink query.now
+        state.old state.new output.old output.new (λ p line. IsMatched p query.now.job.fit line matched) line.now result }
+    ensures begun { BeginsWhere W.Sink query.now
+        state.old state.new output.old output.new (λ p line. IsMatched p query.now.job.fit line matched) line.now result }
 {
-    if job.selects(matched) {
-        return pass_selected(searcher, job, line, state, page, output);
+    if query.job.selects(matched) {
+        return pass_selected(query, line, state, output);
     }
     state.place = behind_line(state.place, line);
     Ok(())
@@ -177,81 +163,75 @@ fn pass_line<W: Sink>(
 /// Goes over a selected line. What is asked of it is put together first: where the output cannot be written to the end, what is
 /// there is a beginning of it. Where so many lines are selected already as are asked for nothing is written.
 fn pass_selected<W: Sink>(
-    searcher: &AhoCorasick,
-    job: &Job<'_>,
+    query: &Query<'_>,
     line: &[u8],
     state: &mut State,
-    page: &mut Vec<u8>,
     output: &mut W,
 ) -> Result<(), Stop>
-    requires of { IsBuiltFromSome searcher.now }
+    requires of { IsBuiltFromSome query.now.searcher.now }
     ensures counted { OnOk result
-        (state.new.selected ≡ next_count job.now.most state.old.selected) }
+        (state.new.selected ≡ next_count query.now.job.most state.old.selected) }
     ensures placed { OnOk result (state.new.place ≡ after_line state.old.place line.now) }
-    ensures shown { WritesNextBy (IsBuiltFrom searcher.now) job.now state.old
+    ensures shown { WritesNextBy query.now state.old
         (W.taken output.old) (W.taken output.new) line.now result }
-    ensures begun { BeginsWhere W.Sink searcher.now job.now
-        state.old state.new output.old output.new (λ p line. IsSelected p job.now.fit job.now.invert line) line.now result }
+    ensures begun { BeginsWhere W.Sink query.now
+        state.old state.new output.old output.new (λ p line. IsSelected p query.now.job.fit query.now.job.invert line) line.now result }
 {
-    if job.is_full(state.selected) {
+    if query.job.is_full(state.selected) {
         state.place = behind_line(state.place, line);
         return Ok(());
     }
-    page.clear();
-    put_shown(searcher, job, line, state.place, page)?;
+    state.page.clear();
+    put_shown(query, line, state.place, &mut state.page)?;
     state.selected = state.selected.saturating_add(1);
-    write_whole(output, page.as_slice())?;
+    write_whole(output, state.page.as_slice())?;
     state.place = behind_line(state.place, line);
     Ok(())
 }
 
 /// Goes over lines without a match.
 fn pass_others<W: Sink>(
-    searcher: &AhoCorasick,
-    job: &Job<'_>,
+    query: &Query<'_>,
     text: &[u8],
     state: &mut State,
-    page: &mut Vec<u8>,
     output: &mut W,
 ) -> Result<(), Stop>
-    requires of { IsBuiltFromSome searcher.now }
-    ensures selected { job.now.invert ≡ false
+    requires of { IsBuiltFromSome query.now.searcher.now }
+    ensures selected { query.now.job.invert ≡ false
         → OnOk result (state.new.selected ≡ state.old.selected) }
-    ensures placed { EndsBy job.now text.now → OnOk result
-        (SamePlace job.now state.new.place (after_lines state.old.place (lines_by job.now text.now))) }
-    ensures written { TellsOthersBy W.Sink searcher.now job.now
+    ensures placed { EndsBy query.now.job text.now → OnOk result
+        (SamePlace query.now.job state.new.place (after_lines state.old.place (lines_by query.now.job text.now))) }
+    ensures written { TellsOthersBy W.Sink query.now
         state.old state.new output.old output.new text.now result }
-    ensures begun { BeginsOthersBy W.Sink searcher.now job.now
+    ensures begun { BeginsOthersBy W.Sink query.now
         state.old state.new output.old output.new text.now result }
 {
-    if job.invert {
-        return pass_each(searcher, job, text, state, page, output);
+    if query.job.invert {
+        return pass_each(query, text, state, output);
     }
-    skip(job, text, state);
+    skip(&query.job, text, state);
     Ok(())
 }
 
 /// Goes over lines that are all selected.
 fn pass_each<W: Sink>(
-    searcher: &AhoCorasick,
-    job: &Job<'_>,
+    query: &Query<'_>,
     text: &[u8],
     state: &mut State,
-    page: &mut Vec<u8>,
     output: &mut W,
 ) -> Result<(), Stop>
-    requires of { IsBuiltFromSome searcher.now }
-    requires inverted { job.now.invert ≡ true }
-    ensures placed { OnOk result (state.new.place ≡ after_lines state.old.place (lines_by job.now text.now)) }
-    ensures written { TellsOthersBy W.Sink searcher.now job.now
+    requires of { IsBuiltFromSome query.now.searcher.now }
+    requires inverted { query.now.job.invert ≡ true }
+    ensures placed { OnOk result (state.new.place ≡ after_lines state.old.place (lines_by query.now.job text.now)) }
+    ensures written { TellsOthersBy W.Sink query.now
         state.old state.new output.old output.new text.now result }
-    ensures begun { BeginsOthersBy W.Sink searcher.now job.now
+    ensures begun { BeginsOthersBy W.Sink query.now
         state.old state.new output.old output.new text.now result }
 {
     let mut rest = text;
     while !rest.is_empty() {
-        let end = line_end(rest, job.style.ending);
-        pass_selected(searcher, job, &rest[..end], state, page, output)?;
+        let end = line_end(rest, query.job.style.ending);
+        pass_selected(query, &rest[..end], state, output)?;
         rest = behind(rest, end);
     }
     Ok(())
@@ -298,25 +278,21 @@ fn endings(text: &[u8], ending: u8) -> u64
 
 /// Puts together what is asked of a selected line.
 pub fn put_shown<W: Write>(
-    searcher: &AhoCorasick,
-    job: &Job<'_>,
+    query: &Query<'_>,
     line: &[u8],
     place: Place,
     output: &mut W,
 ) -> Result<(), Stop>
-    requires of { IsBuiltFromSome searcher.now }
-    ensures shown { WritesLineBy (IsBuiltFrom searcher.now) job.now place
+    requires of { IsBuiltFromSome query.now.searcher.now }
+    ensures shown { WritesLineBy query.now place
         (W.contents output.old) (W.contents output.new) line.now result }
 {
+    let job = &query.job;
     match job.shown {
-        Shown::Lines if job.colors() => put_colored_line(searcher, job, place, line, output),
+        Shown::Lines if job.colors() => put_colored_line(query, place, line, output),
         Shown::Lines => Ok(put_line(output, &job.style, place, line)?),
-        Shown::Matches if !job.invert => {
-            put_matches(searcher, job, Shape::OnLines, place, line, output)
-        }
-        Shown::Objects if !job.invert => {
-            put_matches(searcher, job, Shape::AsFields, place, line, output)
-        }
+        Shown::Matches if !job.invert => put_matches(query, Shape::OnLines, place, line, output),
+        Shown::Objects if !job.invert => put_matches(query, Shape::AsFields, place, line, output),
         _ => Ok(()),
     }
 }

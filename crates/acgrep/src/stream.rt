@@ -2,21 +2,21 @@
 
 ghost use Rattle.std.specs.Prelude.{◌≡◌, ◌≤◌, ◌-◌, ◌<◌, [], IfOk, IfSome, OnErr, OnOk, length, take, true};
 ghost use Rattle.std.specs.Io.KnownBytes.{Keeps};
-ghost use Rattle.chromesquid.specs.Searcher.{IsBuiltFrom, IsBuiltFromSome};
+ghost use Rattle.chromesquid.specs.Searcher.{IsBuiltFromSome};
 ghost use Rattle.acgrep.specs.Binary.{is_text};
 ghost use Rattle.acgrep.specs.Filled.{FillsBehind, ReadsOn, bytes_buffered};
 ghost use Rattle.acgrep.specs.Guarded.{EndsFront, IsZeroLine, ReadsFront};
 ghost use Rattle.acgrep.specs.Lines.{IsEnding};
 ghost use Rattle.acgrep.specs.Searched.{BeginsReadBy};
-ghost use Rattle.acgrep.specs.Selected.{ForJob};
+ghost use Rattle.acgrep.specs.Searchers.{ForQuery};
 ghost use Rattle.acgrep.specs.Streamed.{BeginsWhole, SearchesWhole, TextIf, course_of};
 
 use crate::buffer::Buffer;
 use crate::context::search_text;
 use crate::failure::Stop;
-use crate::job::{Job, State};
+use crate::job::{Query, State};
 use crate::lines::line_start;
-use chromesquid::{AhoCorasick, Sink};
+use chromesquid::Sink;
 use memchr::memchr;
 use std::io::Read;
 use tool_parts::reason::Reason;
@@ -35,62 +35,58 @@ enum Came {
 /// Searches all that a reader gives, or the lines up to the first that holds a zero byte alone, and answers whether there is one. The
 /// buffer then begins with it. What is settled is handed on before each read.
 pub fn search_front<R: Read, W: Sink>(
-    searcher: &AhoCorasick,
-    job: &Job<'_>,
+    query: &Query<'_>,
     alone: bool,
     buffer: &mut Buffer,
     input: &mut R,
     state: &mut State,
-    page: &mut Vec<u8>,
     output: &mut W,
 ) -> Result<bool, Stop>
-    requires of { IsBuiltFromSome searcher.now }
-    ensures front { ForJob job.now (IsBuiltFrom searcher.now) (λ p. IfOk result (EndsFront p job.now alone
+    requires of { IsBuiltFromSome query.now.searcher.now }
+    ensures front { ForQuery query.now (λ p. IfOk result (EndsFront p query.now.job alone
         (course_of W.Sink R.Read state.old state.new output.old output.new input.old input.new)
         [] (bytes_buffered buffer.new))) }
 
     // Where it fails a beginning of that is written.
-    ensures begun { BeginsReadBy R.Read W.Sink searcher.now job.now alone
+    ensures begun { BeginsReadBy R.Read W.Sink query.now alone
         state.old state.new input.old output.old output.new [] result }
 
     // Whatever comes of it, the reader is only read.
     ensures reads { ReadsOn (R.remaining input.old) (R.remaining input.new) }
 {
     buffer.clear();
-    search_behind(searcher, job, alone, buffer, input, state, page, output)
+    search_behind(query, alone, buffer, input, state, output)
 }
 
 /// The same of what is there and all that a reader gives behind it.
 pub fn search_behind<R: Read, W: Sink>(
-    searcher: &AhoCorasick,
-    job: &Job<'_>,
+    query: &Query<'_>,
     alone: bool,
     buffer: &mut Buffer,
     input: &mut R,
     state: &mut State,
-    page: &mut Vec<u8>,
     output: &mut W,
 ) -> Result<bool, Stop>
-    requires of { IsBuiltFromSome searcher.now }
+    requires of { IsBuiltFromSome query.now.searcher.now }
     requires text { TextIf alone (bytes_buffered buffer.now) }
-    ensures front { ForJob job.now (IsBuiltFrom searcher.now) (λ p. IfOk result (EndsFront p job.now alone
+    ensures front { ForQuery query.now (λ p. IfOk result (EndsFront p query.now.job alone
         (course_of W.Sink R.Read state.old state.new output.old output.new input.old input.new)
         (bytes_buffered buffer.old) (bytes_buffered buffer.new))) }
-    ensures begun { BeginsReadBy R.Read W.Sink searcher.now job.now alone
+    ensures begun { BeginsReadBy R.Read W.Sink query.now alone
         state.old state.new input.old output.old output.new (bytes_buffered buffer.old) result }
     ensures reads { ReadsOn (R.remaining input.old) (R.remaining input.new) }
 {
     let count = buffer.bytes().len();
-    search_whole(searcher, job, buffer, count, state, page, output)?;
+    search_whole(query, buffer, count, state, output)?;
     for _ in 0..u64::MAX {
-        if job.is_done(state) {
+        if query.job.is_done(state) {
             return Ok(false);
         }
-        match read_front(searcher, job, alone, buffer, input, state, page, output)? {
+        match read_front(query, alone, buffer, input, state, output)? {
             Came::Text => {}
             Came::Binary => return Ok(true),
             Came::End => {
-                search_text(searcher, job, buffer.bytes(), state, page, output)?;
+                search_text(query, buffer.bytes(), state, output)?;
                 return Ok(false);
             }
         }
@@ -100,21 +96,19 @@ pub fn search_behind<R: Read, W: Sink>(
 
 /// Reads once and searches the whole lines that are there, or those up to the first that holds a zero byte alone.
 fn read_front<R: Read, W: Sink>(
-    searcher: &AhoCorasick,
-    job: &Job<'_>,
+    query: &Query<'_>,
     alone: bool,
     buffer: &mut Buffer,
     input: &mut R,
     state: &mut State,
-    page: &mut Vec<u8>,
     output: &mut W,
 ) -> Result<Came, Stop>
-    requires of { IsBuiltFromSome searcher.now }
-    ensures read { ForJob job.now (IsBuiltFrom searcher.now) (λ p. IfOk result (ReadsFront p job.now alone
+    requires of { IsBuiltFromSome query.now.searcher.now }
+    ensures read { ForQuery query.now (λ p. IfOk result (ReadsFront p query.now.job alone
         (course_of W.Sink R.Read state.old state.new output.old output.new input.old input.new)
         (bytes_buffered buffer.old) (bytes_buffered buffer.new))) }
     ensures begun { TextIf alone (bytes_buffered buffer.old)
-        → BeginsReadBy R.Read W.Sink searcher.now job.now alone
+        → BeginsReadBy R.Read W.Sink query.now alone
         state.old state.new input.old output.old output.new (bytes_buffered buffer.old) result }
     ensures reads { ReadsOn (R.remaining input.old) (R.remaining input.new) }
 {
@@ -122,15 +116,15 @@ fn read_front<R: Read, W: Sink>(
     if count == 0 {
         return Ok(Came::End);
     }
-    match first_zero(alone, buffer.bytes(), count, job.style.ending) {
+    match first_zero(alone, buffer.bytes(), count, query.job.style.ending) {
         Some(start) => {
             let text = &buffer.bytes()[..start];
-            search_text(searcher, job, text, state, page, output)?;
+            search_text(query, text, state, output)?;
             buffer.drop_front(start);
             Ok(Came::Binary)
         }
         None => {
-            search_whole(searcher, job, buffer, count, state, page, output)?;
+            search_whole(query, buffer, count, state, output)?;
             Ok(Came::Text)
         }
     }
@@ -185,25 +179,23 @@ fn read_more<R: Read, W: Sink>(
 
 /// Searches the whole lines, where a line can end among the last `count` bytes alone, and keeps what follows.
 fn search_whole<W: Sink>(
-    searcher: &AhoCorasick,
-    job: &Job<'_>,
+    query: &Query<'_>,
     buffer: &mut Buffer,
     count: usize,
     state: &mut State,
-    page: &mut Vec<u8>,
     output: &mut W,
 ) -> Result<(), Stop>
-    requires of { IsBuiltFromSome searcher.now }
-    ensures searched { ForJob job.now (IsBuiltFrom searcher.now) (λ p.
-        OnOk result (SearchesWhole p job.now state.old state.new
+    requires of { IsBuiltFromSome query.now.searcher.now }
+    ensures searched { ForQuery query.now (λ p.
+        OnOk result (SearchesWhole p query.now.job state.old state.new
         (W.taken output.old) (W.taken output.new)
         (bytes_buffered buffer.old) (bytes_buffered buffer.new))) }
-    ensures begun { ForJob job.now (IsBuiltFrom searcher.now) (λ p.
-        OnErr result (BeginsWhole p job.now state.old state.new
+    ensures begun { ForQuery query.now (λ p.
+        OnErr result (BeginsWhole p query.now.job state.old state.new
         (W.taken output.old) (W.taken output.new) (bytes_buffered buffer.old))) }
 {
-    let whole = whole_lines(buffer.bytes(), count, job.style.ending);
-    search_text(searcher, job, &buffer.bytes()[..whole], state, page, output)?;
+    let whole = whole_lines(buffer.bytes(), count, query.job.style.ending);
+    search_text(query, &buffer.bytes()[..whole], state, output)?;
     buffer.drop_front(whole);
     Ok(())
 }

@@ -9,7 +9,7 @@ use Rattle.acgrep.proofs.context.put_each_line.Goals as goal
 
 pub loop-index-preserved : goal.loop-index-preserved
 loop-index-preserved g c =
-    let job = c.args.job.now in
+    let job = c.args.query.now.job in
     let held = c.args.held.now in
     let sizes = held.sizes.items in
     let index = c.loop-index.index in
@@ -26,7 +26,7 @@ loop-index-preserved g c =
 
 pub returns : goal.returns
 returns g c =
-    let job = c.args.job.now in
+    let job = c.args.query.now.job in
     let held = c.args.held.now in
     let sizes = held.sizes.items in
     let index = c.loop-index.index in

@@ -1,14 +1,15 @@
 -- The lines so far are searched.
-use Rattle.acgrep.proofs.Common.{IsBuiltFrom, Patterns}
+use Rattle.acgrep.proofs.Common.{Patterns}
 use Rattle.std.proofs.Common.{length}
 use Rattle.acgrep.specs.Contexts.{walk_of}
+use Rattle.acgrep.specs.Searchers.{Seeks}
 use Rattle.acgrep.proofs.Stepped.{WalksTo}
 use Rattle.acgrep.proofs.context.search_around.Given as goal
 
 abbrev pub invariant-loop-rest : goal.invariant-loop-rest
 invariant-loop-rest g l = record {
-  walks : (p : Patterns) → IsBuiltFrom l.fn.searcher p
-      → WalksTo p l.fn.job l.fn.context (walk_of l.initial.state) (walk_of l.state) (g.W.Sink.taken l.initial.output) (g.W.Sink.taken l.output) l.fn.text l.rest;
+  walks : (p : Patterns) → Seeks l.fn.query p
+      → WalksTo p l.fn.query.job l.fn.context (walk_of l.initial.state) (walk_of l.state) (g.W.Sink.taken l.initial.output) (g.W.Sink.taken l.output) l.fn.text l.rest;
 }
 
 abbrev pub decreases-loop-rest : goal.decreases-loop-rest

@@ -11,7 +11,7 @@ use Rattle.acgrep.proofs.files.search_each.Goals as goal
 
 pub loop-rest-init : goal.loop-rest-init
 loop-rest-init g c =
-    let job = c.args.job.now in
+    let job = c.args.query.now.job in
     let names = listed_bytes c.args.names.now in
     let left = g.R.Read.remaining c.args.input.now in
     let held = g.W.Sink.taken c.args.output.now in
@@ -25,7 +25,7 @@ loop-rest-init g c =
 
 pub loop-rest-preserved : goal.loop-rest-preserved
 loop-rest-preserved g c =
-    let job = c.args.job.now in
+    let job = c.args.query.now.job in
     let names = listed_bytes c.args.names.now in
     let begin = g.R.Read.remaining c.args.input.now in
     let first = g.W.Sink.taken c.args.output.now in
@@ -56,6 +56,6 @@ loop-rest-preserved g c =
 
 pub returns-clause-seen : goal.returns-clause-seen
 returns-clause-seen g c = λ p is plain.
-    so_far_end (search_work p c.args.job.now (g.F.Open.holds c.args.files.now)) c.args.job.now.shown (listed_bytes c.args.names.now) (g.R.Read.remaining c.args.input.now)
+    so_far_end (search_work p c.args.query.now.job (g.F.Open.holds c.args.files.now)) c.args.query.now.job.shown (listed_bytes c.args.names.now) (g.R.Read.remaining c.args.input.now)
     (g.R.Read.remaining c.loop-rest.input) (g.W.Sink.taken c.args.output.now) (g.W.Sink.taken c.loop-rest.output) c.loop-rest.seen (listed_bytes c.loop-rest.rest.now)
     (ends_by c.loop-rest.rest.now c.loop-rest.seen (c.goes_on.ensures.stops c.loop-rest-test.false)) (c.loop-rest.invariant.so_far p is plain)

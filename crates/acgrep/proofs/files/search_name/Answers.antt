@@ -11,10 +11,10 @@ use Rattle.acgrep.proofs.files.search_name.Given.{Over}
 use Rattle.acgrep.proofs.files.search_name.Goals.{After-job_for-named}
 use Rattle.acgrep.proofs.files.search_name.Goals as goal
 
-named_so : (g : Over) (c : After-job_for-named g) → IsNamed c.args.job.now (shown_name c.args.job.now.label.now c.args.name.now) c.args.follows c.job_for-named.result
+named_so : (g : Over) (c : After-job_for-named g) → IsNamed c.args.query.now.job (shown_name c.args.query.now.job.label.now c.args.name.now) c.args.follows c.job_for-named.result
 named_so g c = rw c.shown_name.ensures at c.job_for-named.ensures.named
 
-free_so : (g : Over) (c : After-job_for-named g) (p : Patterns) → HoldNoEnding c.args.job.now.style.ending p → HoldNoEnding c.job_for-named.result.style.ending p
+free_so : (g : Over) (c : After-job_for-named g) (p : Patterns) → HoldNoEnding c.args.query.now.job.style.ending p → HoldNoEnding c.job_for-named.result.style.ending p
 free_so g c p plain = subst (λ (n : ℕ). HoldNoEnding n p) (sym (ap (λ (j : Job). j.style.ending) (named_so g c).is)) plain
 
 pub returns-in-None : goal.returns-in-None

@@ -10,8 +10,8 @@ use Rattle.acgrep.proofs.files.search_one.Goals.{After-takes_text-alone}
 use Rattle.acgrep.proofs.files.search_one.Goals as goal
 
 -- whether the lines with a zero byte are searched too
-known_text : (g : Over) (c : After-takes_text-alone g) → (is_guarded c.args.job.now || takes_text c.args.job.now) ≡ c.takes_text-alone.result
-known_text g c = ap (λ (b : Bool). b || takes_text c.args.job.now) (sym c.is_guarded.ensures.guarded ∙ c.if-is_guarded.false) ∙ sym c.takes_text-alone.ensures.text
+known_text : (g : Over) (c : After-takes_text-alone g) → (is_guarded c.args.query.now.job || takes_text c.args.query.now.job) ≡ c.takes_text-alone.result
+known_text g c = ap (λ (b : Bool). b || takes_text c.args.query.now.job) (sym c.is_guarded.ensures.guarded ∙ c.if-is_guarded.false) ∙ sym c.takes_text-alone.ensures.text
 
 pub returns-in-Ok-search_front-clause-searched : goal.returns-in-Ok-search_front-clause-searched
 returns-in-Ok-search_front-clause-searched g c = λ p is plain.

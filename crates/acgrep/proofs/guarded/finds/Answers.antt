@@ -15,7 +15,7 @@ returns-clause-found g c = λ p is plain.
 
 pub returns-in_err-search_behind-clause-unwritten : goal.returns-in_err-search_behind-clause-unwritten
 returns-in_err-search_behind-clause-unwritten g c = λ p is plain.
-    let job = c.args.job.now in
+    let job = c.args.query.now.job in
     let kept = take c.args.buffer.now.held c.args.buffer.now.room.items in
     let left = g.R.Read.remaining c.args.input.now in
     let held = g.W.Sink.taken c.args.output.now in

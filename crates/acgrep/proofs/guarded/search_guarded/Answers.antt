@@ -1,10 +1,11 @@
 -- The lines before the first that holds a zero byte, and whether one of the others is selected.
-use Rattle.acgrep.proofs.Common.{IsBuiltFrom, Keeps-refl, Patterns, or-false, or_right}
+use Rattle.acgrep.proofs.Common.{Keeps-refl, Patterns, or-false, or_right}
 use Rattle.std.proofs.Common.{◌∙◌, Bool, [], ap, false, refl, sym, take, true}
 use Rattle.std.specs.Prelude.{◌||◌, nat_lt}
 use Rattle.acgrep.specs.Binary.{takes_text}
 use Rattle.acgrep.specs.Files.{total_if}
 use Rattle.acgrep.specs.Guarded.{EndsFront}
+use Rattle.acgrep.specs.Searchers.{Seeks}
 use Rattle.acgrep.specs.Selected.{HoldNoEnding}
 use Rattle.acgrep.specs.Streamed.{course}
 use Rattle.acgrep.proofs.Beginnings.{on_err}
@@ -18,8 +19,8 @@ use Rattle.acgrep.proofs.guarded.search_guarded.Goals as goal
 pub returns-in_err-binary-clause-begun : goal.returns-in_err-binary-clause-begun
 returns-in_err-binary-clause-begun g c = λ p is plain.
     on_err c.from_residual.result
-    (file_begins p c.args.job.now true (ap (λ (b : Bool). b || takes_text c.args.job.now) c.requires.guarded) c.begin.new.self c.search_front.new.state (g.R.Read.remaining c.args.input.now) (g.W.Sink.taken c.args.output.now) _ _
-    c.begin.ensures.begin (c.in_err-binary.ensures.begun p is plain) (total_none c.args.job.now c.search_front.new.state.selected _ _ (Keeps-refl _)))
+    (file_begins p c.args.query.now.job true (ap (λ (b : Bool). b || takes_text c.args.query.now.job) c.requires.guarded) c.begin.new.self c.search_front.new.state (g.R.Read.remaining c.args.input.now) (g.W.Sink.taken c.args.output.now) _ _
+    c.begin.ensures.begin (c.in_err-binary.ensures.begun p is plain) (total_none c.args.query.now.job c.search_front.new.state.selected _ _ (Keeps-refl _)))
 
 pub returns-then-not-binary-clause-searched : goal.returns-then-not-binary-clause-searched
 returns-then-not-binary-clause-searched g c = λ p is plain.
@@ -27,8 +28,8 @@ returns-then-not-binary-clause-searched g c = λ p is plain.
     (rw c.if-not-binary.true at c.in_ok-binary.ensures.front p is plain)
 
 -- the lines up to the first with a zero byte were searched
-front_of : (g : Over) (c : After-is_full g) (p : Patterns) → IsBuiltFrom c.args.searcher.now p → HoldNoEnding c.args.job.now.style.ending p
-    → EndsFront p c.args.job.now true
+front_of : (g : Over) (c : After-is_full g) (p : Patterns) → Seeks c.args.query.now p → HoldNoEnding c.args.query.now.job.style.ending p
+    → EndsFront p c.args.query.now.job true
     (course c.begin.new.self c.search_front.new.state (g.W.Sink.taken c.args.output.now) (g.W.Sink.taken c.search_front.new.output) (g.R.Read.remaining c.args.input.now) (g.R.Read.remaining c.search_front.new.input))
     [] (take c.search_front.new.buffer.held c.search_front.new.buffer.room.items) true
 front_of g c p is plain = rw c.if-not-binary.false at c.in_ok-binary.ensures.front p is plain
@@ -40,7 +41,7 @@ returns-then-is_full-clause-searched g c = λ p is plain.
 
 pub returns-in_err-finds-clause-begun : goal.returns-in_err-finds-clause-begun
 returns-in_err-finds-clause-begun g c = λ p is plain.
-    let job = c.args.job.now in
+    let job = c.args.query.now.job in
     let (asked, front, binary) = front_of g (goal.at.returns-in_err-finds-clause-begun g c).After-is_full p is plain in
     on_err c.from_residual-in_err-finds.result
     (front_begins p job (ap (λ (b : Bool). b || takes_text job) c.requires.guarded) _ _ _ _ _ _ _ _ c.begin.ensures.begin front

@@ -20,7 +20,7 @@ loop-found-preserved g c =
           let next : IsNextAlone p line from (Some found) = subst (IsNextAlone p line from) c.in-Some.is (c.in_ok-found.ensures.next p is) in (
             ms ++ (found ∷ []),
             alone_step p line from c.behind_alone-from.result ms found behind next so_far,
-            put_step c.args.shape c.args.style.now c.args.place line ms found c.loop-found.at c.in_ok-at.at (held c.args.output.now) (held c.loop-found.output) (held c.put_found.new.output)
+            put_step c.args.shape c.args.query.now.job.style c.args.place line ms found c.loop-found.at c.in_ok-at.at (held c.args.output.now) (held c.loop-found.output) (held c.put_found.new.output)
                 c.in_ok-at.ensures.behind c.in_ok-at.ensures.written written,
           );
     }
@@ -36,6 +36,6 @@ returns g c =
           record {
             matches = ms;
             found = alone_end p line from ms (subst (IsNextAlone p line from) c.in_default.is (c.in_ok-found.ensures.next p is)) so_far;
-            written = put_end c.args.shape c.args.style.now c.args.place line ms c.loop-found.at (held c.args.output.now) (held c.loop-found.output) (held c.put_rest.new.output) c.in_ok-put_rest.ensures.written written;
+            written = put_end c.args.shape c.args.query.now.job.style c.args.place line ms c.loop-found.at (held c.args.output.now) (held c.loop-found.output) (held c.put_rest.new.output) c.in_ok-put_rest.ensures.written written;
           };
     }

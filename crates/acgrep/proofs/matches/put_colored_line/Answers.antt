@@ -7,7 +7,7 @@ use Rattle.acgrep.proofs.matches.put_colored_line.Goals as goal
 pub returns : goal.returns
 returns g c =
     let held = g.W.Write.contents in
-    let style = c.args.job.now.style in
+    let style = c.args.query.now.job.style in
     let place = c.args.place in
     record {
       written = λ p is.

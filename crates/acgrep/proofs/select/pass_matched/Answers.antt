@@ -14,4 +14,4 @@ returns-clause-begun g c = λ p is has. c.pass_line.ensures.begun p is (c.in_ok-
 
 pub returns-in_err-matched-clause-begun : goal.returns-in_err-matched-clause-begun
 returns-in_err-matched-clause-begun g c = λ p is has.
-    on_err c.from_residual.result (begins_nothing (TellsFrom p c.args.job.now None c.args.state.now c.args.state.now.selected) (c.args.line.now ∷ []) _ _ [] (refl, refl) (Appends-nil _))
+    on_err c.from_residual.result (begins_nothing (TellsFrom p c.args.query.now.job None c.args.state.now c.args.state.now.selected) (c.args.line.now ∷ []) _ _ [] (refl, refl) (Appends-nil _))

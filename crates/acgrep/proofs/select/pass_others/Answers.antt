@@ -6,4 +6,4 @@ use Rattle.acgrep.proofs.select.pass_others.Goals as goal
 
 pub returns-clause-written : goal.returns-clause-written
 returns-clause-written g c = λ p is each.
-    all_passed p c.args.job.now c.args.state.now c.skip.new.state _ _ (lines c.args.job.now.style.ending c.args.text.now) c.if-job.false each c.skip.ensures.selected refl
+    all_passed p c.args.query.now.job c.args.state.now c.skip.new.state _ _ (lines c.args.query.now.job.style.ending c.args.text.now) c.if-query.false each c.skip.ensures.selected refl

@@ -11,7 +11,7 @@ returns-in-Lines g c =
     record {
       shown = λ p is.
           on_ok_weaker c.put_colored_line.result
-          (colored_shows p c.args.job.now c.args.place (held c.args.output.now) (held c.put_colored_line.new.output) c.args.line.now
+          (colored_shows p c.args.query.now.job c.args.place (held c.args.output.now) (held c.put_colored_line.new.output) c.args.line.now
           c.in-Lines.is (sym c.colors.ensures.colored ∙ c.if-colors.true))
           (c.put_colored_line.ensures.written p is);
     }
@@ -22,7 +22,7 @@ returns-in-Matches g c =
     record {
       shown = λ p is.
           on_ok_weaker c.put_matches.result
-          (matches_shows p c.args.job.now c.args.place (held c.args.output.now) (held c.put_matches.new.output) c.args.line.now c.in-Matches.is c.if-not-job.true)
+          (matches_shows p c.args.query.now.job c.args.place (held c.args.output.now) (held c.put_matches.new.output) c.args.line.now c.in-Matches.is c.if-not-job.true)
           (c.put_matches.ensures.written p is);
     }
 
@@ -32,14 +32,14 @@ returns-in-Objects g c =
     record {
       shown = λ p is.
           on_ok_weaker c.put_matches-in-Objects.result
-          (objects_shows p c.args.job.now c.args.place (held c.args.output.now) (held c.put_matches-in-Objects.new.output) c.args.line.now
+          (objects_shows p c.args.query.now.job c.args.place (held c.args.output.now) (held c.put_matches-in-Objects.new.output) c.args.line.now
           c.in-Objects.is c.if-not-job-2.true)
           (c.put_matches-in-Objects.ensures.written p is);
     }
 
 pub returns-in_default : goal.returns-in_default
 returns-in_default g c =
-    let job = c.args.job.now in
+    let job = c.args.query.now.job in
     let same = Appends-nil (g.W.Write.contents c.args.output.now) in
     record {
       shown = λ p is.

@@ -8,7 +8,7 @@ use Rattle.acgrep.proofs.select.search_plain.Goals as goal
 pub loop-rest-init : goal.loop-rest-init
 loop-rest-init g c = record {
   none = λ p is plain invert part zero. inl refl;
-  searched = λ p is plain. searches_start p c.args.job.now c.args.state.now (g.W.Sink.taken c.args.output.now) c.args.text.now;
+  searched = λ p is plain. searches_start p c.args.query.now.job c.args.state.now (g.W.Sink.taken c.args.output.now) c.args.text.now;
 }
 
 pub loop-rest-preserved : goal.loop-rest-preserved
@@ -21,7 +21,7 @@ loop-rest-preserved g c =
             | inl same ↦ inr (subst (HasNone p) same nothing)
             | inr none ↦ inr none
           ];
-      searched = λ p is plain. searches_join p c.args.job.now c.args.state.now c.loop-rest.state c.search_some.new.state
+      searched = λ p is plain. searches_join p c.args.query.now.job c.args.state.now c.loop-rest.state c.search_some.new.state
           (g.W.Sink.taken c.args.output.now) (g.W.Sink.taken c.loop-rest.output) (g.W.Sink.taken c.search_some.new.output)
           _ c.loop-rest.rest.now c.in_ok-rest.rest.now (c.loop-rest.invariant.searched p is plain) (c.goes_on.ensures.some c.loop-rest-test.true) (done.written p is plain);
     }
@@ -38,13 +38,13 @@ returns-clause-none g c = λ p is plain invert part some zero.
     elim (c.loop-rest.invariant.none p is plain invert part zero) [
       | inl same ↦ elim (c.goes_on.ensures.ends c.loop-rest-test.false) [
         | inl empty ↦ absurd (omega (arith, some, ap length same, ap length empty))
-        | inr settled ↦ absurd (omega (arith, zero, settled_some c.args.job.now c.loop-rest.state settled))
+        | inr settled ↦ absurd (omega (arith, zero, settled_some c.args.query.now.job c.loop-rest.state settled))
       ]
       | inr none ↦ none
     ]
 
 pub returns-in_err-rest-clause-begun : goal.returns-in_err-rest-clause-begun
 returns-in_err-rest-clause-begun g c = λ p is plain.
-    on_err c.from_residual.result (begins_rest p c.args.job.now c.args.state.now c.loop-rest.state c.search_some.new.state.selected
+    on_err c.from_residual.result (begins_rest p c.args.query.now.job c.args.state.now c.loop-rest.state c.search_some.new.state.selected
     (g.W.Sink.taken c.args.output.now) (g.W.Sink.taken c.loop-rest.output) (g.W.Sink.taken c.search_some.new.output)
     c.args.text.now c.loop-rest.rest.now (c.loop-rest.invariant.searched p is plain) (c.goes_on.ensures.some c.loop-rest-test.true) (c.in_err-rest.ensures.begun p is plain))

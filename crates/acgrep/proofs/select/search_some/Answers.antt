@@ -1,9 +1,10 @@
 -- The lines before the one that was found have no match, and it has one.
-use Rattle.acgrep.proofs.Common.{Appends-nil, IsBuiltFrom, Patterns}
+use Rattle.acgrep.proofs.Common.{Appends-nil, Patterns}
 use Rattle.std.proofs.Common.{◌++◌, ◌+◌, ◌-◌, ◌∙◌, ◌∷◌, ◌≡◌, List, None, [], ap, arith, drop, length, refl, sym, take, ℕ}
 use Rattle.std.specs.Prelude.{slice_range}
 use Rattle.acgrep.specs.Contexts.{TellsFrom}
 use Rattle.acgrep.specs.Lines.{lines}
+use Rattle.acgrep.specs.Searchers.{Seeks}
 use Rattle.acgrep.specs.Selected.{HoldNoEnding, IsFirstWith}
 use Rattle.acgrep.specs.Written.{HasNone}
 use Rattle.acgrep.proofs.Beginnings.{begins_front, begins_line, on_err}
@@ -15,13 +16,13 @@ use Rattle.acgrep.proofs.select.search_some.Goals.{After-pass_others}
 use Rattle.acgrep.proofs.select.search_some.Goals as goal
 
 -- the line that was found is the first with a match
-first_of : (g : Over) (c : After-pass_others g) (p : Patterns) → IsBuiltFrom c.args.searcher.now p → HoldNoEnding c.args.job.now.style.ending p
-    → IsFirstWith p c.args.job.now.style.ending c.args.text.now c.in-Some.line
+first_of : (g : Over) (c : After-pass_others g) (p : Patterns) → Seeks c.args.query.now p → HoldNoEnding c.args.query.now.job.style.ending p
+    → IsFirstWith p c.args.query.now.job.style.ending c.args.text.now c.in-Some.line
 first_of g c p is plain = rw c.in-Some.is at c.in_ok-line.ensures.next p is plain
 
 pub returns-in_ok-pass_matched-in-Some-clause-written : goal.returns-in_ok-pass_matched-in-Some-clause-written
 returns-in_ok-pass_matched-in-Some-clause-written g c = λ p is plain.
-    let ending = c.args.job.now.style.ending in
+    let ending = c.args.query.now.job.style.ending in
     let text = c.args.text.now in
     let line = c.in-Some.line in
     let first = first_of g (goal.at.returns-in_ok-pass_matched-in-Some-clause-written g c).After-pass_others p is plain in
@@ -38,17 +39,17 @@ returns-in_ok-pass_others-in-None-clause-written g c = λ p is plain.
     let left = drop (length text) text in
     let count : length text - length text ≡ 0 = omega arith in
     let others = c.in_ok-pass_others-in-None.ensures in
-    searches_all p _ _ _ _ _ text _ (ap (λ (n : ℕ). take n left) count ∙ take_zero left) (others.written p is (none_in_lines c.args.job.now.style.ending p text none)) others.placed
+    searches_all p _ _ _ _ _ text _ (ap (λ (n : ℕ). take n left) count ∙ take_zero left) (others.written p is (none_in_lines c.args.query.now.job.style.ending p text none)) others.placed
 
 pub returns-in_err-line-clause-begun : goal.returns-in_err-line-clause-begun
 returns-in_err-line-clause-begun g c = λ p is plain.
-    on_err c.from_residual.result (begins_nothing (TellsFrom p c.args.job.now None c.args.state.now c.args.state.now.selected) (lines c.args.job.now.style.ending c.args.text.now) _ _ [] (refl, refl) (Appends-nil _))
+    on_err c.from_residual.result (begins_nothing (TellsFrom p c.args.query.now.job None c.args.state.now c.args.state.now.selected) (lines c.args.query.now.job.style.ending c.args.text.now) _ _ [] (refl, refl) (Appends-nil _))
 
 pub returns-in_err-pass_others-in-Some-clause-begun : goal.returns-in_err-pass_others-in-Some-clause-begun
 returns-in_err-pass_others-in-Some-clause-begun g c = λ p is plain.
     let first = first_of g (goal.at.returns-in_err-pass_others-in-Some-clause-begun g c).After-pass_others p is plain in
     on_err c.from_residual-in_err-pass_others-in-Some.result
-    (begins_front p c.args.job.now c.args.state.now _ _ _ _ _ _ (cut_lines _ p plain _ c.in-Some.line first c.requires.some)
+    (begins_front p c.args.query.now.job c.args.state.now _ _ _ _ _ _ (cut_lines _ p plain _ c.in-Some.line first c.requires.some)
     (c.in_err-pass_others-in-Some.ensures.begun p is (front_lines _ p plain _ c.in-Some.line first)))
 
 pub returns-in_err-pass_matched-in-Some-clause-begun : goal.returns-in_err-pass_matched-in-Some-clause-begun
@@ -63,4 +64,4 @@ returns-in_err-pass_matched-in-Some-clause-begun g c = λ p is plain.
 pub returns-in_err-pass_others-in-None-clause-begun : goal.returns-in_err-pass_others-in-None-clause-begun
 returns-in_err-pass_others-in-None-clause-begun g c = λ p is plain.
     let none : HasNone p c.args.text.now = rw c.in-None.is at c.in_ok-line.ensures.next p is plain in
-    on_err c.from_residual-in_err-pass_others-in-None.result (c.in_err-pass_others-in-None.ensures.begun p is (none_in_lines c.args.job.now.style.ending p c.args.text.now none))
+    on_err c.from_residual-in_err-pass_others-in-None.result (c.in_err-pass_others-in-None.ensures.begun p is (none_in_lines c.args.query.now.job.style.ending p c.args.text.now none))

@@ -25,8 +25,8 @@ returns-then-is_done-clause-front g c = λ p is plain.
     front_stop p _ _ _ _ _ _ _ _ _ _ (c.is_done.ensures.settled.0 c.if-is_done.true) (c.loop.invariant.searched p is plain).0
 
 -- more is told of the lines behind those that were searched
-goes : (g : Over) (c : After-read_front g) → IsSettled c.args.job.now c.loop.state → ⊥
-goes g c = not_done c.is_done.result (IsSettled c.args.job.now c.loop.state) c.is_done.ensures.settled.1 c.if-is_done.false
+goes : (g : Over) (c : After-read_front g) → IsSettled c.args.query.now.job c.loop.state → ⊥
+goes g c = not_done c.is_done.result (IsSettled c.args.query.now.job c.loop.state) c.is_done.ensures.settled.1 c.if-is_done.false
 
 pub returns-in_err-read_front-clause-begun : goal.returns-in_err-read_front-clause-begun
 returns-in_err-read_front-clause-begun g c = λ p is plain.
@@ -65,7 +65,7 @@ returns-in_err-search_text-in-End-clause-begun g c = λ p is plain.
     let (end, same) = front.some.ends refl in
     on_err c.from_residual-in_err-search_text-in-End.result
     (behind_reads p _ _ _ _ _ _ _ _ _ _ _ _ _ so_far.some more so_far.text
-    (behind_reads p _ _ _ _ _ _ _ _ _ _ _ _ _ front.some (λ settled. more (subst (IsSettled c.args.job.now) same settled)) (front.text text)
+    (behind_reads p _ _ _ _ _ _ _ _ _ _ _ _ _ front.some (λ settled. more (subst (IsSettled c.args.query.now.job) same settled)) (front.text text)
     (behind_end p _ _ _ _ _ _ _ _ end (front.left text) (rw c.bytes.ensures.bytes at c.in_err-search_text-in-End.ensures.begun p is plain))))
 
 pub returns-in_err-search_text-in-End-clause-reads : goal.returns-in_err-search_text-in-End-clause-reads
