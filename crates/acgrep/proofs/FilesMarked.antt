@@ -8,9 +8,8 @@ use Rattle.aho_cover.proofs.Copied.{begins_with}
 use Rattle.aho_devices.specs.Counts.{counted}
 use Rattle.aho_devices.specs.declared.device.Source.{Ghosts as SourceGhosts}
 use Rattle.aho_stream.specs.After.{MayFollow}
-use Rattle.secret_rules.specs.Covering.{covering_by}
 use Rattle.secret_rules.specs.Lines.{Line}
-use Rattle.secret_rules.specs.Ready.{CanCoverLines, CoversTheSame, most_of, rules_of, words_of}
+use Rattle.secret_rules.specs.Ready.{CanCoverLines, CoversTheSame, rules_of}
 use Rattle.secret_rules.specs.declared.error.LineError.{LineError}
 use Rattle.secret_rules.specs.declared.line_cover.LineCover.{LineCover}
 use Rattle.acgrep.specs.Files.{BeginsTotal, EndsFile, IsNamed, known_of, shown_name, total_if}
@@ -145,9 +144,7 @@ pub still_marks : {A : Type 0} (G : Automata A) (old new : LineCover A) (coverin
 still_marks G old new covering can same is = record {
   can = can;
   searched = rw same.automaton is.searched;
-  is = is.is ∙ ap (λ w. covering_by w (rules_of old) (most_of old) covering.patterns) (sym same.words)
-      ∙ ap (λ r. covering_by (words_of new) r (most_of old) covering.patterns) (sym same.rules)
-      ∙ ap (λ m. covering_by (words_of new) (rules_of new) m covering.patterns) (sym same.most);
+  is = rw (same.words, same.rules, same.most) is.is;
 }
 
 -- nothing is written of a file that is not read
@@ -175,16 +172,8 @@ module _ (job named : Job) (covering : Covering) (holds : List ℕ → Option (L
   pub name_comes : (again : Bool) → (read && is_input name) ≡ again → (outcome : Outcome) → IfSearched outcome (MarksInput named covering again (known_of holds name left) held held')
       → IfBroken outcome (BeginsInput named covering again (known_of holds name left) held held') → ComesName job covering holds left read name held held' outcome
   name_comes again is outcome searched begun = record {
-    searched = if_searched outcome _ _ (λ any file. record {
-      named = named;
-      is_named = is_named;
-      file = subst (λ (b : Bool). MarksInput named covering b (known_of holds name left) held held' any) (sym is) file;
-    }) searched;
-    begun = if_broken outcome (λ file. record {
-      named = named;
-      is_named = is_named;
-      file = subst (λ (b : Bool). BeginsInput named covering b (known_of holds name left) held held') (sym is) file;
-    }) begun;
+    searched = if_searched outcome _ _ (λ any file. record { named = named; is_named = is_named; file = rw is file }) searched;
+    begun = if_broken outcome (λ file. record { named = named; is_named = is_named; file = rw is file }) begun;
   }
 
   -- of one that is not searched

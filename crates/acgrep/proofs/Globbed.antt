@@ -1,5 +1,5 @@
 -- How a name is read along a glob.
-use Rattle.acgrep.proofs.Common.{and_parts, common_steps, drop-drop, or_right}
+use Rattle.acgrep.proofs.Common.{and_parts, common_steps, drop-drop, or_right, take_rest}
 use Rattle.std.proofs.Common.{◌+◌, ◌-◌, ◌∙◌, ◌∷◌, ◌≡◌, ◌≤◌, ◌⊎◌, Bool, List, [], ap, arith, drop, false, inl, inr, length, refl, subst, suc, sym, take, true, zero, ℕ}
 use Rattle.std.proofs.lemmas.Bool.{ne_eqb}
 use Rattle.std.specs.Prelude.{◌||◌}
@@ -92,20 +92,16 @@ read_more glob name first behind byte other unlike stands read = let plain = ne_
     less (suc k) [] = omega arith
     less (suc k) (x ∷ l) = omega (arith, less k l)
 
--- what stands behind so many bytes of a slice
-pub behind_slice : (k : ℕ) (bytes : List ℕ) → take (length bytes - k) (drop k bytes) ≡ drop k bytes
-behind_slice k bytes = grind (arith, common_steps)
-
 -- an item more of a set was passed
 pub closes_first : (first : ℕ) (behind : List ℕ) (len : ℕ) → len ≡ item_len first behind → closing (first ∷ behind) ≡ closes_at (1 + len) 0 (take (length behind - len) (drop len behind))
 closes_first first behind len is =
-    closes_skip (item_len first behind) 1 behind ∙ ap (λ (n : ℕ). closes_at (1 + n) 0 (drop n behind)) (sym is) ∙ ap (closes_at (1 + len) 0) (sym (behind_slice len behind))
+    closes_skip (item_len first behind) 1 behind ∙ ap (λ (n : ℕ). closes_at (1 + n) 0 (drop n behind)) (sym is) ∙ ap (closes_at (1 + len) 0) (sym (take_rest behind len))
 
 pub closes_more : (passed first : ℕ) (behind : List ℕ) (len : ℕ) → (first ≡ 93 → ⊥) → len ≡ item_len first behind
     → closes_at passed 0 (first ∷ behind) ≡ closes_at (passed + (1 + len)) 0 (take (length behind - len) (drop len behind))
 closes_more passed first behind len other is =
     rw (ne_eqb first 93 other) (closes_skip (item_len first behind) (passed + 1) behind ∙ ap (λ (n : ℕ). closes_at (passed + 1 + n) 0 (drop n behind)) (sym is)
-    ∙ ap (λ (n : ℕ). closes_at n 0 (drop len behind)) (omega arith) ∙ ap (closes_at (passed + (1 + len)) 0) (sym (behind_slice len behind)))
+    ∙ ap (λ (n : ℕ). closes_at n 0 (drop len behind)) (omega arith) ∙ ap (closes_at (passed + (1 + len)) 0) (sym (take_rest behind len)))
 
 pub passed_first : (behind : List ℕ) (len : ℕ) → len ≤ length behind → 1 + len + length (take (length behind - len) (drop len behind)) ≡ 1 + length behind
 passed_first behind len within = grind (arith, common_steps)

@@ -1,6 +1,6 @@
 -- What a message tells is one that may be told.
-use Rattle.acgrep.proofs.Common.{Errors, IsOneOf, Job, Lines, Matches, Nothing, Objects, Outcome, Seen, Shown, SinkGhosts, Source, Tells, TellsBytes, TellsSome, Unread, cases_Bool, cases_lt, common_steps, get_or, reason_text, some-one, some-tells, some-then, some-weaker, take_all}
-use Rattle.std.proofs.Common.{◌++◌, ◌-◌, ◌<◌, ◌∙◌, ◌∷◌, ◌≡◌, ◌≤◌, ◌⊎◌, Bool, Bor, List, None, Option, Some, [], ap, arith, codes, drop, false, inl, inr, length, refl, subst, sym, take, true, ℕ}
+use Rattle.acgrep.proofs.Common.{Errors, IsOneOf, Job, Lines, Matches, Nothing, Objects, Outcome, Seen, Shown, SinkGhosts, Source, Tells, TellsBytes, TellsSome, Unread, cases_Bool, cases_lt, common_steps, get_or, reason_text, some-one, some-tells, some-then, some-weaker}
+use Rattle.std.proofs.Common.{◌++◌, ◌-◌, ◌<◌, ◌∙◌, ◌∷◌, ◌≡◌, ◌≤◌, ◌⊎◌, Bool, Bor, List, None, Option, Some, [], ap, arith, codes, false, inl, inr, length, refl, subst, sym, true, ℕ}
 use Rattle.std.specs.Prelude.{IfSome, MatchBool, if◌then◌else◌, map, nat_lt, slice_index_or}
 use Rattle.tool_parts.proofs.Lines.{tells-none, tells-weaker, then-some}
 use Rattle.std.specs.Str.{is_utf8}
@@ -217,13 +217,6 @@ module _ {E : Type 0} (K : SinkGhosts E) (names : List (List ℕ)) (P : List ℕ
         | inl low ↦ failed low two
         | inr high ↦ subst (λ (e : Errors E). TellsSome K P old e) (sym (kept high)) (before.some asked (omega (arith, high, bound)))
       ]
-
--- the first source, and those behind it, where there is one
-pub sources-cut : (sources : List Source) (other : Source) (all : List (List ℕ)) → 0 < length sources → AreWithin (source_names (origins_of sources)) all
-    → IsOneOf (origin_of (get_or sources 0 other)).bytes all × AreWithin (source_names (origins_of (take (length sources - 1) (drop 1 sources)))) all
-sources-cut [] other all some within = absurd (omega (arith, some))
-sources-cut (source ∷ sources) other all some within =
-    within-cut _ _ _ _ (ap (λ (l : List Source). (origin_of source).bytes ∷ source_names (origins_of l)) (sym (take_all (length (source ∷ sources) - 1) sources (omega arith)))) within
 
 -- what may be told of a call may be where its arguments say this
 pub told-said : (known : Known) (left : Option (List ℕ)) (given : Option Said) (line : List ℕ) → MayTell (names_said given) line → MaySaid known left given line

@@ -34,11 +34,11 @@ pub fn read_globs<F: Open, R: Read, E: Sink>(
 {
     let mut texts = Vec::new(alloc);
     let mut rest = rules;
-    while !rest.is_empty() {
-        if !read_rule(alloc, &mut texts, rest[0], files, input, errors) {
+    while let Some((rule, behind)) = rest.split_first() {
+        if !read_rule(alloc, &mut texts, *rule, files, input, errors) {
             return None;
         }
-        rest = &rest[1..];
+        rest = behind;
     }
     Some(texts)
 }

@@ -188,15 +188,15 @@ fn put_given(
         ≡ spots_of pending.old.items ++ map operand (name_bytes operands.now)) }
 {
     let mut rest = operands;
-    while !rest.is_empty() {
-        let name = Vec::from_slice(alloc, rest[0])?;
+    while let Some((first, behind)) = rest.split_first() {
+        let name = Vec::from_slice(alloc, *first)?;
         let above = Vec::new(alloc);
         pending.push_back(Pending {
             name,
             given: true,
             above,
         })?;
-        rest = &rest[1..];
+        rest = behind;
     }
     Ok(())
 }

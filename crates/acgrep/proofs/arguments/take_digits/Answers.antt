@@ -1,11 +1,10 @@
 -- The digits at the front are a number.
-use Rattle.acgrep.proofs.Common.{Around}
+use Rattle.acgrep.proofs.Common.{Around, take_rest}
 use Rattle.std.proofs.Common.{◌∙◌, List, ap, sym, ℕ}
 use Rattle.aho_build.proofs.StoppedBuilds.{IfErr-given}
 use Rattle.acgrep.specs.Arguments.{AreRefused, letters_by, said, with_number}
 use Rattle.acgrep.specs.Mistakes.{IsTold, wrong_letters}
 use Rattle.acgrep.proofs.Digits.{digits_behind, digits_read, digits_refused, digits_wrong}
-use Rattle.acgrep.proofs.NoneInLines.{slice_back}
 use Rattle.acgrep.proofs.arguments.take_digits.Goals as goal
 
 pub returns-clause-read : goal.returns-clause-read
@@ -13,12 +12,12 @@ returns-clause-read c =
     let letters = c.args.letters.now in
     let number = c.in_ok-number.number in
     digits_read letters c.args.count c.requires.digits c.requires.within c.requires.some (said c.args.given.now) number c.in_ok-number.ensures.read
-    ∙ ap (λ (l : List ℕ). letters_by l (with_number Around number (said c.args.given.now))) (sym (slice_back letters c.args.count))
+    ∙ ap (λ (l : List ℕ). letters_by l (with_number Around number (said c.args.given.now))) (sym (take_rest letters c.args.count))
 
 pub returns-clause-behind : goal.returns-clause-behind
 returns-clause-behind c =
     digits_behind _ c.args.count c.requires.digits c.requires.within c.requires.some c.in_ok-number.number c.in_ok-number.ensures.read
-    ∙ ap wrong_letters (sym (slice_back _ c.args.count))
+    ∙ ap wrong_letters (sym (take_rest _ c.args.count))
 
 pub returns-in_err-number-clause-refused : goal.returns-in_err-number-clause-refused
 returns-in_err-number-clause-refused c =

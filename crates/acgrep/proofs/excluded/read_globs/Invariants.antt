@@ -8,12 +8,12 @@ use Rattle.acgrep.proofs.Gathered.{GaveSoFar}
 use Rattle.acgrep.proofs.Told.{AreWithin}
 use Rattle.acgrep.proofs.excluded.read_globs.Given as goal
 
-abbrev pub invariant-loop-rest : goal.invariant-loop-rest
-invariant-loop-rest g l = record {
+abbrev pub invariant-loop-rule : goal.invariant-loop-rule
+invariant-loop-rule g l = record {
   texts : GaveSoFar (GivesText (g.F.Open.holds l.fn.files)) (rules_said l.fn.rules) (g.R.Read.remaining l.initial.input) (rules_said l.rest) (g.R.Read.remaining l.input) (listed_bytes l.texts.items);
   told : l.errors ≡ l.initial.errors;
   within : AreWithin (rule_files (rules_said l.rest)) (rule_files (rules_said l.fn.rules));
 }
 
-abbrev pub decreases-loop-rest : goal.decreases-loop-rest
-decreases-loop-rest g l = length l.rest
+abbrev pub decreases-loop-rule : goal.decreases-loop-rule
+decreases-loop-rule g l = length l.rest

@@ -5,8 +5,8 @@ use Rattle.std.specs.Prelude.{map}
 use Rattle.acgrep.specs.Folders.{operand, spots_of}
 use Rattle.acgrep.proofs.walk.put_given.Given as goal
 
-abbrev pub invariant-loop-rest : goal.invariant-loop-rest
-invariant-loop-rest l = spots_of l.pending.items ++ map operand (name_bytes l.rest) ≡ spots_of l.initial.pending.items ++ map operand (name_bytes l.fn.operands)
+abbrev pub invariant-loop-first : goal.invariant-loop-first
+invariant-loop-first l = spots_of l.pending.items ++ map operand (name_bytes l.rest) ≡ spots_of l.initial.pending.items ++ map operand (name_bytes l.fn.operands)
 
-abbrev pub decreases-loop-rest : goal.decreases-loop-rest
-decreases-loop-rest l = length l.rest
+abbrev pub decreases-loop-first : goal.decreases-loop-first
+decreases-loop-first l = length l.rest
