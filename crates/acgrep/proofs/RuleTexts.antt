@@ -1,11 +1,11 @@
 -- The texts of the files of rules, one after another, and the rules that they hold.
-use Rattle.acgrep.proofs.Common.{IsOneOf, cases_Bool}
-use Rattle.std.proofs.Common.{◌++◌, ◌∙◌, ◌∷◌, ◌≡◌, List, Option, [], ap, false, inl, inr, refl, sym, true, ℕ}
+use Rattle.acgrep.proofs.Common.{IsOneOf, cases_Bool, get_or}
+use Rattle.std.proofs.Common.{◌++◌, ◌<◌, ◌∙◌, ◌∷◌, ◌≡◌, List, Option, [], ap, arith, false, inl, inr, length, refl, suc, sym, true, zero, ℕ}
 use Rattle.acgrep.specs.Loading.{AreTexts, IsTextOfRule}
-use Rattle.acgrep.specs.Rules.{RuleSaid, expanded, glob_before, glob_of_line, is_from_file, is_space, rule_before, rules_by}
+use Rattle.acgrep.specs.Rules.{RuleSaid, expanded, glob_before, glob_of_line, is_from_file, is_space, rule_before, rules_by, rules_said}
 use Rattle.acgrep.specs.Runs.{AreRules, AreRulesOf}
 use Rattle.acgrep.specs.Told.{rule_files}
-use Rattle.acgrep.proofs.Told.{AreWithin}
+use Rattle.acgrep.specs.declared.rules.Rule.{Rule}
 
 module _ (holds : List ℕ → Option (List ℕ)) where
   -- the rules of a text
@@ -27,13 +27,13 @@ module _ (holds : List ℕ → Option (List ℕ)) where
       → all ≡ expanded slice found → AreRules holds given left left' all
   rules_read given slice all texts found left left' same alike are is = rw same at (rw (ap (expanded slice) (sym alike) ∙ sym is) at (rules_of_texts _ _ _ _ are))
 
--- the file of the first rule is one of all, and so are those of the others
-pub files_cut : (rule : RuleSaid) (rules : List RuleSaid) (all : List (List ℕ)) → AreWithin (rule_files (rule ∷ rules)) all
-    → (is_from_file rule.sense ≡ true → IsOneOf rule.glob all) × AreWithin (rule_files rules) all
-files_cut rule rules all within = (
-  λ file. (rw file at within) rule.glob (inl refl),
-  elim (cases_Bool (is_from_file rule.sense)) [ inl file ↦ λ name is. (rw file at within) name (inr is) | inr glob ↦ rw glob at within ],
-)
+-- the file of a rule is one of those of all
+pub file_among : (rules : List Rule) (i : ℕ) (d : Rule) → i < length rules → is_from_file (get_or rules i d).sense ≡ true → IsOneOf (get_or rules i d).glob.now (rule_files (rules_said rules))
+file_among [] i d lt file = absurd (omega (arith, lt))
+file_among (rule ∷ rules) zero d lt file = rw file (inl refl)
+file_among (rule ∷ rules) (suc i) d lt file =
+    let later = file_among rules i d (omega (arith, lt)) file in
+    elim (cases_Bool (is_from_file rule.sense)) [ inl own ↦ rw own (inr later) | inr glob ↦ rw glob later ]
 
 -- no rule is left, or no text
 pub expanded_none : (rules : List RuleSaid) → expanded rules [] ≡ []

@@ -188,12 +188,10 @@ fn is_right(part: &[u8]) -> bool
 fn is_code(bytes: &[u8]) -> bool
     ensures { result ≡ is_code bytes.now }
 {
-    let mut rest = bytes;
-    while !rest.is_empty() {
-        if !is_code_byte(rest[0]) {
+    for byte in bytes {
+        if !is_code_byte(*byte) {
             return false;
         }
-        rest = &rest[1..];
     }
     true
 }

@@ -33,12 +33,10 @@ pub fn read_globs<F: Open, R: Read, E: Sink>(
     ensures told { IsNone result → TellsOfRules E.Sink (rules_said rules.now) errors.old errors.new }
 {
     let mut texts = Vec::new(alloc);
-    let mut rest = rules;
-    while let Some((rule, behind)) = rest.split_first() {
+    for rule in rules {
         if !read_rule(alloc, &mut texts, *rule, files, input, errors) {
             return None;
         }
-        rest = behind;
     }
     Some(texts)
 }

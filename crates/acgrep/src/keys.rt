@@ -40,8 +40,7 @@ pub fn read_keys<F: Open, R: Read, E: Sink>(
     ensures told { IsNone result → TellsOfSources E.Sink sources.now errors.old errors.new }
 {
     let mut keys = Keys::new(alloc);
-    let mut rest = sources;
-    while let Some((source, behind)) = rest.split_first() {
+    for source in sources {
         match read_source(&mut keys, *source, files, input) {
             Ok(()) => {}
             Err(error) => {
@@ -49,7 +48,6 @@ pub fn read_keys<F: Open, R: Read, E: Sink>(
                 return None;
             }
         }
-        rest = behind;
     }
     Some(keys)
 }

@@ -41,12 +41,10 @@ pub fn read_rules<F: Open, R: Read, E: Sink>(
     ensures told { IsNone result → TellsSome E.Sink IsMarkTold errors.old errors.new }
 {
     let mut rules = Vec::new(alloc);
-    let mut rest = names;
-    while let Some((name, behind)) = rest.split_first() {
+    for name in names {
         if !add_rules(alloc, &mut rules, *name, files, input, errors) {
             return None;
         }
-        rest = behind;
     }
     match Rules::new(alloc, rules) {
         Ok(rules) => Some(rules),

@@ -1,32 +1,37 @@
 -- The text of a rule more was read.
-use Rattle.std.proofs.Common.{◌∙◌, ◌∷◌, [], refl}
+use Rattle.acgrep.proofs.Common.{common_steps, get_or}
+use Rattle.std.proofs.Common.{◌+◌, ◌∙◌, ◌∷◌, ◌≡◌, [], arith, drop, refl}
 use Rattle.acgrep.specs.Loading.{GivesText}
 use Rattle.acgrep.specs.Rules.{rule_said, rules_said}
 use Rattle.acgrep.specs.Told.{rule_files}
+use Rattle.acgrep.specs.declared.rules.Rule.{Rule}
+use Rattle.acgrep.specs.declared.rules.Sense.TheVariants.{Include}
 use Rattle.acgrep.proofs.Gathered.{all_given, more_given}
-use Rattle.acgrep.proofs.RuleTexts.{files_cut}
+use Rattle.acgrep.proofs.RuleTexts.{file_among}
 use Rattle.acgrep.proofs.excluded.read_globs.Goals as goal
+
+-- any rule
+abbrev other : Rule
+other = record { sense = Include; glob = record { ref_ptr = (0, 0); now = [] } }
 
 pub loop-rule-preserved : goal.loop-rule-preserved
 loop-rule-preserved g c =
-    let rule = rule_said c.in-Some.rule.now in
-    let behind = rules_said c.in-Some.behind.now in
-    let cut = c.in-Some.ensures.cases.0 in
+    let rules = c.args.rules.now in
+    let i = c.loop-rule.rule-index in
+    let cut : drop i rules ≡ get_or rules i other ∷ drop (i + 1) rules = grind (arith, common_steps, c.loop-rule-test.true) in
     let (text, grown, is) = c.read_rule.ensures.read c.if-not-read_rule.false in
     record {
-      texts = more_given (GivesText (g.F.Open.holds c.args.files.now)) (rules_said c.args.rules.now) (g.R.Read.remaining c.args.input.now) rule behind
+      texts = more_given (GivesText (g.F.Open.holds c.args.files.now)) (rules_said c.args.rules.now) (g.R.Read.remaining c.args.input.now) (rule_said (get_or rules i other)) (rules_said (drop (i + 1) rules))
           (g.R.Read.remaining c.loop-rule.input) (g.R.Read.remaining c.read_rule.new.input) _ _ (rw cut at c.loop-rule.invariant.texts) (record { more = text ∷ []; grown = grown; of = (text, refl, is) });
       told = c.read_rule.ensures.silent c.if-not-read_rule.false ∙ c.loop-rule.invariant.told;
-      within = (files_cut rule behind (rule_files (rules_said c.args.rules.now)) (rw cut at c.loop-rule.invariant.within)).1;
     }
 
 pub returns-then-not-read_rule-clause-told : goal.returns-then-not-read_rule-clause-told
 returns-then-not-read_rule-clause-told g c none =
     let all = rule_files (rules_said c.args.rules.now) in
-    let cut = files_cut (rule_said c.in-Some.rule.now) (rules_said c.in-Some.behind.now) all (rw c.in-Some.ensures.cases.0 at c.loop-rule.invariant.within) in
-    rw c.loop-rule.invariant.told at (c.read_rule.ensures.told c.if-not-read_rule.true all cut.0)
+    rw c.loop-rule.invariant.told at (c.read_rule.ensures.told c.if-not-read_rule.true all (file_among c.args.rules.now c.loop-rule.rule-index other c.loop-rule-test.true))
 
 pub returns-clause-texts : goal.returns-clause-texts
 returns-clause-texts g c =
-    all_given (GivesText (g.F.Open.holds c.args.files.now)) (rules_said c.args.rules.now) (g.R.Read.remaining c.args.input.now) rule_said c.loop-rule.rest.now (g.R.Read.remaining c.loop-rule.input) _ c.in_default.ensures.cases
-    c.loop-rule.invariant.texts
+    all_given (GivesText (g.F.Open.holds c.args.files.now)) (rules_said c.args.rules.now) (g.R.Read.remaining c.args.input.now) rule_said (drop c.loop-rule.rule-index c.args.rules.now) (g.R.Read.remaining c.loop-rule.input) _
+    (grind (arith, common_steps, c.loop-rule-test.false)) c.loop-rule.invariant.texts
