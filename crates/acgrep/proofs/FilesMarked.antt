@@ -1,8 +1,8 @@
 -- What is written of files whose lines rules mark.
-use Rattle.acgrep.proofs.Common.{Appends-trans, Consumes, Covering, IsAtEnd, Job, Keeps, Occurrence, Outcome, Place, Rule, Shown, SinkGhosts, StartsWith, Style, Unread, common_steps, is_input, stream_lines}
+use Rattle.acgrep.proofs.Common.{Appends-trans, Consumes, Covering, IsAtEnd, Job, Keeps, Occurrence, Outcome, Place, Rule, SinkGhosts, StartsWith, Unread, common_steps, is_input, stream_lines}
 use Rattle.std.proofs.Common.{◌++◌, ◌∙◌, ◌∷◌, ◌≡◌, ◌⊎◌, Bool, List, None, Option, Some, [], ap, append-nil, arith, false, inl, inr, refl, subst, sym, true, ℕ}
 use Rattle.std.proofs.KnownBytes.{Consumes-whole}
-use Rattle.std.specs.Prelude.{◌&&◌, ◌≢◌, Err, Ok, Result, if◌then◌else◌, nat_lt}
+use Rattle.std.specs.Prelude.{◌&&◌, ◌≢◌, Err, Ok, Result, nat_lt}
 use Rattle.aho_automaton.specs.declared.automaton.Automaton.{Ghosts as Automata}
 use Rattle.aho_cover.proofs.Copied.{begins_with}
 use Rattle.aho_devices.specs.Counts.{counted}
@@ -14,7 +14,7 @@ use Rattle.secret_rules.specs.declared.error.LineError.{LineError}
 use Rattle.secret_rules.specs.declared.line_cover.LineCover.{LineCover}
 use Rattle.acgrep.specs.Files.{BeginsTotal, EndsFile, IsNamed, known_of, shown_name, total_if}
 use Rattle.acgrep.specs.InTurn.{IfBroken, IfSearched}
-use Rattle.acgrep.specs.Marked.{FileAsked, marked_line, marked_lines, marked_shown, pass_behind}
+use Rattle.acgrep.specs.Marked.{FileAsked, marked_line, marked_lines, pass_behind}
 use Rattle.acgrep.specs.MarkedFiles.{AreFirstGiven, BeginsInput, BeginsMarks, BeginsWalk, ComesName, HasFirst, HasToldAll, MarksBy, MarksFile, MarksInput, MarksText, TellsAll, WalksGiven, WalksLines, file_asked, file_marked, file_selected, pass_from, seen_lines}
 use Rattle.acgrep.specs.Written.{needs_one}
 use Rattle.acgrep.specs.declared.marked.Pass.{Pass}
@@ -50,15 +50,8 @@ first_of covering (Some all) (Some rest) given ended lines runs first read at_en
 }
 
 -- where a selected line tells all nothing is written of lines
-either_none : (empty : Bool) (bytes : List ℕ) → bytes ≡ [] → (if empty then [] else bytes) ≡ []
-either_none true bytes none = refl
-either_none false bytes none = none
-
-shown_none : (shown : Shown) (style : Style) (rules : List Rule) (place : Place) (line : List ℕ) (runs : List Occurrence) → needs_one shown ≡ true → marked_shown shown style rules place line runs ≡ []
-shown_none shown style rules place line runs is = grind (arith, common_steps)
-
 line_none : (asked : FileAsked) → needs_one asked.shown ≡ true → (place : Place) (line : List ℕ) (runs : List Occurrence) → marked_line asked place line runs ≡ []
-line_none asked needs place line runs = either_none _ _ (shown_none _ _ _ _ _ _ needs)
+line_none asked needs place line runs = grind (arith, common_steps)
 
 lines_none : (asked : FileAsked) → needs_one asked.shown ≡ true → (pass : Pass) (lines : List (List ℕ)) (runs : List (List Occurrence)) → marked_lines asked pass lines runs ≡ []
 lines_none asked needs pass (line ∷ lines) (own ∷ runs) =

@@ -1,8 +1,7 @@
 -- How a name is read along a glob.
 use Rattle.acgrep.proofs.Common.{and_parts, common_steps, drop-drop, or_right, take_rest}
-use Rattle.std.proofs.Common.{◌+◌, ◌-◌, ◌∙◌, ◌∷◌, ◌≡◌, ◌≤◌, ◌⊎◌, Bool, List, [], ap, arith, drop, false, inl, inr, length, refl, subst, suc, sym, take, true, zero, ℕ}
-use Rattle.std.proofs.lemmas.Bool.{ne_eqb}
-use Rattle.std.specs.Prelude.{◌||◌}
+use Rattle.std.proofs.Common.{◌+◌, ◌-◌, ◌∙◌, ◌∷◌, ◌≡◌, ◌≤◌, Bool, List, [], ap, arith, drop, inl, inr, length, refl, subst, suc, sym, take, true, zero, ℕ}
+use Rattle.std.proofs.lemmas.Bool.{ne_eqb, or_cases}
 use Rattle.acgrep.specs.Globs.{IsCut, any_suffix, closes_at, closing, fits, item_len, one_fits, part_len, stands_for}
 use Rattle.acgrep.proofs.LineLists.{drop_zero}
 
@@ -22,17 +21,13 @@ pub any_here : (holds : List ℕ → Bool) (word : List ℕ) → holds word ≡ 
 any_here holds [] is = is
 any_here holds (byte ∷ rest) is = rw is refl
 
-or_either : (a b : Bool) → (a || b) ≡ true → (a ≡ true) ⊎ (b ≡ true)
-or_either true b is = inl refl
-or_either false b is = inr is
-
 pub any_later : (holds : List ℕ → Bool) (k : ℕ) (word : List ℕ) → any_suffix holds (drop k word) ≡ true → any_suffix holds word ≡ true
 any_later holds (suc k) (byte ∷ rest) is = or_right (holds (byte ∷ rest)) (any_suffix holds rest) (any_later holds k rest is)
 any_later holds _ _ is = is
 
 pub any_where : (holds : List ℕ → Bool) (word : List ℕ) → any_suffix holds word ≡ true → (k : ℕ) × (holds (drop k word) ≡ true)
 any_where holds [] is = (0, is)
-any_where holds (byte ∷ rest) is = elim (or_either (holds (byte ∷ rest)) (any_suffix holds rest) is) [
+any_where holds (byte ∷ rest) is = elim (or_cases (holds (byte ∷ rest)) (any_suffix holds rest) is) [
   | inl here ↦ (0, here)
   | inr later ↦ let (k, there) = any_where holds rest later in (suc k, there)
 ]

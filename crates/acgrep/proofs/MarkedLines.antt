@@ -1,6 +1,7 @@
 -- What is written of lines, one after another, by what a visitor of them leaves.
-use Rattle.acgrep.proofs.Common.{Appends, Appends-nil, Appends-trans, Covering, Occurrence, Patterns, Rule, SinkGhosts, StartsWith, stream_lines}
+use Rattle.acgrep.proofs.Common.{Appends, Appends-nil, Appends-trans, Covering, Occurrence, Patterns, Rule, SinkGhosts, StartsWith, length-map, stream_lines}
 use Rattle.std.proofs.Common.{◌++◌, ◌∙◌, ◌∷◌, ◌≡◌, Bool, List, [], ap, append-nil, append_assoc, arith, drop, inl, inr, length, refl, subst, suc, sym, take, take-append-drop, true, ℕ}
+use Rattle.std.proofs.lemmas.List.{map-append}
 use Rattle.std.specs.Borrow.{MutBor}
 use Rattle.std.specs.Prelude.{Err, Ok, Result}
 use Rattle.aho_core.specs.declared.error.stream.StreamError.{StreamError}
@@ -9,7 +10,7 @@ use Rattle.aho_devices.specs.declared.device.Source.{Ghosts as SourceGhosts}
 use Rattle.aho_stream.specs.Replacing.{SourceGave}
 use Rattle.secret_rules.specs.Covering.{AreLineRuns, covering_by, seen_line}
 use Rattle.secret_rules.specs.Lines.{Line}
-use Rattle.secret_rules.specs.Visits.{AreFirstLines, LeavesVisited, StopsWithin, VisitsEach, taken_line}
+use Rattle.secret_rules.specs.Visits.{LeavesVisited, StopsWithin, VisitsEach, taken_line}
 use Rattle.secret_rules.specs.declared.error.LineError.{LineError}
 use Rattle.secret_rules.specs.declared.visitor.LineVisitor.{Ghosts as VisitorGhosts}
 use Rattle.acgrep.specs.Marked.{FileAsked, StopsMarked, WritesMarked, asked_of, marked_line, marked_lines, pass_after, pass_behind}
@@ -36,13 +37,8 @@ runs_front covering before (one ∷ first) line (runs ∷ more) own are same =
     (are.0, runs_front covering (before ++ seen_line covering.most one.bytes ∷ []) first line more own are.1 (omega (arith, same)))
 runs_front covering before _ line _ own are same = absurd (omega (arith, same))
 
--- lines without the last are first lines too
-first_front : (first : List Line) (line : Line) (all : List Line) → AreFirstLines (first ++ line ∷ []) all → AreFirstLines first all
-first_front first line all (later, is) = (line ∷ later, is ∙ append_assoc first (line ∷ []) later)
-
 lines_append : (most : ℕ) (first : List Line) (line : Line) → seen_lines most (first ++ line ∷ []) ≡ seen_lines most first ++ seen_line most line.bytes ∷ []
-lines_append most [] line = refl
-lines_append most (one ∷ first) line = ap (λ l. seen_line most one.bytes ∷ l) (lines_append most first line)
+lines_append most first line = map-append (λ (line : Line). seen_line most line.bytes) first (line ∷ [])
 
 -- what is written of some lines and one more
 marked_append : (asked : FileAsked) (pass : Pass) (first : List (List ℕ)) (line : List ℕ) (more : List (List Occurrence)) (own : List Occurrence) → length first ≡ length more
@@ -59,10 +55,6 @@ after_append : (pass : Pass) (first : List (List ℕ)) (line : List ℕ) (more :
 after_append pass [] line [] own same = refl
 after_append pass (one ∷ first) line (runs ∷ more) own same = after_append (pass_behind pass one runs) first line more own (omega (arith, same))
 after_append pass _ line _ own same = absurd (omega (arith, same))
-
-seen_length : (most : ℕ) (lines : List Line) → length (seen_lines most lines) ≡ length lines
-seen_length most [] = refl
-seen_length most (line ∷ lines) = ap suc (seen_length most lines)
 
 module _ {V W : Type 0} (L : VisitorGhosts V) (K : SinkGhosts W) (most : ℕ) (output_of : V → MutBor W) (task_in : V → Task) (pass_in : V → Pass)
     (writes : (visitor visitor' : V) (line : Line) (runs : List Occurrence) → L.visits visitor visitor' line runs
@@ -142,7 +134,7 @@ module _ {V W : Type 0} (L : VisitorGhosts V) (K : SinkGhosts W) (most : ℕ) (o
       seen_last = seen_line most line.bytes
 
       as_many : length (seen_lines most first) ≡ length more
-      as_many = seen_length most first ∙ each_first.as_many
+      as_many = length-map first (λ (line : Line). seen_line most line.bytes) ∙ each_first.as_many
 
       all_is : marked_lines (asked_of (task_in visitor)) (pass_in visitor) (seen_lines most (first ++ line ∷ [])) (more ++ own ∷ [])
           ≡ marked_lines (asked_of (task_in visitor)) (pass_in visitor) (seen_lines most first) more ++ marked_line (asked_of (task_in between)) (pass_in between).place seen_last own
@@ -179,7 +171,7 @@ module _ {V W : Type 0} (L : VisitorGhosts V) (K : SinkGhosts W) (most : ℕ) (o
       begun_last = elim stop_last.why [
         | inl kept ↦ begun_by first more (record {
           are = runs_front (covering_by words rules most p) [] first line more own are.are each_first.as_many;
-          first = λ bytes may. first_front first line _ (are.first bytes may);
+          first = λ bytes may. let (later, is) = are.first bytes may in (line ∷ later, is ∙ append_assoc first (line ∷ []) later);
         }) (kept ∙ each_first.comes)
         | inr moved ↦ begun_by _ _ are (moved.0 ∙ ap (λ (p : Pass). pass_behind p seen_last own) each_first.comes ∙ sym (after_append _ _ seen_last more own as_many)
             ∙ ap (λ (l : List (List ℕ)). pass_after (pass_in visitor) l (more ++ own ∷ [])) (sym (lines_append most first line)))

@@ -9,10 +9,8 @@ use Rattle.acgrep.proofs.arguments.take_digits.Goals as goal
 
 pub returns-clause-read : goal.returns-clause-read
 returns-clause-read c =
-    let letters = c.args.letters.now in
-    let number = c.in_ok-number.number in
-    digits_read letters c.args.count c.requires.digits c.requires.within c.requires.some (said c.args.given.now) number c.in_ok-number.ensures.read
-    ∙ ap (λ (l : List ℕ). letters_by l (with_number Around number (said c.args.given.now))) (sym (take_rest letters c.args.count))
+    digits_read _ _ c.requires.digits c.requires.within c.requires.some (said c.args.given.now) _ c.in_ok-number.ensures.read
+    ∙ ap (λ (l : List ℕ). letters_by l (with_number Around c.in_ok-number.number (said c.args.given.now))) (sym (take_rest c.args.letters.now c.args.count))
 
 pub returns-clause-behind : goal.returns-clause-behind
 returns-clause-behind c =
@@ -21,12 +19,10 @@ returns-clause-behind c =
 
 pub returns-in_err-number-clause-refused : goal.returns-in_err-number-clause-refused
 returns-in_err-number-clause-refused c =
-    let letters = c.args.letters.now in
-    IfErr-given (AreRefused (letters_by letters (said c.args.given.now))) c.from_residual.result c.in_err-number.field-0.0 c.from_residual.ensures.1
-    (digits_refused letters c.args.count c.requires.digits c.requires.within c.requires.some (said c.args.given.now) c.in_err-number.field-0.0 c.in_err-number.ensures.refused)
+    IfErr-given (AreRefused (letters_by c.args.letters.now (said c.args.given.now))) c.from_residual.result c.in_err-number.field-0.0 c.from_residual.ensures.1
+    (digits_refused _ _ c.requires.digits c.requires.within c.requires.some _ _ c.in_err-number.ensures.refused)
 
 pub returns-in_err-number-clause-wrong : goal.returns-in_err-number-clause-wrong
 returns-in_err-number-clause-wrong c =
-    let letters = c.args.letters.now in
-    IfErr-given (IsTold (wrong_letters letters)) c.from_residual.result c.in_err-number.field-0.0 c.from_residual.ensures.1
-    (digits_wrong letters c.args.count c.requires.digits c.requires.within c.requires.some c.in_err-number.field-0.0 c.in_err-number.ensures.refused c.in_err-number.ensures.wrong)
+    IfErr-given (IsTold (wrong_letters c.args.letters.now)) c.from_residual.result c.in_err-number.field-0.0 c.from_residual.ensures.1
+    (digits_wrong _ _ c.requires.digits c.requires.within c.requires.some _ c.in_err-number.ensures.refused c.in_err-number.ensures.wrong)
