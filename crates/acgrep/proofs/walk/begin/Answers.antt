@@ -2,7 +2,7 @@
 use Rattle.acgrep.proofs.Common.{common_steps, length-map, name_bytes, nil_from_length, on_ok_weaker}
 use Rattle.std.proofs.Common.{◌++◌, ◌<◌, ◌∙◌, ◌∷◌, ◌≡◌, List, [], ap, arith, length, subst, sym, ℕ}
 use Rattle.std.specs.Prelude.{map}
-use Rattle.acgrep.specs.Folders.{PutsInside, Spot, missed_of, operand, spots_of}
+use Rattle.acgrep.specs.Folders.{Begins, PutsInside, Spot, missed_of, operand, spots_of, tree_of}
 use Rattle.acgrep.specs.Listed.{listed_bytes}
 use Rattle.acgrep.proofs.Walking.{begins-given, begins-here, begins-nowhere}
 use Rattle.acgrep.proofs.walk.begin.Goals as goal
@@ -14,7 +14,8 @@ returns-then-not-is_empty g c =
     let some : 0 < length names = subst (λ (n : ℕ). 0 < n) (sym (length-map c.args.operands.now (λ name. name.now))) full in
     record {
       begun = on_ok_weaker c.put_given.result
-          (λ put rules. rw (put ∙ ap (λ l. spots_of l ++ map operand names) c.requires.none) (begins-given _ rules _ names _ some (ap listed_bytes c.requires.nothing) (ap missed_of c.requires.nowhere)))
+          (λ put rules. subst (λ (l : List Spot). Begins (tree_of g.F.Folders c.args.files.now) rules c.args.ways names l c.args.found.now) (sym (put ∙ ap (λ l. spots_of l ++ map operand names) c.requires.none))
+          (begins-given _ rules _ names _ some (ap listed_bytes c.requires.nothing) (ap missed_of c.requires.nowhere)))
           c.put_given.ensures.put;
     }
 

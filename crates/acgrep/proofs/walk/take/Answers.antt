@@ -2,6 +2,7 @@
 use Rattle.acgrep.proofs.Common.{on_ok_weaker}
 use Rattle.std.proofs.Common.{◌∙◌, refl, sym}
 use Rattle.std.proofs.lemmas.List.{append-nil}
+use Rattle.acgrep.specs.Folders.{spot_of, tree_of}
 use Rattle.acgrep.proofs.Walking.{finds-entered, finds-left, finds-looked, folder-alone}
 use Rattle.acgrep.proofs.walk.take.Goals as goal
 
@@ -14,7 +15,8 @@ pub returns-then-is_folder : goal.returns-then-is_folder
 returns-then-is_folder g c =
     let folder = sym c.is_folder-2.ensures ∙ c.if-is_folder.true in
     let kept = rw (c.is_folder.ensures, folder) at (sym c.is_spot_left.ensures.left ∙ c.if-is_spot_left.false) in
-    record { finds = on_ok_weaker c.enter.result (finds-entered _ _ _ _ _ _ _ _ c.requires.other (folder-alone _ _ _ c.args.kind folder c.requires.kind) kept) c.enter.ensures.entered }
+    let known = folder-alone (tree_of g.F.Folders c.args.files.now) c.args.ways (spot_of c.args.spot) c.args.kind folder c.requires.kind in
+    record { finds = on_ok_weaker c.enter.result (finds-entered _ _ _ _ _ _ _ _ c.requires.other known kept) c.enter.ensures.entered }
 
 pub returns-then-is_searched : goal.returns-then-is_searched
 returns-then-is_searched g c =

@@ -1,6 +1,6 @@
 -- No option, no pattern, no operand and no rule is there.
 use Rattle.acgrep.proofs.Common.{Flags, Piece, Source}
-use Rattle.std.proofs.Common.{◌≡◌, Bor, List, [], codes, ℕ}
+use Rattle.std.proofs.Common.{◌≡◌, Bor, List, [], codes, refl, ℕ}
 use Rattle.std.specs.Prelude.{map}
 use Rattle.acgrep.specs.Arguments.{Said, no_flags, nothing_said, origin_of}
 use Rattle.acgrep.specs.Rules.{rules_said}
