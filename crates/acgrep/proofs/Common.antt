@@ -4,7 +4,7 @@ pub use Rattle.std.proofs.Math.Bool.{or-false}
 pub use Rattle.std.proofs.Math.ListN.{get_or}
 pub use Rattle.std.proofs.lemmas.Bool.{and_from, and_parts, cases_Bool, cases_lt, eq-eqb, eqb-true, lt-ltb, ltb-true, or_right, true≢false}
 pub use Rattle.std.proofs.lemmas.Grind.{common_steps}
-pub use Rattle.std.proofs.lemmas.List.{drop-drop, length-drop, length-map, length-take-le, nil_from_length, take_all}
+pub use Rattle.std.proofs.lemmas.List.{drop-drop, length-drop, length-map, length-take-le, nil_from_length, take_all, take_rest}
 pub use Rattle.std.proofs.lemmas.Result.{on_ok_weaker}
 pub use Rattle.std.specs.Io.{StartsWith}
 pub use Rattle.std.specs.List.{concat, sum}

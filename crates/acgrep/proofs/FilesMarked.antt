@@ -1,21 +1,20 @@
 -- What is written of files whose lines rules mark.
-use Rattle.acgrep.proofs.Common.{Appends-trans, Consumes, Covering, IsAtEnd, Job, Keeps, Occurrence, Outcome, Place, Rule, Shown, SinkGhosts, StartsWith, Style, Unread, common_steps, is_input, stream_lines}
+use Rattle.acgrep.proofs.Common.{Appends-trans, Consumes, Covering, IsAtEnd, Job, Keeps, Occurrence, Outcome, Place, Rule, SinkGhosts, StartsWith, Unread, common_steps, is_input, stream_lines}
 use Rattle.std.proofs.Common.{◌++◌, ◌∙◌, ◌∷◌, ◌≡◌, ◌⊎◌, Bool, List, None, Option, Some, [], ap, append-nil, arith, false, inl, inr, refl, subst, sym, true, ℕ}
 use Rattle.std.proofs.KnownBytes.{Consumes-whole}
-use Rattle.std.specs.Prelude.{◌&&◌, ◌≢◌, Err, Ok, Result, if◌then◌else◌, nat_lt}
+use Rattle.std.specs.Prelude.{◌&&◌, ◌≢◌, Err, Ok, Result, nat_lt}
 use Rattle.aho_automaton.specs.declared.automaton.Automaton.{Ghosts as Automata}
 use Rattle.aho_cover.proofs.Copied.{begins_with}
 use Rattle.aho_devices.specs.Counts.{counted}
 use Rattle.aho_devices.specs.declared.device.Source.{Ghosts as SourceGhosts}
 use Rattle.aho_stream.specs.After.{MayFollow}
-use Rattle.secret_rules.specs.Covering.{covering_by}
 use Rattle.secret_rules.specs.Lines.{Line}
-use Rattle.secret_rules.specs.Ready.{CanCoverLines, CoversTheSame, most_of, rules_of, words_of}
+use Rattle.secret_rules.specs.Ready.{CanCoverLines, CoversTheSame, rules_of}
 use Rattle.secret_rules.specs.declared.error.LineError.{LineError}
 use Rattle.secret_rules.specs.declared.line_cover.LineCover.{LineCover}
 use Rattle.acgrep.specs.Files.{BeginsTotal, EndsFile, IsNamed, known_of, shown_name, total_if}
 use Rattle.acgrep.specs.InTurn.{IfBroken, IfSearched}
-use Rattle.acgrep.specs.Marked.{FileAsked, marked_line, marked_lines, marked_shown, pass_behind}
+use Rattle.acgrep.specs.Marked.{FileAsked, marked_line, marked_lines, pass_behind}
 use Rattle.acgrep.specs.MarkedFiles.{AreFirstGiven, BeginsInput, BeginsMarks, BeginsWalk, ComesName, HasFirst, HasToldAll, MarksBy, MarksFile, MarksInput, MarksText, TellsAll, WalksGiven, WalksLines, file_asked, file_marked, file_selected, pass_from, seen_lines}
 use Rattle.acgrep.specs.Written.{needs_one}
 use Rattle.acgrep.specs.declared.marked.Pass.{Pass}
@@ -51,15 +50,8 @@ first_of covering (Some all) (Some rest) given ended lines runs first read at_en
 }
 
 -- where a selected line tells all nothing is written of lines
-either_none : (empty : Bool) (bytes : List ℕ) → bytes ≡ [] → (if empty then [] else bytes) ≡ []
-either_none true bytes none = refl
-either_none false bytes none = none
-
-shown_none : (shown : Shown) (style : Style) (rules : List Rule) (place : Place) (line : List ℕ) (runs : List Occurrence) → needs_one shown ≡ true → marked_shown shown style rules place line runs ≡ []
-shown_none shown style rules place line runs is = grind (arith, common_steps)
-
 line_none : (asked : FileAsked) → needs_one asked.shown ≡ true → (place : Place) (line : List ℕ) (runs : List Occurrence) → marked_line asked place line runs ≡ []
-line_none asked needs place line runs = either_none _ _ (shown_none _ _ _ _ _ _ needs)
+line_none asked needs place line runs = grind (arith, common_steps)
 
 lines_none : (asked : FileAsked) → needs_one asked.shown ≡ true → (pass : Pass) (lines : List (List ℕ)) (runs : List (List Occurrence)) → marked_lines asked pass lines runs ≡ []
 lines_none asked needs pass (line ∷ lines) (own ∷ runs) =
@@ -145,9 +137,7 @@ pub still_marks : {A : Type 0} (G : Automata A) (old new : LineCover A) (coverin
 still_marks G old new covering can same is = record {
   can = can;
   searched = rw same.automaton is.searched;
-  is = is.is ∙ ap (λ w. covering_by w (rules_of old) (most_of old) covering.patterns) (sym same.words)
-      ∙ ap (λ r. covering_by (words_of new) r (most_of old) covering.patterns) (sym same.rules)
-      ∙ ap (λ m. covering_by (words_of new) (rules_of new) m covering.patterns) (sym same.most);
+  is = rw (same.words, same.rules, same.most) is.is;
 }
 
 -- nothing is written of a file that is not read
@@ -175,16 +165,8 @@ module _ (job named : Job) (covering : Covering) (holds : List ℕ → Option (L
   pub name_comes : (again : Bool) → (read && is_input name) ≡ again → (outcome : Outcome) → IfSearched outcome (MarksInput named covering again (known_of holds name left) held held')
       → IfBroken outcome (BeginsInput named covering again (known_of holds name left) held held') → ComesName job covering holds left read name held held' outcome
   name_comes again is outcome searched begun = record {
-    searched = if_searched outcome _ _ (λ any file. record {
-      named = named;
-      is_named = is_named;
-      file = subst (λ (b : Bool). MarksInput named covering b (known_of holds name left) held held' any) (sym is) file;
-    }) searched;
-    begun = if_broken outcome (λ file. record {
-      named = named;
-      is_named = is_named;
-      file = subst (λ (b : Bool). BeginsInput named covering b (known_of holds name left) held held') (sym is) file;
-    }) begun;
+    searched = if_searched outcome _ _ (λ any file. record { named = named; is_named = is_named; file = rw is file }) searched;
+    begun = if_broken outcome (λ file. record { named = named; is_named = is_named; file = rw is file }) begun;
   }
 
   -- of one that is not searched

@@ -1,6 +1,6 @@
 -- A format, one piece after another; and base64, one group after another.
-use Rattle.acgrep.proofs.Common.{Nowhere, Piece, common_steps, length-drop, take_all}
-use Rattle.std.proofs.Common.{◌++◌, ◌+◌, ◌-◌, ◌<◌, ◌==◌, ◌∙◌, ◌∷◌, ◌≡◌, List, None, Option, Some, [], ap, append-nil, append_assoc, arith, drop, false, length, refl, subst, suc, sym, take, zero, ℕ}
+use Rattle.acgrep.proofs.Common.{Nowhere, Piece, common_steps}
+use Rattle.std.proofs.Common.{◌++◌, ◌+◌, ◌-◌, ◌<◌, ◌==◌, ◌∙◌, ◌∷◌, ◌≡◌, List, None, Option, Some, [], ap, append_assoc, arith, drop, false, length, refl, subst, suc, sym, take, zero, ℕ}
 use Rattle.std.specs.Prelude.{option_map}
 use Rattle.memchr.specs.Find.{Passes, is_byte}
 use Rattle.acgrep.specs.Formats.{format_pieces, front_by, pieces_behind, unknown_behind, unknown_in, up_to_brace}
@@ -36,15 +36,6 @@ pub pieces_more : (items : List Piece) (piece : Piece) (others : Option (List Pi
     → option_map (λ pieces. items ++ pieces) (option_map (λ pieces. piece ∷ pieces) others) ≡ option_map (λ pieces. (items ++ (piece ∷ [])) ++ pieces) others
 pieces_more items piece None = refl
 pieces_more items piece (Some pieces) = ap (λ (l : List Piece). Some l) (sym (append_assoc items (piece ∷ []) pieces))
-
--- where nothing is left these are all
-pub pieces_end : (rest format : List ℕ) (items : List Piece) → length rest ≡ 0 → format_pieces format ≡ option_map (λ pieces. items ++ pieces) (format_pieces rest) → format_pieces format ≡ Some items
-pieces_end [] format items none read = read ∙ ap (λ (l : List Piece). Some l) (append-nil items)
-pieces_end (byte ∷ rest) format items none read = absurd (omega (arith, none))
-
--- all that is behind a place of a list
-pub rest_behind : (xs : List ℕ) (at : ℕ) → take (length xs - at) (drop at xs) ≡ drop at xs
-rest_behind xs at = take_all (length xs - at) (drop at xs) (omega (arith, length-drop at xs))
 
 -- up to the first brace that closes a field, or to the end
 other_first : (byte : ℕ) (rest : List ℕ) (end : ℕ) → 0 < end → Nowhere (Passes (is_byte 125) (byte ∷ rest)) 0 end → (byte == 125) ≡ false

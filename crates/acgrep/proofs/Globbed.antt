@@ -1,8 +1,7 @@
 -- How a name is read along a glob.
-use Rattle.acgrep.proofs.Common.{and_parts, common_steps, drop-drop, or_right}
-use Rattle.std.proofs.Common.{◌+◌, ◌-◌, ◌∙◌, ◌∷◌, ◌≡◌, ◌≤◌, ◌⊎◌, Bool, List, [], ap, arith, drop, false, inl, inr, length, refl, subst, suc, sym, take, true, zero, ℕ}
-use Rattle.std.proofs.lemmas.Bool.{ne_eqb}
-use Rattle.std.specs.Prelude.{◌||◌}
+use Rattle.acgrep.proofs.Common.{and_parts, common_steps, drop-drop, or_right, take_rest}
+use Rattle.std.proofs.Common.{◌+◌, ◌-◌, ◌∙◌, ◌∷◌, ◌≡◌, ◌≤◌, Bool, List, [], ap, arith, drop, inl, inr, length, refl, subst, suc, sym, take, true, zero, ℕ}
+use Rattle.std.proofs.lemmas.Bool.{ne_eqb, or_cases}
 use Rattle.acgrep.specs.Globs.{IsCut, any_suffix, closes_at, closing, fits, item_len, one_fits, part_len, stands_for}
 use Rattle.acgrep.proofs.LineLists.{drop_zero}
 
@@ -22,17 +21,13 @@ pub any_here : (holds : List ℕ → Bool) (word : List ℕ) → holds word ≡ 
 any_here holds [] is = is
 any_here holds (byte ∷ rest) is = rw is refl
 
-or_either : (a b : Bool) → (a || b) ≡ true → (a ≡ true) ⊎ (b ≡ true)
-or_either true b is = inl refl
-or_either false b is = inr is
-
 pub any_later : (holds : List ℕ → Bool) (k : ℕ) (word : List ℕ) → any_suffix holds (drop k word) ≡ true → any_suffix holds word ≡ true
 any_later holds (suc k) (byte ∷ rest) is = or_right (holds (byte ∷ rest)) (any_suffix holds rest) (any_later holds k rest is)
 any_later holds _ _ is = is
 
 pub any_where : (holds : List ℕ → Bool) (word : List ℕ) → any_suffix holds word ≡ true → (k : ℕ) × (holds (drop k word) ≡ true)
 any_where holds [] is = (0, is)
-any_where holds (byte ∷ rest) is = elim (or_either (holds (byte ∷ rest)) (any_suffix holds rest) is) [
+any_where holds (byte ∷ rest) is = elim (or_cases (holds (byte ∷ rest)) (any_suffix holds rest) is) [
   | inl here ↦ (0, here)
   | inr later ↦ let (k, there) = any_where holds rest later in (suc k, there)
 ]
@@ -92,20 +87,16 @@ read_more glob name first behind byte other unlike stands read = let plain = ne_
     less (suc k) [] = omega arith
     less (suc k) (x ∷ l) = omega (arith, less k l)
 
--- what stands behind so many bytes of a slice
-pub behind_slice : (k : ℕ) (bytes : List ℕ) → take (length bytes - k) (drop k bytes) ≡ drop k bytes
-behind_slice k bytes = grind (arith, common_steps)
-
 -- an item more of a set was passed
 pub closes_first : (first : ℕ) (behind : List ℕ) (len : ℕ) → len ≡ item_len first behind → closing (first ∷ behind) ≡ closes_at (1 + len) 0 (take (length behind - len) (drop len behind))
 closes_first first behind len is =
-    closes_skip (item_len first behind) 1 behind ∙ ap (λ (n : ℕ). closes_at (1 + n) 0 (drop n behind)) (sym is) ∙ ap (closes_at (1 + len) 0) (sym (behind_slice len behind))
+    closes_skip (item_len first behind) 1 behind ∙ ap (λ (n : ℕ). closes_at (1 + n) 0 (drop n behind)) (sym is) ∙ ap (closes_at (1 + len) 0) (sym (take_rest behind len))
 
 pub closes_more : (passed first : ℕ) (behind : List ℕ) (len : ℕ) → (first ≡ 93 → ⊥) → len ≡ item_len first behind
     → closes_at passed 0 (first ∷ behind) ≡ closes_at (passed + (1 + len)) 0 (take (length behind - len) (drop len behind))
 closes_more passed first behind len other is =
     rw (ne_eqb first 93 other) (closes_skip (item_len first behind) (passed + 1) behind ∙ ap (λ (n : ℕ). closes_at (passed + 1 + n) 0 (drop n behind)) (sym is)
-    ∙ ap (λ (n : ℕ). closes_at n 0 (drop len behind)) (omega arith) ∙ ap (closes_at (passed + (1 + len)) 0) (sym (behind_slice len behind)))
+    ∙ ap (λ (n : ℕ). closes_at n 0 (drop len behind)) (omega arith) ∙ ap (closes_at (passed + (1 + len)) 0) (sym (take_rest behind len)))
 
 pub passed_first : (behind : List ℕ) (len : ℕ) → len ≤ length behind → 1 + len + length (take (length behind - len) (drop len behind)) ≡ 1 + length behind
 passed_first behind len within = grind (arith, common_steps)

@@ -33,7 +33,6 @@ pub mod OrCounted
 pub mod PlacesBehind
 pub mod Reaching
 pub mod RuleTexts
-pub mod RulesGiven
 pub mod Stepped
 pub mod Streams
 pub mod StreamsBegun

@@ -1,6 +1,6 @@
 -- What the file of a name has that was searched.
 use Rattle.acgrep.proofs.Common.{Consumes-nil, Fit, Job, Patterns, is_input}
-use Rattle.std.proofs.Common.{◌≡◌, Bool, List, Option, [], ap, false, refl, subst, sym, true, ℕ}
+use Rattle.std.proofs.Common.{◌≡◌, Bool, List, Option, [], ap, false, refl, subst, true, ℕ}
 use Rattle.std.specs.Prelude.{MatchBool}
 use Rattle.acgrep.specs.Binary.{is_guarded, lines_sought}
 use Rattle.acgrep.specs.Files.{HasSelected, LeavesInput, SearchesName, known_of}
@@ -19,14 +19,6 @@ name_has p job holds follows name left left' held held' searched = (
       (subst (λ (fit : Fit). SomeLine (IsSelected p fit searched.named.invert) (lines_sought searched.named searched.file.text)) (ap (λ (j : Job). j.fit) searched.is_named.is)
       (either_some p searched.named searched.file.text searched.file.bytes (is_guarded searched.named) refl searched.file.tells))),
 )
-
--- the bytes of standard input are what is left of it, and those of any other file what is held under its name
-module _ (P : Option (List ℕ) → Type 0) (holds : List ℕ → Option (List ℕ)) (name : List ℕ) (left : Option (List ℕ)) where
-  pub at_input : is_input name ≡ true → P left → P (known_of holds name left)
-  at_input input is = let known : known_of holds name left ≡ left = rw input refl in subst P (sym known) is
-
-  pub at_file : is_input name ≡ false → P (holds name) → P (known_of holds name left)
-  at_file other is = let known : known_of holds name left ≡ holds name = rw other refl in subst P (sym known) is
 
 -- where nothing is read, the input is left as it was
 pub leaves_none : (name : List ℕ) (left : Option (List ℕ)) → LeavesInput name left left

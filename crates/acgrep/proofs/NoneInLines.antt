@@ -1,5 +1,5 @@
 -- What occurs in no line of a text does not occur in it.
-use Rattle.acgrep.proofs.Common.{IsSameWord, Nowhere, Occurrence, Occurs-in, OccursIn, Patterns, cases_Bool, cases_lt, common_steps, length-drop, length-take-le, pattern_at, plain_search, true≢false}
+use Rattle.acgrep.proofs.Common.{IsSameWord, Nowhere, Occurrence, Occurs-in, OccursIn, Patterns, cases_Bool, cases_lt, common_steps, length-drop, length-take-le, pattern_at, plain_search, take_rest, true≢false}
 use Rattle.std.proofs.Common.{◌+◌, ◌-◌, ◌<◌, ◌==◌, ◌∙◌, ◌∷◌, ◌≡◌, ◌≤◌, List, [], ap, arith, drop, false, inl, inr, length, subst, suc, sym, take, zero, ℕ}
 use Rattle.std.specs.Prelude.{slice_range}
 use Rattle.aho_core.specs.Occurs.{Occurs}
@@ -14,9 +14,6 @@ use Rattle.acgrep.proofs.LineLists.{take_zero}
 
 slice_front : (text : List ℕ) (end : ℕ) → slice_range text 0 end ≡ take end text
 slice_front text end = grind (arith, common_steps)
-
-pub slice_back : (text : List ℕ) (at : ℕ) → slice_range text at (length text) ≡ drop at text
-slice_back text at = grind (arith, common_steps)
 
 module _ (ending : ℕ) where
   -- where the first line of a text ends
@@ -60,7 +57,7 @@ module _ (ending : ℕ) where
         let there : Occurs p No text (at + 0) (at + size) m = Occurs-in p text 0 (length text) (at + 0) (at + size) m (omega (arith, behind)) (omega (arith, within, occurs.before_end)) occurs in
         let here : Occurs p No (slice_range text at (length text)) 0 size (moved_back at m) = Occurs-moved_back p text at (length text) 0 size m (omega (arith, within)) there in
         let long : size ≡ length (drop at text) = sym (length-drop at text) in
-        subst (λ (n : ℕ). Occurs p No (drop at text) 0 n (moved_back at m)) long (subst (λ (l : List ℕ). Occurs p No l 0 size (moved_back at m)) (slice_back text at) here)
+        subst (λ (n : ℕ). Occurs p No (drop at text) 0 n (moved_back at m)) long (subst (λ (l : List ℕ). Occurs p No l 0 size (moved_back at m)) (take_rest text at) here)
 
     -- nothing that is not empty
     none_full : (n : ℕ) (text : List ℕ) → length text ≤ n → EachLine (HasNone p) (lines ending text) → (m : Occurrence) → OccursIn p (plain_search text) m → m.start < m.end → ⊥

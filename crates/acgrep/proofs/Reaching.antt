@@ -10,15 +10,11 @@ use Rattle.acgrep.specs.Runs.{AreReached, status_reached}
 use Rattle.acgrep.specs.Told.{IsMessage, MaySay, TellsOfFile, TellsStatus, files_told, names_told, shown_names, source_names}
 use Rattle.acgrep.proofs.Told.{AreWithin, among-first, among-later, message-more, status-some, status-weaker, within-cut}
 
--- a message of sources of patterns may be told of a search
-may-sources : (tree : Tree) (given : Said) (sources : List Origin) (names : List (List ℕ)) (line : List ℕ) → IsMessage (source_names sources) line → MaySay tree given sources names line
-may-sources tree given sources names line is =
-    inl (inl (message-more (source_names sources) (names_told given.flags.no_messages given.label sources names) (λ name is. among-first name (source_names sources) (files_told given.flags.no_messages given.label (or_input names)) is) line is))
-
--- where one is told, and nothing before, a search failed
+-- where a message of sources of patterns is told, and nothing before, a search failed
 pub some-sources : {E : Type 0} (K : SinkGhosts E) (tree : Tree) (given : Said) (sources : List Origin) (names : List (List ℕ)) (old new : Errors E) → TellsSome K (IsMessage (source_names sources)) old new
     → TellsSome K (MaySay tree given sources names) old new
-some-sources K tree given sources names old new told = some-weaker K (IsMessage (source_names sources)) (MaySay tree given sources names) old new (may-sources tree given sources names) told
+some-sources K tree given sources names old new told = some-weaker K (IsMessage (source_names sources)) (MaySay tree given sources names) old new
+    (λ line is. inl (inl (message-more (source_names sources) (names_told given.flags.no_messages given.label sources names) (λ name is. among-first name (source_names sources) (files_told given.flags.no_messages given.label (or_input names)) is) line is))) told
 
 pub sources-told : {E : Type 0} (K : SinkGhosts E) (tree : Tree) (given : Said) (sources : List Origin) (names : List (List ℕ)) (old mid new : Errors E) → mid ≡ old
     → TellsSome K (IsMessage (source_names sources)) mid new → TellsStatus K (MaySay tree given sources names) given.flags.no_messages (shown_by given.flags) 2 old new
@@ -74,16 +70,12 @@ module _ (tree : Tree) (given : Said) (names files unread : List (List ℕ)) (re
   more-file true line message = message
   more-file false line message = message-more (shown_names given.label files) (shown_names given.label files ++ unread) (λ name is. among-first name (shown_names given.label files) unread is) line message
 
-  more-missed : (hushed : Bool) (line : List ℕ) → hushed ≡ false → IsMessage unread line → IsMessage (if hushed then [] else (shown_names given.label files ++ unread)) line
-  more-missed true line asked message = absurd (cc)
-  more-missed false line asked message = message-more unread (shown_names given.label files ++ unread) (λ name is. among-later name (shown_names given.label files) unread is) line message
-
   -- a file that an operand names may be told, and what cannot be read
   may-file : (line : List ℕ) → IsMessage (files_told given.flags.no_messages given.label files) line → MaySay tree given [] names line
   may-file line message = inr (record { files = files; unread = unread; reached = reached; message = more-file given.flags.no_messages line message })
 
   may-missed : given.flags.no_messages ≡ false → (line : List ℕ) → IsMessage unread line → MaySay tree given [] names line
-  may-missed asked line message = inr (record { files = files; unread = unread; reached = reached; message = more-missed given.flags.no_messages line asked message })
+  may-missed asked line message = inr (record { files = files; unread = unread; reached = reached; message = rw asked (message-more unread _ (λ name is. among-later name (shown_names given.label files) unread is) line message) })
 
   -- and then what a search tells of those that were reached
   pub reached-told : {E : Type 0} (K : SinkGhosts E) (old mid new : Errors E) (found : ℕ) → TellsMissed K given.flags.no_messages unread old mid

@@ -1,23 +1,19 @@
 -- The texts of the files of rules, one after another, and the rules that they hold.
-use Rattle.acgrep.proofs.Common.{IsOneOf, cases_Bool, get_or, take_all}
-use Rattle.std.proofs.Common.{◌++◌, ◌-◌, ◌<◌, ◌∙◌, ◌∷◌, ◌≡◌, Bool, List, Option, [], ap, arith, drop, false, inl, inr, length, refl, subst, sym, take, true, ℕ}
-use Rattle.std.specs.Prelude.{MatchBool}
+use Rattle.acgrep.proofs.Common.{IsOneOf, cases_Bool, get_or}
+use Rattle.std.proofs.Common.{◌++◌, ◌<◌, ◌∙◌, ◌∷◌, ◌≡◌, List, Option, [], ap, arith, false, inl, inr, length, refl, suc, sym, true, zero, ℕ}
 use Rattle.acgrep.specs.Loading.{AreTexts, IsTextOfRule}
-use Rattle.acgrep.specs.Rules.{RuleSaid, expanded, glob_before, glob_of_line, is_from_file, is_space, rule_before, rule_said, rules_by, rules_said}
-use Rattle.acgrep.specs.Runs.{AreRules, AreRulesOf, IsTextOf}
+use Rattle.acgrep.specs.Rules.{RuleSaid, expanded, glob_before, glob_of_line, is_from_file, is_space, rule_before, rules_by, rules_said}
+use Rattle.acgrep.specs.Runs.{AreRules, AreRulesOf}
 use Rattle.acgrep.specs.Told.{rule_files}
 use Rattle.acgrep.specs.declared.rules.Rule.{Rule}
-use Rattle.acgrep.proofs.Told.{AreWithin}
 
 module _ (holds : List ℕ → Option (List ℕ)) where
   -- the rules of a text
   rules_of_text : (rule : RuleSaid) (left left' : Option (List ℕ)) (text : List ℕ) → IsTextOfRule holds rule left left' text → AreRulesOf holds rule left left' (rules_by rule text)
   rules_of_text rule left left' text is =
       elim (cases_Bool (is_from_file rule.sense)) [
-        | inl file ↦
-            rw file (record { text = text; is = subst (λ (b : Bool). MatchBool b (IsTextOf holds rule.glob left left' text) ((left' ≡ left) × (text ≡ []))) file is; are = refl })
-        | inr glob ↦
-            rw glob ((subst (λ (b : Bool). MatchBool b (IsTextOf holds rule.glob left left' text) ((left' ≡ left) × (text ≡ []))) glob is).0, refl)
+        | inl file ↦ rw file (record { text = text; is = rw file at is; are = refl })
+        | inr glob ↦ rw glob ((rw glob at is).0, refl)
       ]
 
   -- and of all
@@ -31,29 +27,13 @@ module _ (holds : List ℕ → Option (List ℕ)) where
       → all ≡ expanded slice found → AreRules holds given left left' all
   rules_read given slice all texts found left left' same alike are is = rw same at (rw (ap (expanded slice) (sym alike) ∙ sym is) at (rules_of_texts _ _ _ _ are))
 
--- the file of the first rule is one of all, and so are those of the others
-files_cut : (rule : RuleSaid) (rules : List RuleSaid) (all : List (List ℕ)) → AreWithin (rule_files (rule ∷ rules)) all
-    → (is_from_file rule.sense ≡ true → IsOneOf rule.glob all) × AreWithin (rule_files rules) all
-files_cut rule rules all within = (
-  λ file. (subst (λ (l : List (List ℕ)). AreWithin l all) (file_first file) within) rule.glob (inl refl),
-  elim (cases_Bool (is_from_file rule.sense)) [
-    | inl file ↦ λ name is. (subst (λ (l : List (List ℕ)). AreWithin l all) (file_first file) within) name (inr is)
-    | inr glob ↦ λ name is. (subst (λ (l : List (List ℕ)). AreWithin l all) (no_file glob) within) name is
-  ],
-)
-  where
-    file_first : is_from_file rule.sense ≡ true → rule_files (rule ∷ rules) ≡ rule.glob ∷ rule_files rules
-    file_first file = rw file refl
-
-    no_file : is_from_file rule.sense ≡ false → rule_files (rule ∷ rules) ≡ rule_files rules
-    no_file glob = rw glob refl
-
-pub rules_cut : (rules : List Rule) (other : Rule) (all : List (List ℕ)) → 0 < length rules → AreWithin (rule_files (rules_said rules)) all
-    → (is_from_file (rule_said (get_or rules 0 other)).sense ≡ true → IsOneOf (rule_said (get_or rules 0 other)).glob all) × AreWithin (rule_files (rules_said (take (length rules - 1) (drop 1 rules)))) all
-rules_cut [] other all some within = absurd (omega (arith, some))
-rules_cut (rule ∷ rules) other all some within =
-    let both = files_cut (rule_said rule) (rules_said rules) all within in
-    (both.0, subst (λ (l : List Rule). AreWithin (rule_files (rules_said l)) all) (sym (take_all (length (rule ∷ rules) - 1) rules (omega arith))) both.1)
+-- the file of a rule is one of those of all
+pub file_among : (rules : List Rule) (i : ℕ) (d : Rule) → i < length rules → is_from_file (get_or rules i d).sense ≡ true → IsOneOf (get_or rules i d).glob.now (rule_files (rules_said rules))
+file_among [] i d lt file = absurd (omega (arith, lt))
+file_among (rule ∷ rules) zero d lt file = rw file (inl refl)
+file_among (rule ∷ rules) (suc i) d lt file =
+    let later = file_among rules i d (omega (arith, lt)) file in
+    elim (cases_Bool (is_from_file rule.sense)) [ inl own ↦ rw own (inr later) | inr glob ↦ rw glob later ]
 
 -- no rule is left, or no text
 pub expanded_none : (rules : List RuleSaid) → expanded rules [] ≡ []

@@ -9,18 +9,6 @@ use Rattle.acgrep.specs.Tallies.{CountsLines, count_of, counts_table, rows_count
 count-both : (number : ℕ) (some more : List (List ℕ)) → count_of number (some ++ more) ≡ count_of number some + count_of number more
 count-both number some more = grind (arith, common_steps)
 
--- none is counted
-pub lines-none : (counts : List ℕ) → CountsLines [] counts counts
-lines-none counts = record { as_many = refl; grown = λ number within. omega arith }
-
--- some, and then more
-pub lines-then : (some more : List (List ℕ)) (one two three : List ℕ) → CountsLines some one two → CountsLines more two three → CountsLines (some ++ more) one three
-lines-then some more one two three first second = record {
-  as_many = second.as_many ∙ first.as_many;
-  grown = λ number within.
-      omega (arith, count-both number some more, first.grown number within, second.grown number (omega (arith, first.as_many, within)));
-}
-
 -- the lines of a text up to what is left of it were counted
 pub record Counted (ending : ℕ) (numbers left : List ℕ) (counts counts' : List ℕ) : Type 0 where
   pub before : List (List ℕ)
@@ -28,14 +16,18 @@ pub record Counted (ending : ℕ) (numbers left : List ℕ) (counts counts' : Li
   pub are : CountsLines before counts counts'
 
 pub counted-start : (ending : ℕ) (numbers counts : List ℕ) → Counted ending numbers numbers counts counts
-counted-start ending numbers counts = record { before = []; cut = refl; are = lines-none counts }
+counted-start ending numbers counts = record { before = []; cut = refl; are = record { as_many = refl; grown = λ number within. omega arith } }
 
 pub counted-step : (ending : ℕ) (numbers left rest line : List ℕ) (one two three : List ℕ) → lines ending left ≡ line ∷ lines ending rest → Counted ending numbers left one two → CountsLines (line ∷ []) two three
     → Counted ending numbers rest one three
 counted-step ending numbers left rest line one two three first so_far more = record {
   before = so_far.before ++ (line ∷ []);
   cut = append_assoc so_far.before (line ∷ []) (lines ending rest) ∙ ap (λ (l : List (List ℕ)). so_far.before ++ l) (sym first) ∙ so_far.cut;
-  are = lines-then so_far.before (line ∷ []) one two three so_far.are more;
+  are = record {
+    as_many = more.as_many ∙ so_far.are.as_many;
+    grown = λ number within.
+        omega (arith, count-both number so_far.before (line ∷ []), so_far.are.grown number within, more.grown number (omega (arith, so_far.are.as_many, within)));
+  };
 }
 
 pub counted-end : (ending : ℕ) (numbers left one two : List ℕ) → left ≡ [] → Counted ending numbers left one two → CountsLines (lines ending numbers) one two

@@ -1,7 +1,7 @@
 -- What a message tells is one that may be told.
-use Rattle.acgrep.proofs.Common.{Errors, IsOneOf, Job, Lines, Matches, Nothing, Objects, Outcome, Seen, Shown, SinkGhosts, Source, Tells, TellsBytes, TellsSome, Unread, cases_Bool, cases_lt, common_steps, get_or, reason_text, some-one, some-tells, some-then, some-weaker, take_all}
-use Rattle.std.proofs.Common.{◌++◌, ◌-◌, ◌<◌, ◌∙◌, ◌∷◌, ◌≡◌, ◌≤◌, ◌⊎◌, Bool, Bor, List, None, Option, Some, [], ap, arith, codes, drop, false, inl, inr, length, refl, subst, sym, take, true, ℕ}
-use Rattle.std.specs.Prelude.{IfSome, MatchBool, if◌then◌else◌, map, nat_lt, slice_index_or}
+use Rattle.acgrep.proofs.Common.{Errors, IsOneOf, Job, Lines, Matches, Nothing, Objects, Outcome, Seen, Shown, SinkGhosts, Source, Tells, TellsBytes, TellsSome, Unread, cases_Bool, cases_lt, common_steps, get_or, reason_text, some-one, some-tells, some-then, some-weaker}
+use Rattle.std.proofs.Common.{◌++◌, ◌-◌, ◌<◌, ◌∙◌, ◌∷◌, ◌≡◌, ◌≤◌, ◌⊎◌, Bool, Bor, List, None, Option, Some, [], ap, arith, codes, false, inl, inr, length, refl, subst, sym, true, ℕ}
+use Rattle.std.specs.Prelude.{IfSome, MatchBool, if◌then◌else◌, nat_lt, slice_index_or}
 use Rattle.tool_parts.proofs.Lines.{tells-none, tells-weaker, then-some}
 use Rattle.std.specs.Str.{is_utf8}
 use Rattle.tool_parts.specs.Messages.{message_of}
@@ -65,24 +65,19 @@ obstacle_caused name (Closed reason) = closed (is_utf8 name) refl
     closed true text = inl (inl (reason, refl))
     closed false other = inr (other, refl)
 
--- an element of a list is among the names of all
-pub among-at : {X : Type 0} (f : X → List ℕ) (xs : List X) (i : ℕ) (d : X) → i < length xs → IsOneOf (f (get_or xs i d)) (map f xs)
-among-at f [] i d lt = absurd (omega (arith, lt))
-among-at f (x ∷ xs) zero d lt = inl refl
-among-at f (x ∷ xs) (suc i) d lt = inr (among-at f xs i d (omega (arith, lt)))
+-- a source is among the names of all
+pub source-among : (sources : List Source) (i : ℕ) (d : Source) → i < length sources → IsOneOf (origin_of (get_or sources i d)).bytes (source_names (origins_of sources))
+source-among [] i d lt = absurd (omega (arith, lt))
+source-among (source ∷ sources) zero d lt = inl refl
+source-among (source ∷ sources) (suc i) d lt = inr (source-among sources i d (omega (arith, lt)))
 
 -- a source that was found names a file among those of all
 pub source-found : (sources : List Source) (number : ℕ) (source : Source) (name : Bor (List ℕ)) (d : Source) → true ≡ nat_lt number (length sources) → source ≡ slice_index_or sources number d
     → source ≡ File name → MayName (source_names (origins_of sources)) name.now
 source-found sources number source name d within found is =
     let lt : number < length sources = grind (arith, common_steps, within) in
-    let among : IsOneOf (origin_of (get_or sources number d)).bytes (map (λ source. (origin_of source).bytes) sources) = among-at (λ source. (origin_of source).bytes) sources number d lt in
     let same : (origin_of (get_or sources number d)).bytes ≡ name.now = ap (λ (s : Source). (origin_of s).bytes) (sym found ∙ is) in
-    inr (subst (IsOneOf name.now) (map-then sources) (subst (λ (n : List ℕ). IsOneOf n (map (λ source. (origin_of source).bytes) sources)) same among))
-  where
-    map-then : (xs : List Source) → map (λ source. (origin_of source).bytes) xs ≡ source_names (origins_of xs)
-    map-then [] = refl
-    map-then (x ∷ xs) = ap (λ l. (origin_of x).bytes ∷ l) (map-then xs)
+    inr (subst (λ (n : List ℕ). IsOneOf n (source_names (origins_of sources))) same (source-among sources number d lt))
 
 module _ {E : Type 0} (K : SinkGhosts E) (P : List ℕ → Type 0) where
   -- what is told of a file, or not, and then something
@@ -217,13 +212,6 @@ module _ {E : Type 0} (K : SinkGhosts E) (names : List (List ℕ)) (P : List ℕ
         | inl low ↦ failed low two
         | inr high ↦ subst (λ (e : Errors E). TellsSome K P old e) (sym (kept high)) (before.some asked (omega (arith, high, bound)))
       ]
-
--- the first source, and those behind it, where there is one
-pub sources-cut : (sources : List Source) (other : Source) (all : List (List ℕ)) → 0 < length sources → AreWithin (source_names (origins_of sources)) all
-    → IsOneOf (origin_of (get_or sources 0 other)).bytes all × AreWithin (source_names (origins_of (take (length sources - 1) (drop 1 sources)))) all
-sources-cut [] other all some within = absurd (omega (arith, some))
-sources-cut (source ∷ sources) other all some within =
-    within-cut _ _ _ _ (ap (λ (l : List Source). (origin_of source).bytes ∷ source_names (origins_of l)) (sym (take_all (length (source ∷ sources) - 1) sources (omega arith)))) within
 
 -- what may be told of a call may be where its arguments say this
 pub told-said : (known : Known) (left : Option (List ℕ)) (given : Option Said) (line : List ℕ) → MayTell (names_said given) line → MaySaid known left given line

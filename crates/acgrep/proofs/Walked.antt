@@ -2,7 +2,7 @@
 use Rattle.acgrep.proofs.Common.{Appends, Appends-trans, Context, Job, Patterns, Place, State, cases_Bool, common_steps, true≢false}
 use Rattle.std.proofs.Common.{◌++◌, ◌∙◌, ◌∷◌, ◌≡◌, Bool, List, Option, [], ap, append-nil, append_assoc, arith, false, inl, inr, refl, subst, sym, true, ℕ}
 use Rattle.std.specs.Prelude.{nat_lt}
-use Rattle.acgrep.specs.Contexts.{PassesBy, PassesLine, Steps, Walk, WalksBegun, WalksLines, WalksOver, WalksText, behind_chosen, behind_passed, walk_of}
+use Rattle.acgrep.specs.Contexts.{PassesBy, Steps, Walk, WalksBegun, WalksLines, WalksOver, WalksText, behind_chosen, behind_passed, walk_of}
 use Rattle.acgrep.specs.Lines.{EndsLine, lines}
 use Rattle.acgrep.specs.Written.{IsPassedOver, IsSettled, TellsOfLines, after_line, is_full}
 use Rattle.acgrep.proofs.Begun.{begins_behind}
@@ -33,12 +33,6 @@ module _ (p : Patterns) (job : Job) (context : Context) where
   by_same : (due : Bool) (w w' : Walk) (line bytes : List ℕ) → PassesBy p job context w line bytes w' due → (w'.selected ≡ w.selected) × (w'.place ≡ after_line w.place line)
   by_same true w w' line bytes (shows, is) = (ap (λ (v : Walk). v.selected) is, ap (λ (v : Walk). v.place) is)
   by_same false w w' line bytes (none, is) = (ap (λ (v : Walk). v.selected) is, ap (λ (v : Walk). v.place) is)
-
-  passes_same : (w w' : Walk) (line bytes : List ℕ) → PassesLine p job context w line bytes w' → w'.selected ≡ w.selected
-  passes_same w w' line bytes passes = (by_same (nat_lt 0 w.due) w w' line bytes passes.passes).0
-
-  passes_place : (w w' : Walk) (line bytes : List ℕ) → PassesLine p job context w line bytes w' → w'.place ≡ after_line w.place line
-  passes_place w w' line bytes passes = (by_same (nat_lt 0 w.due) w w' line bytes passes.passes).1
 
   -- where so many lines are selected as are asked for and none is due, nothing more is told
   pub walks_full : (ls : List (List ℕ)) (w : Walk) → is_full job.most w.selected ≡ true → w.due ≡ 0
@@ -87,7 +81,7 @@ module _ (p : Patterns) (job : Job) (context : Context) where
   walks_same [] w w' bytes full (none, same) = ap (λ (v : Walk). v.selected) same
   walks_same (line ∷ rest) w w' bytes full (shown, more, between, inl takes, walks, is) = absurd (true≢false (sym full ∙ takes.more))
   walks_same (line ∷ rest) w w' bytes full (shown, more, between, inr passes, walks, is) =
-      let same : between.selected ≡ w.selected = passes_same w between line shown passes in
+      let (same, there) = by_same (nat_lt 0 w.due) w between line shown passes.passes in
       walks_same rest between w' more (ap (is_full job.most) same ∙ full) walks ∙ same
 
   -- the same lines are selected where none around them is written
@@ -102,8 +96,7 @@ module _ (p : Patterns) (job : Job) (context : Context) where
         | inl full ↦ ([], inl (full, refl, walks_same (line ∷ rest) w w' bytes full (shown, more, between, inr passes, walks, is)))
         | inr goes ↦
             let passed : IsPassedOver p job.fit job.invert line = elim passes.passed [ inl full ↦ absurd (true≢false (sym full ∙ goes)) | inr passed ↦ passed ] in
-            let same : between.selected ≡ w.selected = passes_same w between line shown passes in
-            let there : between.place ≡ after_line w.place line = passes_place w between line shown passes in
+            let (same, there) = by_same (nat_lt 0 w.due) w between line shown passes.passes in
             let (told, tells) = walks_tells rest between w' more walks in (
               told,
               inr (

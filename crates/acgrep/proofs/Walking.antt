@@ -1,6 +1,6 @@
 -- What a walk through folders finds.
-use Rattle.acgrep.proofs.Common.{Ways, common_steps, get_or, length-map, name_bytes}
-use Rattle.std.proofs.Common.{◌++◌, ◌+◌, ◌-◌, ◌<◌, ◌∙◌, ◌∷◌, ◌≡◌, Bool, Bor, List, None, Option, Some, [], ap, arith, codes, drop, false, inl, inr, length, refl, subst, sym, take, true, ℕ}
+use Rattle.acgrep.proofs.Common.{Ways, get_or, length-map}
+use Rattle.std.proofs.Common.{◌++◌, ◌+◌, ◌-◌, ◌<◌, ◌∙◌, ◌∷◌, ◌≡◌, Bool, List, None, Option, Some, [], ap, arith, codes, false, inl, inr, length, refl, subst, sym, true, ℕ}
 use Rattle.std.proofs.lemmas.List.{append-nil, append_assoc, get_or-map, map-append}
 use Rattle.std.proofs.lemmas.List.Sorted.{IsPermutation-trans}
 use Rattle.std.specs.Cmp.Lexicographic.{slice_cmp}
@@ -156,17 +156,7 @@ module _ (tree : Tree) (rules : List RuleSaid) (ways : Ways) (spot : Spot) (spot
     leads = λ more others are. unlisted other is kept (subst (λ (l : List Spot). AreFiles tree rules ways l more others) put are);
   }
 
--- the names that were read are those of the folder
-pub listed-as : (tree : Tree) (given folder : List ℕ) (names : List (List ℕ)) → given ≡ folder → IfSome (tree.lists given) (λ known. IsPermutation known names)
-    → IfSome (tree.lists folder) (λ known. IsPermutation known names)
-listed-as tree given folder names same listed = subst (λ (name : List ℕ). IfSome (tree.lists name) (λ known. IsPermutation known names)) same listed
-
 -- what is a folder is that kind
 pub folder-alone : (tree : Tree) (ways : Ways) (spot : Spot) (kind : Kind) → is_folder kind ≡ true → IsKind tree ways spot kind → IsKind tree ways spot Folder
 folder-alone tree ways spot Folder is known = known
 folder-alone tree ways spot _ is known = absurd (cc)
-
--- an operand more is put down
-pub put-more : (spots : List Spot) (rest : List (Bor (List ℕ))) (d : Bor (List ℕ)) → 0 < length rest
-    → (spots ++ (operand (get_or rest 0 d).now ∷ [])) ++ map operand (name_bytes (take (length rest - 1) (drop 1 rest))) ≡ spots ++ map operand (name_bytes rest)
-put-more spots rest d some = grind (arith, common_steps)

@@ -3,7 +3,7 @@ use Rattle.acgrep.specs.Common.{Appends, Occurrence, Rule, SinkGhosts, flat_map}
 use Rattle.std.specs.Borrow.{MutBor}
 use Rattle.std.specs.Prelude.{◌%◌, ◌&&◌, ◌++◌, ◌+◌, ◌==◌, ◌^◌, ◌||◌, ◌∷◌, ◌≡◌, ◌⊎◌, Bool, List, None, Option, Some, [], codes, false, if◌then◌else◌, length, not, slice_get, string_bytes, true, ℕ}
 use Rattle.aho_devices.specs.Counts.{AppendsBeginning}
-use Rattle.acgrep.specs.Objects.{FieldsTold, bytes_named, fields_by, json_escaped, number_named}
+use Rattle.acgrep.specs.Objects.{FieldsTold, bytes_named, fields_by, json_escaped, json_front}
 use Rattle.acgrep.specs.Printed.{line_by, matches_by}
 use Rattle.acgrep.specs.Written.{needs_one, one_more}
 use Rattle.acgrep.specs.declared.marked.Pass.{Pass}
@@ -23,13 +23,7 @@ rule_id rules number = id_or_none (slice_get rules number)
 
 -- a run as an object, on a line of its own: as a match, with the name of its rule before its bytes
 abbrev pub ruled_json : FieldsTold → List ℕ → List ℕ
-ruled_json fields id = codes "{\"file\":\"" ++ (json_escaped fields.path ++ (codes "\""
-    ++ (number_named (codes "line") fields.line
-    ++ (number_named (codes "start") fields.start
-    ++ (number_named (codes "end") fields.end
-    ++ (number_named (codes "pattern") fields.pattern
-    ++ (codes ",\"id\":\"" ++ (json_escaped id ++ (codes "\""
-    ++ (bytes_named fields.text ++ codes "\"}\n"))))))))))
+ruled_json fields id = json_front fields ++ (codes ",\"id\":\"" ++ (json_escaped id ++ (codes "\"" ++ (bytes_named fields.text ++ codes "\"}\n"))))
 
 abbrev pub ruled_object : Style → List Rule → Place → List ℕ → Occurrence → List ℕ
 ruled_object style rules place line run = ruled_json (fields_by style place line run) (rule_id rules run.pattern)

@@ -66,14 +66,17 @@ fields_by style place line m = record {
   text = part_of line m.start m.end;
 }
 
--- a match as an object, on a line of its own
-abbrev pub json_by : FieldsTold → List ℕ
-json_by fields = codes "{\"file\":\"" ++ (json_escaped fields.path ++ (codes "\""
+-- how a match begins as an object: with all of that but its bytes
+abbrev pub json_front : FieldsTold → List ℕ
+json_front fields = codes "{\"file\":\"" ++ (json_escaped fields.path ++ (codes "\""
     ++ (number_named (codes "line") fields.line
     ++ (number_named (codes "start") fields.start
     ++ (number_named (codes "end") fields.end
-    ++ (number_named (codes "pattern") fields.pattern
-    ++ (bytes_named fields.text ++ codes "\"}\n")))))))
+    ++ number_named (codes "pattern") fields.pattern)))))
+
+-- a match as an object, on a line of its own
+abbrev pub json_by : FieldsTold → List ℕ
+json_by fields = json_front fields ++ (bytes_named fields.text ++ codes "\"}\n")
 
 -- what a piece of a format stands for
 abbrev pub stands_for : FieldsTold → Piece → List ℕ

@@ -7,7 +7,7 @@ ghost use Rattle.std.specs.Prelude.{◌≡◌};
 ghost use Rattle.std.specs.List.{position_or_len, slice_split};
 ghost use Rattle.acgrep.specs.Colors.{colors_by, is_code, is_code_byte, is_colon, is_right, palette_of, with_parts};
 
-use crate::lines::behind;
+use crate::lines::{behind, line_end};
 use tool_parts::options::argument::first_equals;
 
 /// The names of matches: in selected lines and around them, in selected ones, and around them.
@@ -170,14 +170,7 @@ fn read_parts<'a>(colors: &mut Colors<'a>, text: &'a [u8])
 fn first_colon(text: &[u8]) -> usize
     ensures place { result ≡ position_or_len is_colon text.now }
 {
-    let mut at = 0;
-    while at < text.len() {
-        if text[at] == b':' {
-            return at;
-        }
-        at += 1;
-    }
-    at
+    line_end(text, b':')
 }
 
 /// Whether a part is right: before an equals sign it has a name, and behind it a code.
@@ -195,12 +188,10 @@ fn is_right(part: &[u8]) -> bool
 fn is_code(bytes: &[u8]) -> bool
     ensures { result ≡ is_code bytes.now }
 {
-    let mut rest = bytes;
-    while !rest.is_empty() {
-        if !is_code_byte(rest[0]) {
+    for byte in bytes {
+        if !is_code_byte(*byte) {
             return false;
         }
-        rest = &rest[1..];
     }
     true
 }

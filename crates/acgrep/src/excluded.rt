@@ -33,12 +33,10 @@ pub fn read_globs<F: Open, R: Read, E: Sink>(
     ensures told { IsNone result → TellsOfRules E.Sink (rules_said rules.now) errors.old errors.new }
 {
     let mut texts = Vec::new(alloc);
-    let mut rest = rules;
-    while !rest.is_empty() {
-        if !read_rule(alloc, &mut texts, rest[0], files, input, errors) {
+    for rule in rules {
+        if !read_rule(alloc, &mut texts, *rule, files, input, errors) {
             return None;
         }
-        rest = &rest[1..];
     }
     Some(texts)
 }

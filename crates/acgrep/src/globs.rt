@@ -51,12 +51,10 @@ fn fits_some_suffix(glob: &[u8], name: &[u8]) -> bool
 fn are_stars(glob: &[u8]) -> bool
     ensures stars { result ≡ fits 0 glob.now [] }
 {
-    let mut rest = glob;
-    while let Some((first, behind)) = rest.split_first() {
-        if *first != b'*' {
+    for byte in glob {
+        if *byte != b'*' {
             return false;
         }
-        rest = behind;
     }
     true
 }

@@ -3,7 +3,7 @@
 ghost use Rattle.std.specs.Prelude.{◌≡◌, ◌<◌, ◌++◌, decimal};
 ghost use Rattle.std.specs.Str.{is_utf8};
 ghost use Rattle.acgrep.specs.Printed.{Puts};
-ghost use Rattle.acgrep.specs.Objects.{bytes_named, escaped_byte, fields_told, formatted_by, hex_of, json_by, json_escaped, object_by, stands_for};
+ghost use Rattle.acgrep.specs.Objects.{bytes_named, escaped_byte, fields_told, formatted_by, hex_of, json_by, json_escaped, json_front, object_by, stands_for};
 
 use crate::fields::{Fields, fields_of, put_decimal};
 use crate::format::Piece;
@@ -35,11 +35,22 @@ pub fn put_object<W: Write>(
     }
 }
 
-/// Writes a match as an object: the file's name, the line's number, the range in the file in bytes, the pattern's number from 0
-/// on, and the bytes.
+/// Writes a match as an object.
 fn put_json<W: Write>(output: &mut W, fields: &Fields<'_>) -> io::Result<()>
     ensures written { Puts W.Write output.old output.new result
         (json_by (fields_told fields.now)) }
+{
+    put_front(output, fields)?;
+    put_bytes(output, fields.text)?;
+    output.write_all(b"\"}\n")?;
+    Ok(())
+}
+
+/// Writes what stands in an object before the bytes of a match: the file's name, the line's number, the range in the file in bytes, and
+/// the pattern's number from 0 on.
+pub fn put_front<W: Write>(output: &mut W, fields: &Fields<'_>) -> io::Result<()>
+    ensures written { Puts W.Write output.old output.new result
+        (json_front (fields_told fields.now)) }
 {
     output.write_all(b"{\"file\":\"")?;
     put_escaped(output, fields.path)?;
@@ -47,8 +58,6 @@ fn put_json<W: Write>(output: &mut W, fields: &Fields<'_>) -> io::Result<()>
     put_field(output, b",\"start\":", fields.start)?;
     put_field(output, b",\"end\":", fields.end)?;
     put_field(output, b",\"pattern\":", fields.pattern)?;
-    put_bytes(output, fields.text)?;
-    output.write_all(b"\"}\n")?;
     Ok(())
 }
 
@@ -108,7 +117,7 @@ fn put_piece<W: Write>(output: &mut W, piece: Piece, fields: &Fields<'_>) -> io:
 }
 
 /// Writes what stands before a number, and the number.
-pub fn put_field<W: Write>(output: &mut W, before: &[u8], number: u64) -> io::Result<()>
+fn put_field<W: Write>(output: &mut W, before: &[u8], number: u64) -> io::Result<()>
     ensures written { Puts W.Write output.old output.new result
         (before.now ++ decimal number) }
 {

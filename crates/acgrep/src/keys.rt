@@ -23,6 +23,9 @@ use std::{io, str};
 use tool_parts::errors::Errors;
 use tool_parts::reason::Reason;
 
+/// What stands for the name of a source in messages about all patterns.
+const ALL: &[u8] = b"patterns";
+
 /// The patterns of all sources, or none where one cannot be read, which is told.
 pub fn read_keys<F: Open, R: Read, E: Sink>(
     alloc: Global,
@@ -37,17 +40,14 @@ pub fn read_keys<F: Open, R: Read, E: Sink>(
     ensures told { IsNone result → TellsOfSources E.Sink sources.now errors.old errors.new }
 {
     let mut keys = Keys::new(alloc);
-    let mut rest = sources;
-    while !rest.is_empty() {
-        let source = rest[0];
-        match read_source(&mut keys, source, files, input) {
+    for source in sources {
+        match read_source(&mut keys, *source, files, input) {
             Ok(()) => {}
             Err(error) => {
-                tell_source(source, &error, errors);
+                tell_source(*source, &error, errors);
                 return None;
             }
         }
-        rest = &rest[1..];
     }
     Some(keys)
 }
@@ -140,10 +140,10 @@ pub fn tell_refusal<E: Sink>(
 {
     match error {
         BuildError::PatternTooLong { pattern, .. } => {
-            let place = origin_of(keys, pattern.as_usize());
-            tell_pattern(sources, place, error, errors);
+            let (name, line) = named_place(keys, sources, pattern.as_usize());
+            tell_build(name, line, error, errors);
         }
-        _ => tell_build(b"patterns", None, error, errors),
+        _ => tell_build(ALL, None, error, errors),
     }
 }
 
@@ -156,30 +156,17 @@ pub fn tell_ending<E: Sink>(
 )
     ensures told { TellsOfSources E.Sink sources.now errors.old errors.new }
 {
-    match origin_of(keys, number) {
-        Some(place) => {
-            let name = source_name(sources, place.source);
-            tell_zero(name, Some(place.line as u64), errors);
-        }
-        None => tell_zero(b"patterns", None, errors),
-    }
+    let (name, line) = named_place(keys, sources, number);
+    tell_zero(name, line, errors);
 }
 
-/// Tells why a pattern that stands there is refused.
-fn tell_pattern<E: Sink>(
-    sources: &[Source<'_>],
-    place: Option<KeyPlace>,
-    error: &BuildError,
-    errors: &mut Errors<'_, E>,
-)
-    ensures told { TellsOfSources E.Sink sources.now errors.old errors.new }
+/// How the source of the pattern of a number is called, and the line of it there, if there is one.
+fn named_place<'a>(keys: &Keys, sources: &[Source<'a>], number: usize) -> (&'a [u8], Option<u64>)
+    ensures named { MayName (source_names (origins_of sources.now)) result.0.now }
 {
-    match place {
-        Some(place) => {
-            let name = source_name(sources, place.source);
-            tell_build(name, Some(place.line as u64), error, errors);
-        }
-        None => tell_build(b"patterns", None, error, errors),
+    match origin_of(keys, number) {
+        Some(place) => (source_name(sources, place.source), Some(place.line as u64)),
+        None => (ALL, None),
     }
 }
 

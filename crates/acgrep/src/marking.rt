@@ -6,7 +6,7 @@ ghost use Rattle.acgrep.specs.Objects.{fields_told};
 ghost use Rattle.acgrep.specs.Printed.{Puts, matches_by};
 
 use crate::fields::{Fields, fields_of};
-use crate::json::{put_bytes, put_escaped, put_field};
+use crate::json::{put_bytes, put_escaped, put_front};
 use crate::options::Shown;
 use crate::print::{Place, Style, put_line, put_match};
 use chromesquid::Match;
@@ -101,12 +101,7 @@ fn put_ruled_json<W: Write>(output: &mut W, fields: &Fields<'_>, id: &[u8]) -> i
     ensures written { Puts W.Write output.old output.new result
         (ruled_json (fields_told fields.now) id.now) }
 {
-    output.write_all(b"{\"file\":\"")?;
-    put_escaped(output, fields.path)?;
-    put_field(output, b"\",\"line\":", fields.line)?;
-    put_field(output, b",\"start\":", fields.start)?;
-    put_field(output, b",\"end\":", fields.end)?;
-    put_field(output, b",\"pattern\":", fields.pattern)?;
+    put_front(output, fields)?;
     output.write_all(b",\"id\":\"")?;
     put_escaped(output, id)?;
     output.write_all(b"\"")?;

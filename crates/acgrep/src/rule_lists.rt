@@ -1,6 +1,6 @@
 //! Reading the rules by which lines are marked.
 
-ghost use Rattle.std.specs.Prelude.{◌≡◌, ◌++◌, IfSome, IsNone, IsSome, OnOk, false, true};
+ghost use Rattle.std.specs.Prelude.{◌≡◌, IfSome, IsNone, IsSome, OnOk, false, true};
 ghost use Rattle.tool_parts.specs.Telling.{TellsSome};
 ghost use Rattle.acgrep.specs.ToldByRules.{IsMarkTold};
 ghost use Rattle.tool_parts.specs.Names.{name_bytes};
@@ -16,7 +16,7 @@ use crate::tell::{PROGRAM, tell_memory};
 use chromesquid::{BuildError, Sink};
 use rule_files::{TextFault, rules_in, tell_fault};
 use secret_rules::{BUILTIN, Rule, Rules, RulesError};
-use std::alloc::{AllocError, Global};
+use std::alloc::Global;
 use std::io::Read;
 use tool_parts::errors::Errors;
 
@@ -41,12 +41,10 @@ pub fn read_rules<F: Open, R: Read, E: Sink>(
     ensures told { IsNone result → TellsSome E.Sink IsMarkTold errors.old errors.new }
 {
     let mut rules = Vec::new(alloc);
-    let mut rest = names;
-    while !rest.is_empty() {
-        if !add_rules(alloc, &mut rules, rest[0], files, input, errors) {
+    for name in names {
+        if !add_rules(alloc, &mut rules, *name, files, input, errors) {
             return None;
         }
-        rest = &rest[1..];
     }
     match Rules::new(alloc, rules) {
         Ok(rules) => Some(rules),
@@ -116,15 +114,7 @@ fn add_text<E: Sink>(
 fn more_rules(alloc: Global, rules: &mut Vec<Rule>, text: &[u8]) -> Result<(), TextFault>
     ensures added { OnOk result (AddsGiven (TellsRules text.now) rules.old.items rules.new.items) }
 {
-    let more = rules_in(alloc, text, false)?;
-    Ok(append_rules(rules, more)?)
-}
-
-/// Adds these rules.
-fn append_rules(rules: &mut Vec<Rule>, more: Vec<Rule>) -> Result<(), AllocError>
-    ensures appended { OnOk result (rules.new.items ≡ rules.old.items ++ more.items) }
-{
-    let mut more = more;
+    let mut more = rules_in(alloc, text, false)?;
     rules.append(&mut more)?;
     Ok(())
 }

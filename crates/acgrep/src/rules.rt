@@ -43,12 +43,10 @@ pub fn is_left_out(rules: &[Rule<'_>], is_folder: bool, given: bool, name: &[u8]
 fn leaves_folder(rules: &[Rule<'_>], given: bool, name: &[u8]) -> bool
     ensures left { result ≡ leaves_folder (rules_said rules.now) given name.now }
 {
-    let mut rest = rules;
-    while !rest.is_empty() {
-        if is_of_folders(rest[0].sense) && name_fits(rest[0].glob, given, name) {
+    for rule in rules {
+        if is_of_folders(rule.sense) && name_fits(rule.glob, given, name) {
             return true;
         }
-        rest = &rest[1..];
     }
     false
 }
@@ -58,10 +56,8 @@ fn leaves_file(rules: &[Rule<'_>], given: bool, name: &[u8]) -> bool
     ensures left { result ≡ leaves_file (rules_said rules.now) given name.now (begins_by_including (rules_said rules.now)) }
 {
     let mut left = begins_by_including(rules);
-    let mut rest = rules;
-    while !rest.is_empty() {
-        left = after_rule(&rest[0], given, name, left);
-        rest = &rest[1..];
+    for rule in rules {
+        left = after_rule(rule, given, name, left);
     }
     left
 }
@@ -81,14 +77,12 @@ fn after_rule(rule: &Rule<'_>, given: bool, name: &[u8], left: bool) -> bool
 fn begins_by_including(rules: &[Rule<'_>]) -> bool
     ensures begins { result ≡ begins_by_including (rules_said rules.now) }
 {
-    let mut rest = rules;
-    while !rest.is_empty() {
-        match rest[0].sense {
+    for rule in rules {
+        match rule.sense {
             Sense::Include => return true,
             Sense::Exclude => return false,
             Sense::ExcludeFrom | Sense::ExcludeFolder => {}
         }
-        rest = &rest[1..];
     }
     false
 }
@@ -131,13 +125,11 @@ fn kept_len(behind: &[u8]) -> usize
 {
     let mut kept = 1;
     let mut passed = 1;
-    let mut rest = behind;
-    while let Some((first, others)) = rest.split_first() {
+    for byte in behind {
         passed += 1;
-        if *first != b'/' {
+        if *byte != b'/' {
             kept = passed;
         }
-        rest = others;
     }
     kept
 }

@@ -478,12 +478,10 @@ fn selects_none(patterns: &[&[u8]], fit: Fit, invert: bool) -> bool
 fn are_empty(patterns: &[&[u8]]) -> bool
     ensures { result ≡ are_empty (pieces_of patterns.now) }
 {
-    let mut rest = patterns;
-    while !rest.is_empty() {
-        if !rest[0].is_empty() {
+    for pattern in patterns {
+        if !pattern.is_empty() {
             return false;
         }
-        rest = &rest[1..];
     }
     true
 }

@@ -188,16 +188,14 @@ fn put_given(
     ensures put { OnOk result (spots_of pending.new.items
         ≡ spots_of pending.old.items ++ map operand (name_bytes operands.now)) }
 {
-    let mut rest = operands;
-    while !rest.is_empty() {
-        let name = Vec::from_slice(alloc, rest[0])?;
+    for operand in operands {
+        let name = Vec::from_slice(alloc, *operand)?;
         let above = Vec::new(alloc);
         pending.push_back(Pending {
             name,
             given: true,
             above,
         })?;
-        rest = &rest[1..];
     }
     Ok(())
 }
@@ -373,12 +371,10 @@ fn open_folder<F: Folders>(
 
 /// Whether a folder is one of these.
 fn stands_in(identity: Identity, above: &[Identity]) -> bool {
-    let mut rest = above;
-    while let Some((first, behind)) = rest.split_first() {
-        if *first == identity {
+    for folder in above {
+        if *folder == identity {
             return true;
         }
-        rest = behind;
     }
     false
 }

@@ -1,15 +1,11 @@
 -- The first colon, or none, was met.
-use Rattle.std.proofs.Common.{ap, arith, sym}
+use Rattle.std.proofs.Common.{arith, sym}
+use Rattle.std.proofs.lemmas.Bool.{false_from_ne_true}
 use Rattle.std.proofs.lemmas.List.Sums.{position_or_len_is}
 use Rattle.acgrep.specs.Colors.{is_colon}
 use Rattle.acgrep.proofs.colors.first_colon.Goals as goal
 
-pub returns-then-text-at-eq58 : goal.returns-then-text-at-eq58
-returns-then-text-at-eq58 c = record {
-  place = sym (position_or_len_is is_colon c.args.text.now c.loop-at.at 0 c.loop-at.invariant.within c.loop-at.invariant.others (λ low. ap is_colon c.if-text-at-eq58.true));
-}
-
 pub returns : goal.returns
-returns c = record {
-  place = sym (position_or_len_is is_colon c.args.text.now c.loop-at.at 0 c.loop-at.invariant.within c.loop-at.invariant.others (λ low. absurd (omega (arith, low, c.loop-at-test.false))));
-}
+returns c =
+    let end = c.line_end.ensures in
+    record { place = sym (position_or_len_is is_colon c.args.text.now c.line_end.result 0 end.within (λ k low. false_from_ne_true _ (end.none k (omega arith) low)) end.ends) }

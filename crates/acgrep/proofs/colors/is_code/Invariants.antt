@@ -1,10 +1,7 @@
--- The bytes so far are those of a code.
-use Rattle.std.proofs.Common.{◌≡◌, length}
+-- What is left decides.
+use Rattle.std.proofs.Common.{◌≡◌, drop}
 use Rattle.acgrep.specs.Colors.{is_code}
 use Rattle.acgrep.proofs.colors.is_code.Given as goal
 
-abbrev pub invariant-loop-rest : goal.invariant-loop-rest
-invariant-loop-rest l = is_code l.rest ≡ is_code l.fn.bytes
-
-abbrev pub decreases-loop-rest : goal.decreases-loop-rest
-decreases-loop-rest l = length l.rest
+abbrev pub invariant-loop-byte : goal.invariant-loop-byte
+invariant-loop-byte l = is_code l.fn.bytes ≡ is_code (drop l.byte-index l.fn.bytes)

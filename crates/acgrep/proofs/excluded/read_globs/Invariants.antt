@@ -1,19 +1,13 @@
 -- The texts of the rules so far were read.
-use Rattle.std.proofs.Common.{◌≡◌, length}
+use Rattle.std.proofs.Common.{◌≡◌, drop}
 use Rattle.acgrep.specs.Listed.{listed_bytes}
 use Rattle.acgrep.specs.Loading.{GivesText}
 use Rattle.acgrep.specs.Rules.{rules_said}
-use Rattle.acgrep.specs.Told.{rule_files}
 use Rattle.acgrep.proofs.Gathered.{GaveSoFar}
-use Rattle.acgrep.proofs.Told.{AreWithin}
 use Rattle.acgrep.proofs.excluded.read_globs.Given as goal
 
-abbrev pub invariant-loop-rest : goal.invariant-loop-rest
-invariant-loop-rest g l = record {
-  texts : GaveSoFar (GivesText (g.F.Open.holds l.fn.files)) (rules_said l.fn.rules) (g.R.Read.remaining l.initial.input) (rules_said l.rest) (g.R.Read.remaining l.input) (listed_bytes l.texts.items);
+abbrev pub invariant-loop-rule : goal.invariant-loop-rule
+invariant-loop-rule g l = record {
+  texts : GaveSoFar (GivesText (g.F.Open.holds l.fn.files)) (rules_said l.fn.rules) (g.R.Read.remaining l.initial.input) (rules_said (drop l.rule-index l.fn.rules)) (g.R.Read.remaining l.input) (listed_bytes l.texts.items);
   told : l.errors ≡ l.initial.errors;
-  within : AreWithin (rule_files (rules_said l.rest)) (rule_files (rules_said l.fn.rules));
 }
-
-abbrev pub decreases-loop-rest : goal.decreases-loop-rest
-decreases-loop-rest g l = length l.rest

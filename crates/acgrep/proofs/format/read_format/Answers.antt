@@ -1,10 +1,10 @@
 -- A piece more was read.
-use Rattle.acgrep.proofs.Common.{Piece, common_steps}
+use Rattle.acgrep.proofs.Common.{Piece, common_steps, take_rest}
 use Rattle.std.proofs.Common.{◌++◌, ◌-◌, ◌<◌, ◌∙◌, ◌∷◌, ◌≡◌, List, Option, Some, [], ap, arith, drop, length, sym, take, ℕ}
 use Rattle.std.specs.Prelude.{option_map}
-use Rattle.acgrep.specs.Formats.{format_pieces, front_by, unknown_in}
-use Rattle.acgrep.proofs.FormatTexts.{whole_text}
-use Rattle.acgrep.proofs.Formatted.{pieces_end, pieces_more, pieces_step, rest_behind, unknown_step}
+use Rattle.acgrep.specs.Formats.{format_pieces, format_text, front_by, unknown_in}
+use Rattle.acgrep.proofs.FormatTexts.{text_more}
+use Rattle.acgrep.proofs.Formatted.{pieces_more, pieces_step, unknown_step}
 use Rattle.acgrep.proofs.format.read_format.Goals as goal
 
 pub loop-rest-preserved : goal.loop-rest-preserved
@@ -15,17 +15,14 @@ loop-rest-preserved c =
     let left = take (length rest - front.len) (drop front.len rest) in
     let some : 0 < length rest = grind (arith, common_steps, c.is_empty.ensures, c.loop-rest-test.true) in
     let is : front_by rest ≡ Some front = sym c.front_of.ensures.front ∙ c.in-Some.is in
-    let behind : drop front.len rest ≡ left = sym (rest_behind rest front.len) in
+    let behind : drop front.len rest ≡ left = sym (take_rest rest front.len) in
     record {
       read = c.loop-rest.invariant.read
           ∙ ap (λ (o : Option (List Piece)). option_map (λ pieces. items ++ pieces) o) (pieces_step rest front some c.in-Some.ensures.some is)
           ∙ pieces_more items front.piece (format_pieces (drop front.len rest))
           ∙ ap (λ (l : List ℕ). option_map (λ pieces. (items ++ (front.piece ∷ [])) ++ pieces) (format_pieces l)) behind
           ∙ ap (λ (l : List Piece). option_map (λ pieces. l ++ pieces) (format_pieces left)) (sym c.in_ok-add_piece-in-Some.ensures.added);
+      text = ap (λ (l : List Piece). format_text l ++ left) c.in_ok-add_piece-in-Some.ensures.added ∙ ap (λ (l : List ℕ). format_text (items ++ (front.piece ∷ [])) ++ l) (sym behind)
+          ∙ text_more items front rest some is ∙ c.loop-rest.invariant.text;
       unknown = c.loop-rest.invariant.unknown ∙ unknown_step rest front some c.in-Some.ensures.some is ∙ ap unknown_in behind;
     }
-
-pub returns-clause-whole : goal.returns-clause-whole
-returns-clause-whole c =
-    let none : length c.loop-rest.rest.now ≡ 0 = grind (arith, common_steps, c.is_empty.ensures, c.loop-rest-test.false) in
-    whole_text c.args.format.now c.loop-rest.pieces.items (pieces_end c.loop-rest.rest.now c.args.format.now c.loop-rest.pieces.items none c.loop-rest.invariant.read)

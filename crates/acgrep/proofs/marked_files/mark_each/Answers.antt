@@ -1,15 +1,14 @@
 -- A file more was searched.
-use Rattle.acgrep.proofs.Common.{Covering, Job, Seen, is_input, stream_lines}
-use Rattle.std.proofs.Common.{◌-◌, ◌∙◌, ◌∷◌, ◌≡◌, Bool, List, Option, [], ap, append-nil, drop, false, inl, inr, length, refl, subst, sym, take, true, ℕ}
+use Rattle.acgrep.proofs.Common.{Covering, Job, is_input, stream_lines}
+use Rattle.std.proofs.Common.{◌-◌, ◌∙◌, ◌∷◌, ◌≡◌, Bool, List, Option, [], ap, append-nil, drop, false, inl, inr, length, refl, sym, take, true, ℕ}
 use Rattle.std.proofs.lemmas.Bool.{or_parts}
 use Rattle.std.specs.Prelude.{◌&&◌}
 use Rattle.acgrep.specs.Files.{known_of}
 use Rattle.acgrep.specs.Listed.{listed_bytes}
 use Rattle.acgrep.specs.MarkedFiles.{HasMarkedLine, MarksFile, MarksInput, MarksName, mark_work}
-use Rattle.acgrep.specs.Told.{TellsIf}
 use Rattle.acgrep.specs.ToldByRules.{IsMarkTold}
 use Rattle.acgrep.proofs.FilesMarked.{still_marks}
-use Rattle.acgrep.proofs.InTurn.{SoFar, ends_by, if_searched, names_cut, so_far_end, so_far_start, so_far_step}
+use Rattle.acgrep.proofs.InTurn.{ends_by, if_searched, names_cut, so_far_end, so_far_start, so_far_step}
 use Rattle.acgrep.proofs.Told.{if-more}
 use Rattle.acgrep.proofs.marked_files.mark_each.Goals as goal
 
@@ -34,19 +33,11 @@ name_has job covering holds left read name held held' marks =
 
 pub loop-rest-init : goal.loop-rest-init
 loop-rest-init g c =
-    let job = c.args.job.now in
-    let names = listed_bytes c.args.names.now in
-    let held = g.W.Sink.taken c.args.output.now in
     record {
       can = c.requires.ready;
       unread = λ unread. refl;
-      told = subst (λ (seen : Seen). TellsIf g.E.Sink IsMarkTold job.hushed seen.failed c.args.errors.now c.args.errors.now) (sym c.new-seen.ensures) refl;
-      so_far = λ covering by.
-          let work = mark_work job covering (g.F.Open.holds c.args.files.now) _ in (
-            by,
-            subst (λ (b : Bool). SoFar work job.shown names false held names b held c.new-seen.result) (sym c.requires.unread)
-                (subst (SoFar work job.shown names false held names false held) (sym c.new-seen.ensures) (so_far_start work job.shown names false held)),
-          );
+      told = rw c.new-seen.ensures refl;
+      so_far = λ covering by. (by, rw (c.new-seen.ensures, c.requires.unread) (so_far_start _ _ _ _ _));
     }
 
 pub loop-rest-preserved : goal.loop-rest-preserved
@@ -68,17 +59,14 @@ loop-rest-preserved g c =
       unread = λ unread.
           let both = or_parts read (is_input name) (sym c.mark_name-outcome.ensures.read ∙ unread) in
           ap g.R.Read.remaining (c.mark_name-outcome.ensures.leaves both.1) ∙ c.loop-rest.invariant.unread both.0;
-      told = subst (λ (seen : Seen). TellsIf g.E.Sink IsMarkTold job.hushed seen.failed c.args.errors.now c.mark_name-outcome.new.errors) (sym c.after-seen.ensures)
-          (if-more g.E.Sink IsMarkTold job.hushed c.args.errors.now c.loop-rest.errors c.mark_name-outcome.new.errors _ job.shown seen c.loop-rest.invariant.told c.mark_name-outcome.ensures.told);
+      told = rw c.after-seen.ensures (if-more g.E.Sink IsMarkTold job.hushed c.args.errors.now c.loop-rest.errors c.mark_name-outcome.new.errors _ job.shown seen c.loop-rest.invariant.told c.mark_name-outcome.ensures.told);
       so_far = λ covering by.
           let work = mark_work job covering _ _ in
           let before = c.loop-rest.invariant.so_far covering by in
-          let so_far = subst (λ (l : List (List ℕ)). SoFar work job.shown names false first l read held seen) cut before.1 in
           let comes = c.mark_name-outcome.ensures.comes covering before.0 _ c.loop-rest.invariant.unread in
           let does = if_searched _ _ (work.Does seen.selected name read read' held held') (λ any marks. (c.mark_name-outcome.ensures.read, marks)) comes.searched in (
             still_marks g.A.Automaton c.loop-rest.marking.cover c.mark_name-outcome.new.marking.cover covering c.mark_name-outcome.ensures.ready.can c.mark_name-outcome.ensures.same.cover before.0,
-            subst (SoFar work job.shown names false first more read' held') (sym c.after-seen.ensures)
-                (so_far_step work job.shown names false first name more read read' held held' seen _ (c.goes_on.ensures.going c.loop-rest-test.true) so_far
+            rw c.after-seen.ensures (so_far_step work job.shown names false first name more read read' held held' seen _ (c.goes_on.ensures.going c.loop-rest-test.true) (rw cut at before.1)
                 c.mark_name-outcome.ensures.read does comes.begun (λ marks. name_has job covering _ _ read name held held' marks.1)),
           );
     }

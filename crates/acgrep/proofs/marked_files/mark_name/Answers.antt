@@ -1,46 +1,34 @@
 -- The name is that of standard input, or of a file.
-use Rattle.acgrep.proofs.Common.{Keeps, Keeps-refl, Unread, is_input}
-use Rattle.std.proofs.Common.{◌∙◌, ◌≡◌, Bool, List, Option, ap, false, subst, sym, true, ℕ}
+use Rattle.acgrep.proofs.Common.{Keeps-refl, Unread, is_input}
+use Rattle.std.proofs.Common.{◌∙◌, Bool, ap, false, sym, true}
 use Rattle.std.proofs.Math.Bool.{and-false}
 use Rattle.std.specs.Prelude.{◌&&◌}
-use Rattle.acgrep.specs.Files.{IsNamed, known_of, shown_name}
+use Rattle.acgrep.specs.Files.{known_of, shown_name}
 use Rattle.acgrep.proofs.FilesMarked.{name_comes, name_none}
 use Rattle.acgrep.proofs.MarksTold.{end-told, named-told, outcome-told}
-use Rattle.acgrep.proofs.NamesSearched.{at_file, at_input}
-use Rattle.acgrep.proofs.marked_files.mark_name.Given.{Over}
-use Rattle.acgrep.proofs.marked_files.mark_name.Goals.{After-job_for-named}
 use Rattle.acgrep.proofs.marked_files.mark_name.Goals as goal
-
-named_so : (g : Over) (c : After-job_for-named g) → IsNamed c.args.job.now (shown_name c.args.job.now.label.now c.args.name.now) false c.job_for-named.result
-named_so g c = rw c.shown_name.ensures at c.job_for-named.ensures.named
 
 pub returns-then-again-clause-comes : goal.returns-then-again-clause-comes
 returns-then-again-clause-comes g c = λ covering by left same.
-    name_comes c.args.job.now c.job_for-named.result covering (g.F.Open.holds c.args.files.now) left c.args.marking.now.input_read c.args.name.now _ _ (named_so g (goal.at.returns-then-again-clause-comes g c).After-job_for-named)
-    true (ap (λ (b : Bool). b && is_input c.args.name.now) c.if-again.true ∙ sym c.is_input-from_input.ensures ∙ c.if-from_input.true) c.end_file.result c.end_file.ensures.ended c.end_file.ensures.begun
+    name_comes _ _ _ _ _ _ _ _ _ (rw c.shown_name.ensures at c.job_for-named.ensures.named) true
+    (ap (λ (b : Bool). b && is_input c.args.name.now) c.if-again.true ∙ sym c.is_input-from_input.ensures ∙ c.if-from_input.true) c.end_file.result c.end_file.ensures.ended c.end_file.ensures.begun
 
 pub returns-in-None-clause-comes : goal.returns-in-None-clause-comes
 returns-in-None-clause-comes g c = λ covering by left same.
-    let holds = g.F.Open.holds c.args.files.now in
     let name = c.args.name.now in
-    let input : is_input name ≡ true = sym c.is_input-from_input.ensures ∙ c.if-from_input.true in
-    let kept : Keeps left (g.R.Read.remaining c.args.input.now) = subst (Keeps left) (sym (same c.if-again.false)) (Keeps-refl left) in
-    let comes = c.mark_reader.ensures.comes (known_of holds name left) (at_input (λ (k : Option (List ℕ)). Keeps k (g.R.Read.remaining c.args.input.now)) holds name left input kept) covering by in
-    name_comes c.args.job.now c.job_for-named.result covering holds left c.args.marking.now.input_read name _ _ (named_so g (goal.at.returns-in-None-clause-comes g c).After-job_for-named)
-    false (ap (λ (b : Bool). b && is_input name) c.if-again.false) c.mark_reader.result comes.searched comes.begun
+    let input = sym c.is_input-from_input.ensures ∙ c.if-from_input.true in
+    let comes = c.mark_reader.ensures.comes (known_of (g.F.Open.holds c.args.files.now) name left) (rw input (rw (same c.if-again.false) (Keeps-refl left))) covering by in
+    name_comes _ _ _ _ _ _ _ _ _ (rw c.shown_name.ensures at c.job_for-named.ensures.named) false (ap (λ (b : Bool). b && is_input name) c.if-again.false) c.mark_reader.result comes.searched comes.begun
 
 pub returns-in-Ok-clause-comes : goal.returns-in-Ok-clause-comes
 returns-in-Ok-clause-comes g c = λ covering by left same.
-    let holds = g.F.Open.holds c.args.files.now in
-    let name = c.args.name.now in
-    let other : is_input name ≡ false = sym c.is_input-from_input.ensures ∙ c.if-from_input.false in
-    let comes = c.mark_reader-in-Ok.ensures.comes (known_of holds name left) (at_file (λ (k : Option (List ℕ)). Keeps k (g.F.File.Read.remaining c.in-Ok.file)) holds name left other c.in-Ok.ensures.held) covering by in
-    name_comes c.args.job.now c.job_for-named.result covering holds left c.args.marking.now.input_read name _ _ (named_so g (goal.at.returns-in-Ok-clause-comes g c).After-job_for-named)
-    false (ap (λ (b : Bool). c.args.marking.now.input_read && b) other ∙ and-false c.args.marking.now.input_read) c.mark_reader-in-Ok.result comes.searched comes.begun
+    let read = c.args.marking.now.input_read in
+    let other = sym c.is_input-from_input.ensures ∙ c.if-from_input.false in
+    let comes = c.mark_reader-in-Ok.ensures.comes (known_of (g.F.Open.holds c.args.files.now) c.args.name.now left) (rw other c.in-Ok.ensures.held) covering by in
+    name_comes _ _ _ _ _ _ _ _ _ (rw c.shown_name.ensures at c.job_for-named.ensures.named) false (ap (λ (b : Bool). read && b) other ∙ and-false read) c.mark_reader-in-Ok.result comes.searched comes.begun
 
 pub returns-clause-comes : goal.returns-clause-comes
-returns-clause-comes g c = λ covering by left same.
-    name_none c.args.job.now c.job_for-named.result covering (g.F.Open.holds c.args.files.now) left c.args.marking.now.input_read c.args.name.now _ _ (named_so g (goal.at.returns-clause-comes g c).After-job_for-named) c.pass_over.ensures.kept
+returns-clause-comes g c = λ covering by left same. name_none _ _ _ _ _ _ _ _ _ (rw c.shown_name.ensures at c.job_for-named.ensures.named) c.pass_over.ensures.kept
 
 pub returns-then-again-clause-told : goal.returns-then-again-clause-told
 returns-then-again-clause-told g c =

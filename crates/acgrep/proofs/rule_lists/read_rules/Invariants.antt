@@ -1,15 +1,12 @@
 -- The rules of the names so far were read.
 use Rattle.acgrep.proofs.Common.{name_bytes}
-use Rattle.std.proofs.Common.{◌≡◌, length}
+use Rattle.std.proofs.Common.{◌≡◌, drop}
 use Rattle.acgrep.specs.RunsByRules.{AreNamedRules}
 use Rattle.acgrep.proofs.Gathered.{GaveSoFar}
 use Rattle.acgrep.proofs.rule_lists.read_rules.Given as goal
 
-abbrev pub invariant-loop-rest : goal.invariant-loop-rest
-invariant-loop-rest g l = record {
-  so_far : GaveSoFar (AreNamedRules (g.F.Open.holds l.fn.files)) (name_bytes l.fn.names) (g.R.Read.remaining l.initial.input) (name_bytes l.rest) (g.R.Read.remaining l.input) l.rules.items;
+abbrev pub invariant-loop-name : goal.invariant-loop-name
+invariant-loop-name g l = record {
+  so_far : GaveSoFar (AreNamedRules (g.F.Open.holds l.fn.files)) (name_bytes l.fn.names) (g.R.Read.remaining l.initial.input) (name_bytes (drop l.name-index l.fn.names)) (g.R.Read.remaining l.input) l.rules.items;
   told : l.errors ≡ l.initial.errors;
 }
-
-abbrev pub decreases-loop-rest : goal.decreases-loop-rest
-decreases-loop-rest g l = length l.rest

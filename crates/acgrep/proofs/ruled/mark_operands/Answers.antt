@@ -1,9 +1,8 @@
 -- What was found was searched, and what cannot be read was told before.
 use Rattle.acgrep.proofs.Common.{Covering, name_bytes}
-use Rattle.std.proofs.Common.{◌<◌, ◌∙◌, ◌≡◌, [], ap, false, inl, inr, refl, subst, sym, ℕ}
+use Rattle.std.proofs.Common.{◌∙◌, ◌≡◌, [], ap, false, inl, inr, refl, subst, sym, ℕ}
 use Rattle.acgrep.specs.Arguments.{shown_by}
 use Rattle.acgrep.specs.Folders.{missed_of}
-use Rattle.acgrep.specs.InTurn.{AreDoneOr}
 use Rattle.acgrep.specs.Listed.{listed_bytes}
 use Rattle.acgrep.specs.MarkedFiles.{mark_work}
 use Rattle.acgrep.specs.Runs.{are_several, status_reached}
@@ -50,11 +49,7 @@ returns g c =
         is_job = is_job;
         does = (
           found,
-          (
-            read,
-            subst (AreDoneOr (Work covering) job.shown files false read held held') (sym is) (status_seen (Work covering) job.shown files false read held held' seen
-                (rw listed at c.mark_each-seen.ensures.seen covering by) (subst (λ (n : ℕ). n < 2) is (reached-low flags unread found (rw status at low)))),
-          ),
+          (read, rw is (status_seen (Work covering) job.shown files false read held held' seen (rw listed at c.mark_each-seen.ensures.seen covering by) (rw is at (reached-low flags unread found (rw status at low))))),
           status,
         );
       };

@@ -7,15 +7,15 @@ use Rattle.acgrep.specs.Arguments.{AreRefused, Said, said, said_by, shown_by}
 use Rattle.acgrep.specs.Beside.{unfit_said}
 use Rattle.acgrep.specs.Folders.{known_by}
 use Rattle.acgrep.specs.Listed.{listed_bytes}
-use Rattle.acgrep.specs.Mistakes.{IsFirstMistake, TellsLacking, TellsMistake, TellsNoPattern, TellsRefused, TellsUnfit, memory_line}
+use Rattle.acgrep.specs.Mistakes.{IsFirstMistake, TellsMistake, TellsNoPattern, TellsRefused, TellsUnfit, memory_line}
 use Rattle.acgrep.specs.Runs.{AsksByRules, IsByPatterns}
-use Rattle.acgrep.specs.Told.{MaySaid, MayTell, TellsStatus, is_hushed, names_said, wrong_parts}
+use Rattle.acgrep.specs.Told.{MaySaid, TellsStatus, is_hushed, names_said, wrong_parts}
 use Rattle.acgrep.specs.ToldByRules.{IsMarkTold}
 use Rattle.acgrep.specs.declared.wrong.Refusal.TheVariants.{OutOfMemory, Wrong}
 use Rattle.acgrep.proofs.Kept.{begun_by_rules, by_rules_kept, ruled_kept, said_alone, search_held}
 use Rattle.acgrep.proofs.MarksTold.{some-told}
 use Rattle.acgrep.proofs.Told.{finished, not-quiet, tells-cause, told-said}
-use Rattle.acgrep.proofs.Unfitting.{each_all, some_all, some_both, some_more}
+use Rattle.acgrep.proofs.Unfitting.{each_all, some_both, some_more}
 use Rattle.acgrep.proofs.run.run.Goals as goal
 
 mistake-told : {E : Type 0} (K : SinkGhosts E) (arguments : List (List ℕ)) (refusal : Refusal) (old new : Errors E) → IsFirstMistake arguments refusal → TellsRefused K refusal old new
@@ -23,13 +23,7 @@ mistake-told : {E : Type 0} (K : SinkGhosts E) (arguments : List (List ℕ)) (re
 mistake-told K arguments (Wrong wrong) old new is told = inr (wrong_parts wrong, is, told)
 mistake-told K arguments OutOfMemory old new is told = inl told
 
--- right arguments are refused only where memory ran out
-refused-lacking : {E : Type 0} (K : SinkGhosts E) (told : Option Said) (given : Said) (refusal : Refusal) (old new : Errors E) → told ≡ Some given → AreRefused told refusal
-    → TellsRefused K refusal old new → TellsLacking K old new
-refused-lacking K told given (Wrong wrong) old new is refused exact = absurd (cc)
-refused-lacking K told given OutOfMemory old new is refused exact = inl exact
-
--- so it is this that is told
+-- right arguments are refused only where memory ran out, and it is this that is told
 refused-memory : {E : Type 0} (K : SinkGhosts E) (told : Option Said) (given : Said) (refusal : Refusal) (old new : Errors E) → told ≡ Some given → AreRefused told refusal
     → TellsRefused K refusal old new → TellsBytes K old new memory_line
 refused-memory K told given (Wrong wrong) old new is refused exact = absurd (cc)
@@ -97,23 +91,20 @@ returns-in-Err g c =
     let two : c.finish-in-Err.result ≡ 2 = elim c.finish-in-Err.ensures.status [ inl two ↦ two | inr two ↦ two ] in
     let same : new ≡ mid = c.finish-in-Err.ensures.told_before (omega arith) in
     let told : TellsSome g.E.Sink (MaySaid known left given) old new =
-    subst (TellsSome g.E.Sink (MaySaid known left given) old) (sym same)
-    (some-weaker g.E.Sink (MayTell (names_said given)) (MaySaid known left given) old mid (told-said known left given) (c.tell_refused.ensures.told (names_said given))) in
+    rw same (some-weaker g.E.Sink _ _ _ _ (told-said known left given) (c.tell_refused.ensures.told (names_said given))) in
     let memory = λ (g' : Said) (is : given ≡ Some g'). refused-memory g.E.Sink given g' c.in-Err.refusal old mid is c.in-Err.ensures.refused c.tell_refused.ensures.exact in
     let marked = λ (g' : Said) (is : given ≡ Some g').
     subst (TellsSome g.E.Sink IsMarkTold old) (sym same) (some-told g.E.Sink [] old mid (tells-cause g.E.Sink [] old mid None None (reason_text NoMemory) tt (inl (inl (NoMemory, refl))) (memory g' is))) in
     record {
       bound = omega (arith, two);
       usage = λ none. two;
-      mistake = λ wrong. subst (TellsMistake g.E.Sink arguments old) (sym same) (mistake-told g.E.Sink arguments c.in-Err.refusal old mid c.in-Err.ensures.wrong c.tell_refused.ensures.exact);
+      mistake = λ wrong. rw same (mistake-told g.E.Sink arguments c.in-Err.refusal old mid c.in-Err.ensures.wrong c.tell_refused.ensures.exact);
       unread = λ none. refl;
       unwritten = λ none. c.finish-in-Err.ensures.kept;
-      unfit = λ given is asks. some_all (unfit_said given) _ two;
-      unfitting = λ given is asks.
-          each_all (unfit_said given) (λ (line : List ℕ). TellsUnfit g.E.Sink line old new) (λ line. inl (subst (λ (e : Errors g.row.E.Denot). TellsBytes g.E.Sink old e memory_line) (sym same) (memory given is)));
+      unfit = λ given is asks. each_all (unfit_said given) _ (λ line. two);
+      unfitting = λ given is asks. each_all (unfit_said given) (λ (line : List ℕ). TellsUnfit g.E.Sink line old new) (λ line. inl (rw same (memory given is)));
       patternless = λ given is asks none. two;
-      lacking = λ g' is asks none.
-          subst (TellsLacking g.E.Sink old) (sym same) (refused-lacking g.E.Sink given g' c.in-Err.refusal old mid is c.in-Err.ensures.refused c.tell_refused.ensures.exact);
+      lacking = λ given is asks none. inl (rw same (memory given is));
       searches = λ given is asks low. absurd (omega (arith, low, two));
       begins = λ given is asks. inl c.finish-in-Err.ensures.kept;
       marks = λ given is asks low. absurd (omega (arith, low, two));

@@ -1,12 +1,11 @@
 -- The searcher was built from the lines that were read.
-use Rattle.acgrep.proofs.Common.{AnyPart, Errors, Fit, Flags, IsBuiltFrom, IsSameWord, MatchKind, Patterns, and_parts, eq-eqb, name_bytes, pattern_at, pieces_of}
-use Rattle.std.proofs.Common.{◌+◌, ◌<◌, ◌∙◌, ◌∷◌, ◌≡◌, Bool, List, [], ap, arith, drop, false, inl, inr, length, refl, subst, sym, true, ℕ}
-use Rattle.std.proofs.lemmas.Bool.{leb-true}
-use Rattle.std.specs.Prelude.{◌&&◌, if◌then◌else◌, nat_le, slice_index_or, slice_range}
+use Rattle.acgrep.proofs.Common.{AnyPart, Errors, Fit, Flags, IsBuiltFrom, IsSameWord, MatchKind, Patterns, and_parts, common_steps, eq-eqb, name_bytes, pattern_at, pieces_of}
+use Rattle.std.proofs.Common.{◌∙◌, ◌∷◌, ◌≡◌, Bool, List, [], ap, arith, drop, false, inl, inr, length, refl, subst, sym, true, ℕ}
+use Rattle.std.specs.Prelude.{if◌then◌else◌, slice_index_or, slice_range}
 use Rattle.aho_core.specs.Bytes.{folded_by}
 use Rattle.tool_parts.specs.Building.{patterns_by_kind}
 use Rattle.acgrep.specs.Arguments.{ending_by, fit_by, said, shown_by}
-use Rattle.acgrep.specs.Folders.{known_by, tree_of}
+use Rattle.acgrep.specs.Folders.{known_by}
 use Rattle.acgrep.specs.Lines.{AreFreeOf, lines}
 use Rattle.acgrep.specs.Runs.{AreSought, BeginsNoMatch, BeginsOrKeeps, SearchesReached, WritesNoMatch, inverts, kind_sought, knows_none, origins_of, selects_none, words_sought}
 use Rattle.acgrep.specs.Selected.{HoldNoEnding}
@@ -48,26 +47,12 @@ none_selected p WholeLine true (word ∷ words) are is line = absurd (cc)
 none_selected p AnyPart true ([] ∷ words) are is line = empty_matches p words are line
 none_selected p AnyPart true ((byte ∷ bytes) ∷ words) are is line = absurd (cc)
 
-raised_low : (upper : Bool) (byte low : ℕ) → (nat_le 65 byte && nat_le byte 90) ≡ upper → low < 65 → (if upper then byte + 32 else byte) ≡ low → byte ≡ low
-raised_low true byte low upper less is = absurd (omega (arith, less, is, leb-true 65 byte (and_parts (nat_le 65 byte) (nat_le byte 90) upper).0))
-raised_low false byte low upper less is = is
-
 -- by the case rule a byte below the letters is the same as no other byte
-fold_low : (ignore_case : Bool) (byte low : ℕ) → low < 65 → folded_by ignore_case byte ≡ low → byte ≡ low
-fold_low false byte low less is = is
-fold_low true byte low less is = raised_low (nat_le 65 byte && nat_le byte 90) byte low refl less is
-
-fold_zero : (ignore_case : Bool) → folded_by ignore_case 0 ≡ 0
-fold_zero true = refl
-fold_zero false = refl
-
-fold_newline : (ignore_case : Bool) → folded_by ignore_case 10 ≡ 10
-fold_newline true = refl
-fold_newline false = refl
-
 fold_ending : (null_data ignore_case : Bool) (byte : ℕ) → folded_by ignore_case byte ≡ folded_by ignore_case (if null_data then 0 else 10) → byte ≡ (if null_data then 0 else 10)
-fold_ending true ignore_case byte same = fold_low ignore_case byte 0 (omega arith) (same ∙ fold_zero ignore_case)
-fold_ending false ignore_case byte same = fold_low ignore_case byte 10 (omega arith) (same ∙ fold_newline ignore_case)
+fold_ending true true byte same = grind (arith, common_steps)
+fold_ending false true byte same = grind (arith, common_steps)
+fold_ending true false byte same = same
+fold_ending false false byte same = same
 
 free_plain : (flags : Flags) (kind : MatchKind) (ignore_case : Bool) (words : List (List ℕ)) → AreFreeOf (ending_by flags) words → HoldNoEnding (ending_by flags) (patterns_by_kind kind ignore_case words)
 free_plain flags kind ignore_case words free number place low within = λ same.
@@ -160,18 +145,13 @@ returns-then-knows_none g c =
 
 -- or a pattern cannot be read or searched for
 pub returns-in_default-clause-told : goal.returns-in_default-clause-told
-returns-in_default-clause-told g c =
-    sources-told g.E.Sink (tree_of g.F.Folders c.args.files.now) (said c.args.given.now) (origins_of c.args.sources.now) (name_bytes c.args.names.now) _ _ _ refl (c.in_default.ensures.told refl)
+returns-in_default-clause-told g c = sources-told g.E.Sink _ _ _ _ _ _ _ refl (c.in_default.ensures.told refl)
 
 pub returns-in_default-lines_of-clause-told : goal.returns-in_default-lines_of-clause-told
-returns-in_default-lines_of-clause-told g c =
-    sources-told g.E.Sink (tree_of g.F.Folders c.args.files.now) (said c.args.given.now) (origins_of c.args.sources.now) (name_bytes c.args.names.now) _ _ _ (c.in-Some.ensures.silent refl)
-    (c.tell_memory.ensures.told (source_names (origins_of c.args.sources.now)))
+returns-in_default-lines_of-clause-told g c = sources-told g.E.Sink _ _ _ _ _ _ _ (c.in-Some.ensures.silent refl) (c.tell_memory.ensures.told (source_names (origins_of c.args.sources.now)))
 
 pub returns-in-Some-first_holding-clause-told : goal.returns-in-Some-first_holding-clause-told
-returns-in-Some-first_holding-clause-told g c =
-    sources-told g.E.Sink (tree_of g.F.Folders c.args.files.now) (said c.args.given.now) (origins_of c.args.sources.now) (name_bytes c.args.names.now) _ _ _ (c.in-Some.ensures.silent refl) c.tell_ending.ensures.told
+returns-in-Some-first_holding-clause-told g c = sources-told g.E.Sink _ _ _ _ _ _ _ (c.in-Some.ensures.silent refl) c.tell_ending.ensures.told
 
 pub returns-clause-told : goal.returns-clause-told
-returns-clause-told g c =
-    sources-told g.E.Sink (tree_of g.F.Folders c.args.files.now) (said c.args.given.now) (origins_of c.args.sources.now) (name_bytes c.args.names.now) _ _ _ (c.in-Some.ensures.silent refl) c.tell_refusal.ensures.told
+returns-clause-told g c = sources-told g.E.Sink _ _ _ _ _ _ _ (c.in-Some.ensures.silent refl) c.tell_refusal.ensures.told

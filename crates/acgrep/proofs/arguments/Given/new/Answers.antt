@@ -1,6 +1,6 @@
 -- No option, no pattern, no operand and no rule is there.
 use Rattle.acgrep.proofs.Common.{Flags, Piece, Source}
-use Rattle.std.proofs.Common.{◌∙◌, ◌≡◌, Bor, List, [], ap, codes, ℕ}
+use Rattle.std.proofs.Common.{◌≡◌, Bor, List, [], codes, refl, ℕ}
 use Rattle.std.specs.Prelude.{map}
 use Rattle.acgrep.specs.Arguments.{Said, no_flags, nothing_said, origin_of}
 use Rattle.acgrep.specs.Rules.{rules_said}
@@ -22,9 +22,7 @@ made flags sources operands format rules rule_files = record {
 none_made : (flags : Flags) (sources : List Source) (operands : List (Bor (List ℕ))) (format : List Piece) (rules : List Rule) (rule_files : List (Bor (List ℕ))) → flags ≡ no_flags → sources ≡ [] → operands ≡ [] → format ≡ []
     → rules ≡ [] → rule_files ≡ [] → made flags sources operands format rules rule_files ≡ nothing_said
 none_made flags sources operands format rules rule_files no_option no_source no_operand no_piece no_rule no_file =
-    ap (λ (f : Flags). made f sources operands format rules rule_files) no_option ∙ ap (λ (l : List Source). made no_flags l operands format rules rule_files) no_source
-    ∙ ap (λ (l : List (Bor (List ℕ))). made no_flags [] l format rules rule_files) no_operand ∙ ap (λ (l : List Piece). made no_flags [] [] l rules rule_files) no_piece
-    ∙ ap (λ (l : List Rule). made no_flags [] [] [] l rule_files) no_rule ∙ ap (λ (l : List (Bor (List ℕ))). made no_flags [] [] [] [] l) no_file
+    rw (no_option, no_source, no_operand, no_piece, no_rule, no_file) refl
 
 pub returns : goal.returns
 returns c = record {
