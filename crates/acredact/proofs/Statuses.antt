@@ -3,7 +3,7 @@ use Rattle.acredact.proofs.Common.{Errors, Failure, Readers, SinkGhosts, Streams
 use Rattle.std.proofs.Common.{◌≡◌, inl, inr, ℕ, ◌≤◌, List, true, false, refl, sym, ◌∙◌, arith}
 use Rattle.std.specs.Prelude.{Bool, ◌⊎◌, ◌&&◌, not, Ok, Err}
 use Rattle.acredact.specs.Arguments.{AsksAnyCheck, AsksForRules, AsksForRulesCheck, AsksToRedact, Given, GivesNoPattern, any_check_asked, checks_asked, gives_rules, has, rules_asked, rules_check_asked}
-use Rattle.acredact.specs.Calls.{Call, CallOutcome, IsLineOf, OutputFails}
+use Rattle.acredact.specs.Calls.{BeginsCall, Call, CallOutcome, IsLineOf, OfCall, OutputFails, TellsUpToEnd}
 use Rattle.acredact.specs.Failures.{IsFailureLine}
 use Rattle.acredact.specs.Statuses.{CallStatus, IsIdle}
 use Rattle.acredact.specs.declared.options.Word.TheVariants.{Check, Help, Version}
@@ -92,40 +92,32 @@ module _ {R : Type 0} {Reads : Readers R} {W E : Type 0} (Writes : Writers W) (K
   status_done some of = record {
     patternless = λ none. absurd (some none);
     idle = λ none. absurd (some none);
-    redacts = λ is. of.redacts refl;
+    done = λ is. of.comes;
     begins = of.begins;
-    strict = λ asked is. of.strict asked refl;
-    quiet = λ none is. of.quiet none refl;
-    counts = λ counted is. of.counts counted refl;
     tells = λ (is : 0 ≡ 2). absurd (omega arith);
     numbers = (new.errors, of.numbers, inl refl);
   }
 
-  -- some file was not read to its end
-  pub status_partly : (GivesNoPattern call.given → IsIdle old new) → CallOutcome Writes K call (bytes_left old.input) (bytes_left new.input) (Ok false) old.output new.output old.errors new.errors → CallStatus Writes K call 2 old new
-  status_partly idle of = record {
+  -- it was not, and that is told
+  status_two : (GivesNoPattern call.given → IsIdle old new) → OfCall (BeginsCall Writes) call old new → TellsSome K (IsLineOf call (OutputFails old.output new.output)) old.errors new.errors
+      → TellsUpToEnd K call (OutputFails old.output new.output) (bytes_left old.input) (bytes_left new.input) old.errors new.errors → CallStatus Writes K call 2 old new
+  status_two idle begins tells numbers = record {
     patternless = λ none. refl;
     idle = idle;
-    redacts = λ (is : 2 ≡ 0). absurd (omega arith);
-    begins = of.begins;
-    strict = λ asked (is : 2 ≡ 0). absurd (omega arith);
-    quiet = λ none (is : 2 ≡ 0). absurd (omega arith);
-    counts = λ counted (is : 2 ≡ 0). absurd (omega arith);
-    tells = λ is. of.partly refl;
-    numbers = (new.errors, of.numbers, inl refl);
+    done = λ (is : 2 ≡ 0). absurd (omega arith);
+    begins = begins;
+    tells = λ two. tells;
+    numbers = numbers;
   }
 
-  -- the call ended early, and that is told
-  pub status_failed : (GivesNoPattern call.given → IsIdle old new) → (failure : Failure) (errors : Errors E) (line : List ℕ)
-      → CallOutcome Writes K call (bytes_left old.input) (bytes_left new.input) (Err failure) old.output new.output old.errors new.errors → IsFailureLine failure line → TellsBytes K new.errors errors line → CallStatus Writes K call 2 old (record new { errors = errors })
-  status_failed idle failure errors line of is told = record {
-    patternless = λ none. refl;
-    idle = λ none. record { unread = (idle none).unread; unwritten = (idle none).unwritten };
-    redacts = λ (is : 2 ≡ 0). absurd (omega arith);
-    begins = of.begins;
-    strict = λ asked (is : 2 ≡ 0). absurd (omega arith);
-    quiet = λ none (is : 2 ≡ 0). absurd (omega arith);
-    counts = λ counted (is : 2 ≡ 0). absurd (omega arith);
-    tells = λ two. tells_last K (IsLineOf call (OutputFails old.output new.output)) _ _ _ line of.told (inr (inl (failure, of.fails, is))) told;
-    numbers = (new.errors, of.numbers, inr (failure, of.fails, line, is, told));
-  }
+  -- some file was not read to its end
+  pub status_partly : (GivesNoPattern call.given → IsIdle old new) → CallOutcome Writes K call (bytes_left old.input) (bytes_left new.input) (Ok false) old.output new.output old.errors new.errors → CallStatus Writes K call 2 old new
+  status_partly idle of = status_two idle of.begins of.comes (new.errors, of.numbers, inl refl)
+
+-- the call ended early, and that is told
+pub status_failed : {R : Type 0} {Reads : Readers R} {W E : Type 0} (Writes : Writers W) (K : SinkGhosts E) (call : Call) (old new : Streams R W E Reads) → (GivesNoPattern call.given → IsIdle old new) → (failure : Failure) (errors : Errors E) (line : List ℕ)
+    → CallOutcome Writes K call (bytes_left old.input) (bytes_left new.input) (Err failure) old.output new.output old.errors new.errors → IsFailureLine failure line → TellsBytes K new.errors errors line → CallStatus Writes K call 2 old (record new { errors = errors })
+status_failed Writes K call old new idle failure errors line of is told =
+    let (may, before) = of.comes in
+    status_two Writes K call old (record new { errors = errors }) (λ none. record { unread = (idle none).unread; unwritten = (idle none).unwritten }) of.begins
+    (tells_last K (IsLineOf call (OutputFails old.output new.output)) _ _ _ line before (inr (inl (failure, may, is))) told) (new.errors, of.numbers, inr (failure, may, line, is, told))

@@ -1,8 +1,9 @@
 -- The new file is made and filled, or it is told why not.
 use Rattle.acredact.proofs.Common.{is_input, texts}
 use Rattle.std.proofs.Common.{rules, ◌≡◌, inl, inr, refl, true, false, arith}
+use Rattle.acredact.specs.Arguments.{IsCheck}
 use Rattle.acredact.specs.Calls.{IsLineOf, OutputFails, call_of}
-use Rattle.acredact.specs.Into.{IsOutputLine}
+use Rattle.acredact.specs.Into.{IsOutputLine, TakesPlace}
 use Rattle.acredact.specs.Ruled.{IsRuledTold}
 use Rattle.acredact.proofs.Put.{by_status, done_told, no_check_of, put_told, some_told, two_of}
 use Rattle.acredact.proofs.RuledCalls.{notes_told}
@@ -30,20 +31,25 @@ returns-in-Ok g c =
     let end = c.finish.ensures in
     let ran = c.run-done.ensures in
     let begun = record c.args.streams.now { output = c.new.result } in
+    let new : (none : IsCheck c.args.arguments.now → ⊥) (zero : c.finish.result ≡ 0) → TakesPlace g.O.File.Write g.O.Outputs c.args.name.now c.args.outputs.now c.finish.new.outputs c.finish.new.streams.output = λ none zero. record {
+      named = named;
+      file = c.new.result;
+      meanwhile = c.make.new.self;
+      made = rw c.new.ensures.writer c.in-Ok.ensures.made;
+      empty = rw c.new.ensures.writer c.in-Ok.ensures.empty;
+      flushed = rw (end.same zero) (ran.flushed none (end.done zero));
+      puts = rw (end.same zero) (end.puts zero);
+    } in
     record {
-      writes = λ given right asks zero. record {
-        named = named;
-        file = c.new.result;
-        meanwhile = c.make.new.self;
-        made = rw c.new.ensures.writer c.in-Ok.ensures.made;
-        empty = rw c.new.ensures.writer c.in-Ok.ensures.empty;
-        redacts = rw (end.same zero) (ran.redacts given right asks (end.done zero));
-        strict = λ refuses. rw (end.same zero) (ran.strict given right asks refuses (end.done zero));
-        quiet = λ none. rw (end.same zero) (ran.quiet given right asks none (end.done zero));
-        counts = λ counted. rw (end.same zero) (ran.counts given right asks counted (end.done zero));
-        flushed = rw (end.same zero) (ran.flushed (no_check_of _ given right (λ checks. any_redaction given checks asks)) (end.done zero));
-        puts = rw (end.same zero) (end.puts zero);
-      };
+      writes = λ given right asks zero. (
+        new (no_check_of _ given right (λ checks. any_redaction given checks asks)) zero,
+        rw (end.same zero) (record {
+          all = ran.redacts given right asks (end.done zero);
+          strict = λ refuses. ran.strict given right asks refuses (end.done zero);
+          quiet = λ none. ran.quiet given right asks none (end.done zero);
+          counts = λ counted. ran.counts given right asks counted (end.done zero);
+        }),
+      );
       leaves = λ failed. inr (inr (record { held = _; meanwhile = c.make.new.self; made = c.in-Ok.ensures.made; kept = end.kept failed }));
       tells = λ given right asks failed.
           let call = call_of g.F.Folder c.args.folder.now given in
@@ -60,17 +66,10 @@ returns-in-Ok g c =
                 let two = two_of c.run-done.result ran.bound (λ is. no_check_of (texts c.args.arguments.now) given right (λ checks. any_redaction given checks asks) (ran.one is)) other in
                 rw (end.failed other).0 (some_told g.E.Sink (IsLineOf call _) c.args.name.now _ _ (ran.tells given right asks two))),
           );
-      ruled_writes = λ given right asks zero. record {
-        named = named;
-        file = c.new.result;
-        meanwhile = c.make.new.self;
-        made = rw c.new.ensures.writer c.in-Ok.ensures.made;
-        empty = rw c.new.ensures.writer c.in-Ok.ensures.empty;
-        redacts = rw (end.same zero) (ran.ruled given right asks (end.done zero));
-        notes = rw (end.same zero) (ran.ruled_quiet given right asks (end.done zero));
-        flushed = rw (end.same zero) (ran.flushed (no_check_of _ given right (λ checks. any_ruled given checks asks)) (end.done zero));
-        puts = rw (end.same zero) (end.puts zero);
-      };
+      ruled_writes = λ given right asks zero. (
+        new (no_check_of _ given right (λ checks. any_ruled given checks asks)) zero,
+        rw (end.same zero) (ran.ruled given right asks (end.done zero), ran.ruled_quiet given right asks (end.done zero)),
+      );
       ruled_tells = λ given right asks failed.
           let call = call_of g.F.Folder c.args.folder.now given in
           by_status c.run-done.result (λ zero.
