@@ -18,11 +18,6 @@ two_of zero bound one none = absurd (none refl)
 two_of (suc zero) bound one none = absurd (one refl)
 two_of (suc (suc status)) bound one none = omega (arith, bound)
 
--- it is 0 or not
-pub by_status : {P : Type 0} (status : ℕ) → (status ≡ 0 → P) → ((status ≡ 0 → ⊥) → P) → P
-by_status zero none some = none refl
-by_status (suc status) none some = some (λ (is : suc status ≡ 0). omega (arith, is))
-
 -- what is no check is not one
 pub no_check_of : (arguments : List (List ℕ)) (given : List Given) → all_asked arguments ≡ Some given → (AsksAnyCheck given → ⊥)
     → ((items : List Given) × (all_asked arguments ≡ Some items) × AsksAnyCheck items) → ⊥

@@ -10,7 +10,7 @@ ghost use Rattle.acredact.specs.Arguments.{AreMistaken, IfAsked, all_given};
 ghost use Rattle.acredact.specs.Calls.{IsWrongLine, call_of};
 ghost use Rattle.acredact.specs.Files.{CanDo, redactor_of, work_of};
 ghost use Rattle.acredact.specs.InPlace.{CalledPlaces, FreesAll, IsSettled, KeepsEach, PlaceOutcome, PlacesAll, PlacesCount, PlacesOutcome, PlacesReach, PlacesStatus, PlacesTell, ReadyPlaces};
-ghost use Rattle.acredact.specs.Into.{WarnsAll};
+ghost use Rattle.acredact.specs.Into.{TellsUnread, WarnsAll};
 ghost use Rattle.acredact.specs.Loading.{AreSome, loaded_in};
 ghost use Rattle.acredact.specs.Ready.{IsReadyBy};
 
@@ -244,7 +244,7 @@ fn is_memory(error: StreamError) -> bool
 }
 
 /// Has the new file take the place of the one of this name, and answers whether it did. Else it is told and removed.
-fn put_new<O: Outputs, I: Read, E: Sink>(
+pub fn put_new<O: Outputs, I: Read, E: Sink>(
     outputs: &mut O,
     name: &str,
     streams: &mut Streams<'_, I, O::File, E>,
@@ -252,6 +252,8 @@ fn put_new<O: Outputs, I: Read, E: Sink>(
     ensures settled { IsSettled O.File.Write E.Sink O.Outputs name.now
         (Ok true) (Ok result) outputs.old outputs.new streams.old streams.new }
     ensures input { streams.new.input ≡ streams.old.input }
+    ensures same { result ≡ true → streams.new ≡ streams.old }
+    ensures told { result ≡ false → TellsUnread E.Sink name.now streams.old.errors streams.new.errors }
 {
     match outputs.put(name, &streams.output) {
         Ok(()) => true,

@@ -48,7 +48,7 @@ returns g c = record {
       let run = job_does g.F.Folder c.args.folder.now call.given (loaded_in c.args.secrets.now) c.job_of-job.result (c.job_of-job.ensures.job c.requires.ready)
       (λ (w : Work). PlacesOutcome g.O.File.Write g.O.Outputs w g.E.Sink (Ok c.in_ok-all.all) c.args.outputs.now c.place_each.new.outputs c.args.streams.now c.place_each.new.streams c.as_mut_slice-tally.result.now c.place_each.new.counts no_volume c.place_each.new.volume)
       (c.in_ok-all.ensures.outcome _ c.requires.ready.of) in
-      places_told g.O.File.Write g.E.Sink g.O.Outputs call left rules (key_in c.args.secrets.now.key) c.place_each.new.counts c.place_each.new.volume
+      places_told g.O.File.Write g.E.Sink g.O.Outputs call left items (key_in c.args.secrets.now.key) c.place_each.new.counts c.place_each.new.volume
       c.args.outputs.now c.place_each.new.outputs first c.tell_counted.new.errors c.args.streams.now c.place_each.new.streams loaded warnings
       (rw value at c.tell_counted.ensures.lines) c.in_ok-all.all c.tell_counted.result (rw none at run)
       c.tell_counted.ensures.all (rw value at c.tell_counted.ensures.told) c.tell_counted.ensures.fails;
