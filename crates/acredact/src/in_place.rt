@@ -1,7 +1,6 @@
 //! A call that replaces each file: a new one is written beside it, and takes its place where all of it was redacted.
 
-ghost use Rattle.std.specs.Prelude.{◌≡◌, ◌≤◌, Ok, true};
-ghost use Rattle.aho_core.specs.declared.error.stream.StreamError.TheVariants.{Memory};
+ghost use Rattle.std.specs.Prelude.{◌≡◌, ◌≤◌, Ok, false, true};
 ghost use Rattle.chromesquid.specs.Searcher.{ForItsPatterns};
 ghost use Rattle.tool_parts.specs.Arguments.{texts};
 ghost use Rattle.tool_parts.specs.Streams.{bytes_left};
@@ -227,20 +226,13 @@ fn settle<O: Outputs, I: Read, E: Sink>(
         Err(error) => {
             let reason = outputs.unwritten();
             outputs.remove(name);
-            if is_memory(error) {
+            if matches!(error, StreamError::Memory) {
                 return Err(StreamError::Memory);
             }
             tell_unread(&mut streams.errors, name, reason);
             Ok(false)
         }
     }
-}
-
-/// Whether memory ran out.
-fn is_memory(error: StreamError) -> bool
-    ensures memory { result ≡ true → error ≡ Memory }
-{
-    matches!(error, StreamError::Memory)
 }
 
 /// Has the new file take the place of the one of this name, and answers whether it did. Else it is told and removed.

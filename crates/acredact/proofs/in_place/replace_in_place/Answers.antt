@@ -15,9 +15,7 @@ pub returns-in-Ok : goal.returns-in-Ok
 returns-in-Ok g c =
     let items = all_given c.as_slice.result.now in
     let mine : all_asked (texts c.args.arguments.now) ≡ Some items = c.in-Ok.ensures.given ∙ ap (λ l. Some (all_given l)) (sym c.as_slice.ensures.value) in
-    let says = λ (given : List Given) (right : all_asked (texts c.args.arguments.now) ≡ Some given).
-    subst (λ (l : List Given). PlacesStatus g.O.File.Write g.E.Sink g.O.Outputs (call_of g.F.Folder c.args.folder.now l) (bytes_left c.args.streams.now.input) c.answer_places.result c.args.outputs.now c.answer_places.new.outputs c.args.streams.now.errors c.answer_places.new.streams.errors)
-    (same_given (all_asked (texts c.args.arguments.now)) given items right mine) c.answer_places.ensures.says in
+    let says = λ (given : List Given) (right : all_asked (texts c.args.arguments.now) ≡ Some given). rw (same_given (all_asked (texts c.args.arguments.now)) given items right mine) at c.answer_places.ensures.says in
     record {
       wrong = λ wrong. let clash : None ≡ Some items = sym wrong ∙ mine in absurd (cc);
       unmade = λ wrong. let clash : None ≡ Some items = sym wrong ∙ mine in absurd (cc);
