@@ -1,9 +1,10 @@
 -- What comes of a call, by what comes of its files.
-use Rattle.acredact.proofs.Common.{All, All-append, All-cons, All-head, All-nil, All-tail, Errors, Failure, Folders, FromWrite, Memory, Other, OutOfMemory, PositionLimit, Read, Readers, Rule, SinkGhosts, StreamError, Streams, Tells, TellsBytes, TellsSome, Volume, Write, WriteZero, Writers, bytes_left, concat, failure_of_stream, tells-later, tells-nothing}
-use Rattle.std.proofs.Common.{◌≡◌, inl, inr, ℕ, List, [], ◌∷◌, ◌++◌, Option, true, false, refl, sym, ap, subst, ◌∙◌, append-nil}
+use Rattle.acredact.proofs.Common.{All, All-append, All-cons, All-head, All-nil, All-tail, Errors, Failure, Folders, FromWrite, Memory, Other, OutOfMemory, PositionLimit, Read, Readers, Rule, SinkGhosts, StreamError, Streams, Tells, TellsBytes, TellsSome, Volume, Write, WriteZero, Writers, bytes_left, concat, failure_of_stream}
+use Rattle.std.proofs.Common.{◌≡◌, inl, inr, ℕ, List, [], ◌∷◌, Option, true, false, refl, sym, ap, subst, ◌∙◌}
 use Rattle.std.specs.Prelude.{Bool, MatchBool, Result, Ok, Err, IfErr, IfOk, OnOk}
 use Rattle.std.proofs.lemmas.List.Elements.{All-weaker}
 use Rattle.aho_core.specs.declared.error.stream.StreamError.TheVariants.{Match}
+use Rattle.tool_parts.proofs.Lines.{some-one, some-tells, tells-none}
 use Rattle.acredact.specs.Arguments.{Given, counts_asked}
 use Rattle.acredact.specs.Calls.{AreBounded, Call, CallOutcome, CalledAs, CannotLoadCall, IsCountsFailure, IsCountsLine, IsLineOf, IsRunFailure, IsUnreadLine, IsWordLine, LoadsCall, MayFail, OutputFails, RestDone, RestOutcome, TellsCounts, call_of, names_asked, reading_by, work_by}
 use Rattle.acredact.specs.Builds.{patterns_by_given}
@@ -18,8 +19,10 @@ use Rattle.acredact.specs.Tables.{Secret, patterns_in, secrets_of}
 use Rattle.acredact.specs.Totals.{CountsOfNames}
 use Rattle.acredact.specs.Volumes.{ReadsVolume}
 use Rattle.acredact.specs.declared.files.Job.{Job}
-use Rattle.acredact.proofs.Done.{concat_both, cut_of, redacted_of}
+use Rattle.acredact.proofs.Done.{cut_of, redacted_of}
 use Rattle.acredact.proofs.Totals.{totals_told}
+-- lines behind lines, and lines that may be told of more
+pub use Rattle.tool_parts.proofs.Lines.{some-then as some_then, some-weaker as some_weaker, tells-then as tells_both, tells-weaker as tells_weaker, then-some as some_behind}
 
 -- no line is one
 pub none_are : (lines : List (List ℕ)) → are_none lines ≡ true → lines ≡ []
@@ -38,7 +41,7 @@ module _ (work : Work) where
   unread_one name names lines left left' held held' (inr (inr is)) =
       subst (All (IsUnreadLine (name ∷ names))) (sym is.0) (All-cons (IsUnreadLine (name ∷ names)) (output_line name) [] (name, inl refl, inr refl) (All-nil (IsUnreadLine (name ∷ names))))
 
-  unread_of : (names lines : List (List ℕ)) (left left' held held' : Option (List ℕ)) → AreCut work names lines left left' held held' → All (IsUnreadLine names) lines
+  pub unread_of : (names lines : List (List ℕ)) (left left' held held' : Option (List ℕ)) → AreCut work names lines left left' held held' → All (IsUnreadLine names) lines
   unread_of [] lines left left' held held' cut = subst (All (IsUnreadLine [])) (sym cut.0) (All-nil (IsUnreadLine []))
   unread_of (name ∷ names) lines left left' held held' (inl cut) = subst (All (IsUnreadLine (name ∷ names))) (sym cut.0) (All-nil (IsUnreadLine (name ∷ names)))
   unread_of (name ∷ names) lines left left' held held' (inr (first, rest, are, between, meanwhile, is, others)) =
@@ -47,75 +50,24 @@ module _ (work : Work) where
 
 -- nothing was told, where nothing has changed
 pub tells_same : {E : Type 0} (K : SinkGhosts E) (IsLine : List ℕ → Type 0) (old new : Errors E) → new ≡ old → Tells K IsLine old new
-tells_same K IsLine old new same = record { told = []; are_lines = All-nil IsLine; written = subst (λ (e : Errors _). TellsBytes K old e []) (sym same) (tells-nothing K old) }
+tells_same K IsLine old new same = subst (Tells K IsLine old) (sym same) (tells-none K IsLine old)
 
 -- one line was
 pub tells_line : {E : Type 0} (K : SinkGhosts E) (IsLine : List ℕ → Type 0) (old new : Errors E) (line : List ℕ) → IsLine line → TellsBytes K old new line → Tells K IsLine old new
-tells_line K IsLine old new line is told = record { told = line ∷ []; are_lines = All-cons IsLine line [] is (All-nil IsLine); written = subst (TellsBytes K old new) (sym (append-nil line)) told }
+tells_line K IsLine old new line is told = some-tells K IsLine old new (some-one K IsLine old new line is told)
 
 -- the text of the counts was
 pub tells_counts : {E : Type 0} (K : SinkGhosts E) (given : List Given) (old new : Errors E) (secrets : List Secret) (counts : List ℕ) (volume : Volume) → counts_asked given ≡ true
     → TellsBytes K old new (totals_text given (secret_lines secrets) counts volume) → Tells K (IsCountsLine given secrets) old new
 tells_counts K given old new secrets counts volume is told = tells_line K (IsCountsLine given secrets) old new (totals_text given (secret_lines secrets) counts volume) (is, (counts, volume, refl)) told
 
--- lines behind lines
-module _ {E : Type 0} (K : SinkGhosts E) (IsLine : List ℕ → Type 0) (old mid new : Errors E) (first : Tells K IsLine old mid) where
-  pub tells_both : Tells K IsLine mid new → Tells K IsLine old new
-  tells_both later = record {
-    told = first.told ++ later.told;
-    are_lines = All-append IsLine first.told later.told first.are_lines later.are_lines;
-    written = subst (TellsBytes K old new) (sym (concat_both first.told later.told)) (tells-later K first.written later.written);
-  }
-
-  pub some_behind : TellsSome K IsLine mid new → TellsSome K IsLine old new
-  some_behind later = behind first.told first.are_lines (tells-later K first.written later.written)
-    where
-      behind : (lines : List (List ℕ)) → All IsLine lines → TellsBytes K old new (concat lines ++ concat (later.first ∷ later.more)) → TellsSome K IsLine old new
-      behind [] are written = record { first = later.first; is_line = later.is_line; more = later.more; are_lines = later.are_lines; written = written }
-      behind (line ∷ lines) are written = record {
-        first = line;
-        is_line = All-head IsLine line lines are;
-        more = lines ++ (later.first ∷ later.more);
-        are_lines = All-append IsLine lines (later.first ∷ later.more) (All-tail IsLine line lines are) (All-cons IsLine later.first later.more later.is_line later.are_lines);
-        written = subst (TellsBytes K old new) (sym (concat_both (line ∷ lines) (later.first ∷ later.more))) written;
-      }
-
 -- a line more
 pub tells_last : {E : Type 0} (K : SinkGhosts E) (IsLine : List ℕ → Type 0) (old mid new : Errors E) (line : List ℕ) → Tells K IsLine old mid → IsLine line → TellsBytes K mid new line → TellsSome K IsLine old new
-tells_last K IsLine old mid new line before is told =
-    some_behind K IsLine old mid new before (record { first = line; is_line = is; more = []; are_lines = All-nil IsLine; written = subst (TellsBytes K mid new) (sym (append-nil line)) told })
-
--- lines behind one or more
-module _ {E : Type 0} (K : SinkGhosts E) (IsLine : List ℕ → Type 0) (old mid new : Errors E) where
-  pub some_then : TellsSome K IsLine old mid → Tells K IsLine mid new → TellsSome K IsLine old new
-  some_then some later = record {
-    first = some.first;
-    is_line = some.is_line;
-    more = some.more ++ later.told;
-    are_lines = All-append IsLine some.more later.told some.are_lines later.are_lines;
-    written = subst (TellsBytes K old new) (sym (concat_both (some.first ∷ some.more) later.told)) (tells-later K some.written later.written);
-  }
-
-module _ {E : Type 0} (K : SinkGhosts E) (Less More : List ℕ → Type 0) (old new : Errors E) (weaker : (line : List ℕ) → Less line → More line) where
-  pub some_weaker : TellsSome K Less old new → TellsSome K More old new
-  some_weaker some = record {
-    first = some.first;
-    is_line = weaker some.first some.is_line;
-    more = some.more;
-    are_lines = All-weaker Less More weaker some.more some.are_lines;
-    written = some.written;
-  }
-
-  pub some_all : TellsSome K Less old new → Tells K More old new
-  some_all some = record {
-    told = some.first ∷ some.more;
-    are_lines = All-cons More some.first some.more (weaker some.first some.is_line) (All-weaker Less More weaker some.more some.are_lines);
-    written = some.written;
-  }
+tells_last K IsLine old mid new line before is told = some_behind K IsLine old mid new before (some-one K IsLine mid new line is told)
 
 -- what is told may be told of more
-pub tells_weaker : {E : Type 0} (K : SinkGhosts E) (Less More : List ℕ → Type 0) (old new : Errors E) → ((line : List ℕ) → Less line → More line) → Tells K Less old new → Tells K More old new
-tells_weaker K Less More old new weaker tells = record { told = tells.told; are_lines = All-weaker Less More weaker tells.told tells.are_lines; written = tells.written }
+pub some_all : {E : Type 0} (K : SinkGhosts E) (Less More : List ℕ → Type 0) (old new : Errors E) → ((line : List ℕ) → Less line → More line) → TellsSome K Less old new → Tells K More old new
+some_all K Less More old new weaker some = tells_weaker K Less More old new weaker (some-tells K Less old new some)
 
 pub some_told : {E : Type 0} (K : SinkGhosts E) (IsLine : List ℕ → Type 0) (old new : Errors E) (lines : List (List ℕ)) → All IsLine lines → TellsBytes K old new (concat lines) → false ≡ are_none lines → TellsSome K IsLine old new
 some_told K IsLine old new [] are told none = absurd (cc)

@@ -1,17 +1,15 @@
 -- What comes of files, one after another.
-use Rattle.acredact.proofs.Common.{Bor, Errors, FromWrite, Keeps, Keeps-refl, Readers, Reason, SinkGhosts, StreamError, Streams, TellsBytes, Write, WriteZero, Writers, bytes_left, concat, counted, is_write_fault, is_write_of_nothing, name_bytes, output_bytes, take-length, tells-later, tells-nothing}
+use Rattle.acredact.proofs.Common.{Bor, Errors, FromWrite, Keeps, Keeps-refl, Readers, Reason, SinkGhosts, StreamError, Streams, TellsBytes, Write, WriteZero, Writers, bytes_left, concat, counted, is_write_fault, is_write_of_nothing, name_bytes, nil_from_length, output_bytes, tells-later, tells-nothing}
 use Rattle.std.proofs.Common.{◌≡◌, inl, inr, ℕ, ◌≤◌, ◌-◌, List, [], ◌∷◌, ◌++◌, Option, true, false, length, take, drop, get_or, refl, sym, ap, subst, ◌∙◌, append-nil, append_assoc, arith}
 use Rattle.std.specs.Prelude.{Bool, ◌&&◌, None, Some, Ok, Err}
 use Rattle.std.proofs.KnownBytes.{Keeps-trans}
 use Rattle.aho_devices.specs.Refusals.{IsWriteRefusal}
+use Rattle.tool_parts.proofs.Tellings.{parts-cut}
 use Rattle.acredact.specs.Faults.{IsOutputEnd}
 use Rattle.acredact.specs.Files.{AreCut, AreDone, AreRedacted, FileOutcome, FilesOutcome, ToldOutcome, Work, are_none, unread_line}
 use Rattle.acredact.specs.Messages.{output_line}
-
 -- the lines of two
-pub concat_both : (xs ys : List (List ℕ)) → concat (xs ++ ys) ≡ concat xs ++ concat ys
-concat_both [] ys = refl
-concat_both (x ∷ xs) ys = ap (λ l. x ++ l) (concat_both xs ys) ∙ sym (append_assoc x (concat xs) (concat ys))
+pub use Rattle.std.proofs.lemmas.List.Folds.{concat-append as concat_both}
 
 pub none_both : (xs ys : List (List ℕ)) (first second both : Bool) → first ≡ are_none xs → second ≡ are_none ys → both ≡ first && second → both ≡ are_none (xs ++ ys)
 none_both [] ys first second both is_first is_second is = is ∙ ap (λ (b : Bool). b && second) is_first ∙ is_second
@@ -214,12 +212,7 @@ module _ {R W E : Type 0} {Reads : Readers R} (Writes : Writers W) (K : SinkGhos
 
 -- the first of some names, and the others
 pub names_cut : (files : List (Bor (List ℕ))) (other : Bor (List ℕ)) → 1 ≤ length files → name_bytes files ≡ (get_or files 0 other).now ∷ name_bytes (take (length files - 1) (drop 1 files))
-names_cut [] other some = absurd (omega (arith, some))
-names_cut (name ∷ files) other some =
-    let count : length (name ∷ files) - 1 ≡ length files = omega arith in
-    let rest : take (length (name ∷ files) - 1) files ≡ files = ap (λ n. take n files) count ∙ take-length files in
-    ap (λ (l : List (Bor (List ℕ))). name.now ∷ name_bytes l) (sym rest)
+names_cut files other some = parts-cut files other (omega (arith, some))
 
 pub names_end : (files : List (Bor (List ℕ))) → length files ≡ 0 → name_bytes files ≡ []
-names_end [] none = refl
-names_end (name ∷ files) none = absurd (omega (arith, none))
+names_end files none = ap name_bytes (nil_from_length files none)

@@ -1,24 +1,24 @@
 -- What becomes of files that are replaced in place, one after another, and of a call that replaces them.
-use Rattle.acredact.proofs.Common.{All, All-cons, All-nil, CountsThese, Errors, Failure, Other, OutOfMemory, Readers, Rule, SinkGhosts, StreamError, Streams, Strict, Tells, TellsBytes, TellsSome, Volume, Writers, bytes_left, failure_of_stream, output_bytes}
-use Rattle.std.proofs.Common.{◌≡◌, inl, inr, ℕ, List, [], ◌∷◌, ◌++◌, Option, true, false, refl, sym, ap, subst, ◌∙◌, append-nil, arith}
+use Rattle.acredact.proofs.Common.{All, CountsThese, Errors, Failure, Other, OutOfMemory, Readers, Rule, SinkGhosts, StreamError, Streams, Strict, Tells, TellsBytes, TellsSome, Volume, Writers, bytes_left, failure_of_stream, output_bytes}
+use Rattle.std.proofs.Common.{◌≡◌, inl, inr, ℕ, List, [], ◌∷◌, Option, true, false, refl, sym, ap, subst, ◌∙◌, arith}
 use Rattle.std.specs.Prelude.{Bool, ◌&&◌, Result, Ok, Err, IfOk, OnOk, is_some, ◌⊎◌, MatchBool, IfErr}
+use Rattle.std.proofs.lemmas.List.Elements.{All-weaker}
 use Rattle.tool_parts.specs.Names.{IsOneOf}
 use Rattle.acredact.specs.Arguments.{counts_asked, has}
-use Rattle.acredact.specs.Calls.{Call, IsCountsFailure, IsCountsLine, MayFail, TellsCounts, WarnsLoaded, names_asked, reading_by, redactor_by_given, work_by}
+use Rattle.acredact.specs.Calls.{Call, IsCountsFailure, IsCountsLine, IsUnreadLine, MayFail, TellsCounts, WarnsLoaded, names_asked, reading_by, redactor_by_given, work_by}
 use Rattle.acredact.specs.Counts.{zeros}
 use Rattle.acredact.specs.Doubts.{TellsDoubts}
 use Rattle.acredact.specs.Failures.{IsFailureLine}
-use Rattle.acredact.specs.Files.{AreCut, AreRedacted, FilesOutcome, IsDone, Work, unread_line}
+use Rattle.acredact.specs.Files.{AreCut, AreRedacted, FilesOutcome, Work, unread_line}
 use Rattle.acredact.specs.InPlace.{AreInTurn, BeginInTurn, CalledPlaces, IsFreed, IsPlaceLine, IsPlaced, IsReplaced, IsSettled, IsSparedLine, IsSparedOf, KeepsCall, PlaceOutcome, PlacesOutcome, PlacesStatus, ReachesCall, TellsEnd}
 use Rattle.acredact.specs.Into.{TellsUnread}
 use Rattle.acredact.specs.Loading.{AreLoaded, Loaded, loaded_as}
-use Rattle.acredact.specs.Messages.{output_line}
 use Rattle.acredact.specs.Ready.{CannotPrepare}
 use Rattle.acredact.specs.Secrets.{AreCleanBy}
 use Rattle.acredact.specs.Summaries.{no_volume}
 use Rattle.acredact.specs.Tables.{secrets_of}
 use Rattle.acredact.specs.declared.outputs.Outputs.{Ghosts as Places}
-use Rattle.acredact.proofs.Calls.{loads_so, may_fail, none_are, some_all, some_behind, some_then, some_told, some_weaker, tells_both, tells_last, tells_same, tells_weaker}
+use Rattle.acredact.proofs.Calls.{loads_so, may_fail, none_are, some_all, some_behind, some_then, some_told, some_weaker, tells_both, tells_last, tells_same, tells_weaker, unread_of}
 use Rattle.acredact.proofs.Done.{both_so, cut_of, redacted_of}
 use Rattle.acredact.proofs.Free.{free_of}
 use Rattle.acredact.proofs.Metering.{VolumeSoFar, all_read, far_unread, far_volume}
@@ -34,18 +34,14 @@ all_redacted Writes K work result streams streams' files is =
     redacted_of work work.names lines _ _ _ _ (none_are lines (sym is_all)) done
 
 -- the lines that are told of one file say why it is spared
-module _ (work : Work) (name : List ℕ) where
-  done_spared : (lines : List (List ℕ)) (left left' held held' : Option (List ℕ)) → IsDone work name lines left left' held held' → All (IsSparedLine name) lines
-  done_spared lines left left' held held' (inl is) = subst (All (IsSparedLine name)) (sym is.0) (All-nil (IsSparedLine name))
-  done_spared lines left left' held held' (inr (inl is)) =
-      subst (All (IsSparedLine name)) (sym is.1) (All-cons (IsSparedLine name) (unread_line name is.0) [] (inl (is.0, refl)) (All-nil (IsSparedLine name)))
-  done_spared lines left left' held held' (inr (inr is)) =
-      subst (All (IsSparedLine name)) (sym is.0) (All-cons (IsSparedLine name) (output_line name) [] (inr (inl refl)) (All-nil (IsSparedLine name)))
+spared_one : (name line : List ℕ) → IsUnreadLine (name ∷ []) line → IsSparedLine name line
+spared_one name line (other, inl same, inl (reason, is)) = inl (reason, rw same at is)
+spared_one name line (other, inl same, inr is) = inr (inl (rw same at is))
+spared_one name line (other, inr none, why) = absurd none
 
-  cut_spared : (lines : List (List ℕ)) (left left' held held' : Option (List ℕ)) → AreCut work (name ∷ []) lines left left' held held' → All (IsSparedLine name) lines
-  cut_spared lines left left' held held' (inl cut) = subst (All (IsSparedLine name)) (sym cut.0) (All-nil (IsSparedLine name))
-  cut_spared lines left left' held held' (inr (first, rest, are, between, meanwhile, is, others)) =
-      subst (All (IsSparedLine name)) (sym (are ∙ ap (λ l. first ++ l) others.0 ∙ append-nil first)) (done_spared first left between held meanwhile is)
+cut_spared : (work : Work) (name : List ℕ) (lines : List (List ℕ)) (left left' held held' : Option (List ℕ)) → AreCut work (name ∷ []) lines left left' held held' → All (IsSparedLine name) lines
+cut_spared work name lines left left' held held' cut =
+    All-weaker (IsUnreadLine (name ∷ [])) (IsSparedLine name) (spared_one name) lines (unread_of work (name ∷ []) lines left left' held held' cut)
 
 -- what was told of one file, before it was settled whether the new one takes its place
 pub record ToldOfOne {E : Type 0} (K : SinkGhosts E) (name : List ℕ) (done : Result Bool StreamError) (old mid : Errors E) : Type 0 where

@@ -7,11 +7,9 @@ use Rattle.acredact.specs.Calls.{BeginsCall, Call, CallOutcome, IsLineOf, OfCall
 use Rattle.acredact.specs.Failures.{IsFailureLine}
 use Rattle.acredact.specs.Statuses.{CallStatus, IsIdle}
 use Rattle.acredact.specs.declared.options.Word.TheVariants.{Check, Help, Version}
-use Rattle.acredact.proofs.Calls.{tells_last, tells_same}
-
+use Rattle.acredact.proofs.Calls.{tells_last}
 -- a line alone
-pub tells_one : {E : Type 0} (K : SinkGhosts E) (IsLine : List ℕ → Type 0) (old new : Errors E) (line : List ℕ) → IsLine line → TellsBytes K old new line → TellsSome K IsLine old new
-tells_one K IsLine old new line is told = tells_last K IsLine old old new line (tells_same K IsLine old old refl) is told
+pub use Rattle.tool_parts.proofs.Lines.{some-one as tells_one}
 
 -- what a call does not ask for
 pub unruled : (given : List Given) → rules_asked given ≡ false → AsksForRules given → ⊥
