@@ -3,6 +3,7 @@ use Rattle.acredact.proofs.Common.{Bor, Errors, FromWrite, Keeps, Keeps-refl, Re
 use Rattle.std.proofs.Common.{◌≡◌, inl, inr, ℕ, ◌≤◌, ◌-◌, List, [], ◌∷◌, ◌++◌, Option, true, false, length, take, drop, get_or, refl, sym, ap, subst, ◌∙◌, append-nil, append_assoc, arith}
 use Rattle.std.specs.Prelude.{Bool, ◌&&◌, None, Some, Ok, Err}
 use Rattle.std.proofs.KnownBytes.{Keeps-trans}
+use Rattle.std.proofs.lemmas.Bool.{and_parts}
 use Rattle.aho_devices.specs.Refusals.{IsWriteRefusal}
 use Rattle.tool_parts.proofs.Tellings.{parts-cut}
 use Rattle.acredact.specs.Faults.{IsOutputEnd}
@@ -17,9 +18,7 @@ none_both (x ∷ xs) ys first second both is_first is_second is = is ∙ ap (λ 
 
 -- both are so
 pub both_so : (first second both : Bool) → both ≡ first && second → both ≡ true → (first ≡ true) × (second ≡ true)
-both_so true true both is so = (refl, refl)
-both_so true false both is so = let clash : false ≡ true = sym is ∙ so in absurd (cc)
-both_so false second both is so = let clash : false ≡ true = sym is ∙ so in absurd (cc)
+both_so first second both is so = and_parts first second (sym is ∙ so)
 
 some_none : (line : List ℕ) (rest : List (List ℕ)) → (line ∷ []) ++ rest ≡ [] → ⊥
 some_none line rest is = cc

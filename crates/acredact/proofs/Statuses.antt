@@ -2,6 +2,7 @@
 use Rattle.acredact.proofs.Common.{Errors, Failure, Readers, SinkGhosts, Streams, TellsBytes, TellsSome, Writers, bytes_left}
 use Rattle.std.proofs.Common.{◌≡◌, inl, inr, ℕ, ◌≤◌, List, true, false, refl, sym, ◌∙◌, arith}
 use Rattle.std.specs.Prelude.{Bool, ◌⊎◌, ◌&&◌, not, Ok, Err}
+use Rattle.std.proofs.lemmas.Bool.{and_parts}
 use Rattle.acredact.specs.Arguments.{AsksAnyCheck, AsksForRules, AsksForRulesCheck, AsksToRedact, Given, GivesNoPattern, any_check_asked, checks_asked, gives_rules, has, rules_asked, rules_check_asked}
 use Rattle.acredact.specs.Calls.{BeginsCall, Call, CallOutcome, IsLineOf, OfCall, OutputFails, TellsUpToEnd}
 use Rattle.acredact.specs.Failures.{IsFailureLine}
@@ -20,19 +21,13 @@ unruled_check given none asks = let clash : true ≡ false = rw (asks.check, ask
 
 -- either is a check
 pub check_is_any : (given : List Given) → checks_asked given ≡ true → any_check_asked given ≡ true
-check_is_any given is = by (any_check_asked given) (not (gives_rules given)) is
-  where
-    by : (first second : Bool) → (first && second) ≡ true → first ≡ true
-    by true second is = refl
-    by false second is = absurd (cc)
+check_is_any given is = (and_parts (any_check_asked given) (not (gives_rules given)) is).0
 
 pub rules_check_is_any : (given : List Given) → rules_check_asked given ≡ true → any_check_asked given ≡ true
-rules_check_is_any given is = by (has Check given) (gives_rules given) (not (has Help given)) (not (has Version given)) is
-  where
-    by : (check rules help version : Bool) → (check && rules && help && version) ≡ true → (check && help && version) ≡ true
-    by true true help version is = is
-    by true false help version is = absurd (cc)
-    by false rules help version is = absurd (cc)
+rules_check_is_any given is =
+    let (front, no_version) = and_parts (has Check given && gives_rules given && not (has Help given)) (not (has Version given)) is in
+    let (asked, no_help) = and_parts (has Check given && gives_rules given) (not (has Help given)) front in
+    rw ((and_parts (has Check given) (gives_rules given) asked).0, no_help, no_version) refl
 
 any_part : (check help version : Bool) → (check && not help && not version) ≡ true → (help ≡ false) × (version ≡ false) × (check ≡ true)
 any_part true false false is = (refl, refl, refl)
