@@ -323,7 +323,7 @@ module _ {O Z E : Type 0} (Writes : Writers Z) (K : SinkGhosts E) (U : Places O 
   places_zero outputs outputs' old new of =
       let all = of.all in
       record {
-        done = λ zero. of;
+        replaces = λ zero. of;
         keeps = keeps_of outputs outputs' (loads_so all.load all.between all.loaded (placed_all Writes U (work_by call all.load) (names_asked call.given) outputs outputs' all.is));
         tells = λ failed. absurd (failed refl);
         reaches = λ failed. absurd (failed refl);
@@ -333,7 +333,7 @@ module _ {O Z E : Type 0} (Writes : Writers Z) (K : SinkGhosts E) (U : Places O 
   places_two : (outputs outputs' : O) (old new : Errors E) → KeepsCall Writes U call left outputs outputs' → TellsSome K (IsPlaceLine call) old new
       → ReachesCall Writes U call left outputs outputs' ⊎ TellsEnd Writes K U call left outputs outputs' old new → PlacesStatus Writes K U call left 2 outputs outputs' old new
   places_two outputs outputs' old new keeps tells reaches = record {
-    done = λ (zero : 2 ≡ 0). absurd (omega arith);
+    replaces = λ (zero : 2 ≡ 0). absurd (omega arith);
     keeps = keeps;
     tells = λ failed. tells;
     reaches = λ failed. reaches;

@@ -2,7 +2,7 @@
 use Rattle.acredact.specs.Common.{Errors, FromWrite, Memory, OutOfMemory, Readers, Reason, SinkGhosts, StreamError, Tells, TellsBytes, TellsSome, Writers, bytes_left, is_input, output_bytes}
 use Rattle.std.specs.Prelude.{◌≡◌, ◌⊎◌, ℕ, Bool, true, false, List, [], ◌∷◌, Option, Result, Ok, Err}
 use Rattle.tool_parts.specs.Names.{IsOneOf}
-use Rattle.acredact.specs.Arguments.{Given, RefusesUnclean, all_given, counts_asked}
+use Rattle.acredact.specs.Arguments.{Given, all_given}
 use Rattle.acredact.specs.Calls.{Call, DoneCall, IsLineOf, LoadsCall, MayFail, WarnsAndCounts, WarnsLoaded, call_of, names_asked, reading_by, work_by}
 use Rattle.acredact.specs.Failures.{IsFailureLine}
 use Rattle.acredact.specs.Files.{AreFree, AreRedacted, Work, unread_line}
@@ -156,45 +156,21 @@ module _ {O Z E : Type 0} (Writes : Writers Z) (K : SinkGhosts E) (U : Places O 
     pub is_line : IsFailureLine failure line
     pub last : TellsBytes K meanwhile errors' line
 
-  -- what its exit status says: where it is 0, each file was replaced, and nothing is told but of pieces, and counts. Else something is told,
-  -- and each file was replaced or spared, but where the call ended
+  -- what its exit status says
   pub record PlacesStatus (status : ℕ) (outputs outputs' : O) (errors errors' : Errors E) : Type 0 where
-    pub done : status ≡ 0 → PlacesEach outputs outputs' errors errors'
+    -- where it is 0, each file was replaced, and nothing is told but of pieces, and counts
+    pub replaces : status ≡ 0 → PlacesEach outputs outputs' errors errors'
+    -- whatever it is, each file was replaced by its whole redaction, or is as it was
     pub keeps : KeepsCall Writes U call left outputs outputs'
+    -- else lines say why, and each file was come to, but where the call ended
     pub tells : (status ≡ 0 → ⊥) → TellsSome K (IsPlaceLine call) errors errors'
     pub reaches : (status ≡ 0 → ⊥) → ReachesCall Writes U call left outputs outputs' ⊎ TellsEnd outputs outputs' errors errors'
 
-module _ {F X O Z E R : Type 0} {Reads : Readers R} (Writes : Writers Z) (D : Folders F X) (U : Places O Z) (folder : F) where
-  -- what these options and files ask for is replaced, where the status is 0
-  abbrev pub PlacesAll : ℕ → Streams R Z E Reads → (outputs outputs' : O) → List Given → Type 0
-  PlacesAll status streams outputs outputs' given = status ≡ 0
-      → ReplacesCall Writes U (call_of D folder given) (bytes_left streams.input) outputs outputs'
-
-  -- and no pattern is left, where that is asked for
-  abbrev pub FreesAll : ℕ → Streams R Z E Reads → (outputs outputs' : O) → List Given → Type 0
-  FreesAll status streams outputs outputs' given =
-      RefusesUnclean given → status ≡ 0 → FreesCall Writes U (call_of D folder given) (bytes_left streams.input) outputs outputs'
-
-  -- or each is kept
-  abbrev pub KeepsEach : Streams R Z E Reads → (outputs outputs' : O) → List Given → Type 0
-  KeepsEach streams outputs outputs' given = KeepsCall Writes U (call_of D folder given) (bytes_left streams.input) outputs outputs'
-
-module _ {F X Z E R : Type 0} {Reads : Readers R} (K : SinkGhosts E) (D : Folders F X) (folder : F) (status : ℕ) (streams streams' : Streams R Z E Reads) (given : List Given) where
-  -- of files that were replaced the counts that are asked for are told
-  abbrev pub PlacesCount : Type 0
-  PlacesCount = counts_asked given ≡ true → status ≡ 0
-      → CountsPlaces K (call_of D folder given) (bytes_left streams.input) streams.errors streams'.errors
-
-  -- of others something is told
-  abbrev pub PlacesTell : Type 0
-  PlacesTell = (status ≡ 0 → ⊥) → TellsSome K (IsPlaceLine (call_of D folder given)) streams.errors streams'.errors
-
 module _ {F X O Z E R : Type 0} {Reads : Readers R} (Writes : Writers Z) (K : SinkGhosts E) (D : Folders F X) (U : Places O Z) (folder : F) where
-  -- each file was come to then, or it is told why the call ended
-  abbrev pub PlacesReach : ℕ → (outputs outputs' : O) → (streams streams' : Streams R Z E Reads) → List Given → Type 0
-  PlacesReach status outputs outputs' streams streams' given = (status ≡ 0 → ⊥)
-      → ReachesCall Writes U (call_of D folder given) (bytes_left streams.input) outputs outputs'
-      ⊎ TellsEnd Writes K U (call_of D folder given) (bytes_left streams.input) outputs outputs' streams.errors streams'.errors
+  -- what the status says of the call that asks for this
+  abbrev pub PlacesAsked : ℕ → (outputs outputs' : O) → (streams streams' : Streams R Z E Reads) → List Given → Type 0
+  PlacesAsked status outputs outputs' streams streams' given =
+      PlacesStatus Writes K U (call_of D folder given) (bytes_left streams.input) status outputs outputs' streams.errors streams'.errors
 
   -- what comes of a call whose patterns and key were loaded, behind what is told of them
   abbrev pub ReadyPlaces : List Item → Loaded → Result Bool Failure

@@ -1,8 +1,8 @@
 -- What becomes of a file that is named for the output: a new one is filled, and takes its place where all was done.
 use Rattle.acredact.specs.Common.{Errors, FromWrite, Readers, Reason, SinkGhosts, TellsBytes, TellsSome, Writers, is_input, output_bytes}
 use Rattle.std.specs.Prelude.{◌≡◌, ◌⊎◌, ℕ, List, [], IfSome, Option, false, true}
-use Rattle.acredact.specs.Arguments.{Given, counts_asked}
-use Rattle.acredact.specs.Calls.{IsLineOf, OutputFails, RedactsWhole, WarnsAsked, call_of}
+use Rattle.acredact.specs.Arguments.{Given}
+use Rattle.acredact.specs.Calls.{IsLineOf, OutputFails, RedactsWhole, call_of}
 use Rattle.acredact.specs.Files.{unread_line}
 use Rattle.acredact.specs.Messages.{no_output_line}
 use Rattle.acredact.specs.Ruled.{IsRuledTold, NotesAsked, RuledAsked}
@@ -81,11 +81,6 @@ module _ {R Z E F X O : Type 0} {Reads : Readers R} (Writes : Writers Z) (K : Si
   -- and the other where it is not
   abbrev pub TellsNone : Type 0
   TellsNone = (status ≡ 0 → ⊥) → TellsNew Writes K D U folder name outputs outputs' streams streams' given
-
--- where the status is 0, and no counts are asked for, nothing is told but the pieces that are not clean
-abbrev pub WarnsAll : {R Z E F X : Type 0} {Reads : Readers R} → SinkGhosts E
-    → Folders F X → F → ℕ → (streams streams' : Streams R Z E Reads) → List Given → Type 0
-WarnsAll K D folder status streams streams' given = counts_asked given ≡ false → status ≡ 0 → WarnsAsked K D folder given streams streams'
 
 -- what is told of a call with rules where no new file takes the place, whether one was made or not
 abbrev pub RuledTellsUnput : {R W E F X : Type 0} {Reads : Readers R} → SinkGhosts E → Folders F X

@@ -8,8 +8,8 @@ ghost use Rattle.tool_parts.specs.Telling.{TellsSome};
 ghost use Rattle.acredact.specs.Arguments.{AreMistaken, IfAsked, all_given};
 ghost use Rattle.acredact.specs.Calls.{IsWrongLine, call_of};
 ghost use Rattle.acredact.specs.Files.{CanDo, redactor_of, work_of};
-ghost use Rattle.acredact.specs.InPlace.{CalledPlaces, FreesAll, IsSettled, KeepsEach, PlaceOutcome, PlacesAll, PlacesCount, PlacesOutcome, PlacesReach, PlacesStatus, PlacesTell, ReadyPlaces};
-ghost use Rattle.acredact.specs.Into.{TellsUnread, WarnsAll};
+ghost use Rattle.acredact.specs.InPlace.{CalledPlaces, IsSettled, PlaceOutcome, PlacesAsked, PlacesOutcome, PlacesStatus, ReadyPlaces};
+ghost use Rattle.acredact.specs.Into.{TellsUnread};
 ghost use Rattle.acredact.specs.Loading.{AreSome, loaded_in};
 ghost use Rattle.acredact.specs.Ready.{IsReadyBy};
 
@@ -46,27 +46,12 @@ pub fn replace_in_place<F: Folder, O: Outputs, I: Read, E: Sink>(
     ensures tells_wrong { AreMistaken arguments.now → TellsSome E.Sink
         (IsWrongLine (texts arguments.now)) streams.old.errors streams.new.errors }
 
-    // Where the status is 0, each file was redacted into a new one, which was flushed and took its place.
-    ensures replaces { IfAsked arguments.now (PlacesAll O.File.Write F.Folder O.Outputs
-        folder.now result streams.old outputs.old outputs.new) }
-
-    // Whatever it is, each file was replaced by its whole redaction, or is as it was.
-    ensures keeps { IfAsked arguments.now (KeepsEach O.File.Write F.Folder O.Outputs
-        folder.now streams.old outputs.old outputs.new) }
-
-    // Where pieces that are not clean are refused, no pattern occurs in a file.
-    ensures strict { IfAsked arguments.now (FreesAll O.File.Write F.Folder O.Outputs
-        folder.now result streams.old outputs.old outputs.new) }
-
-    // Where all were replaced nothing is told but a piece of a cover that is not clean, and the counts that are asked for.
-    ensures quiet { IfAsked arguments.now (WarnsAll E.Sink F.Folder folder.now result streams.old streams.new) }
-    ensures counts { IfAsked arguments.now (PlacesCount E.Sink F.Folder folder.now result streams.old streams.new) }
-
-    // Else lines say why, and hold nothing of a file's content or of a pattern.
-    ensures tells { IfAsked arguments.now (PlacesTell E.Sink F.Folder folder.now result streams.old streams.new) }
-
-    // Each file was come to then, but where a failure ended the call before the first, or memory ran out.
-    ensures reaches { IfAsked arguments.now (PlacesReach O.File.Write E.Sink F.Folder O.Outputs
+    // Where the status is 0, each file was redacted into a new one, which was flushed and took its place, and where pieces that are not
+    // clean are refused, no pattern occurs in one. Nothing is told but a piece of a cover that is not clean, and the counts that are
+    // asked for. Else lines say why, and hold nothing of a file's content or of a pattern. Each file was come to then, but where a
+    // failure ended the call before the first, or memory ran out. Whatever the status is, each file was replaced by its whole
+    // redaction, or is as it was.
+    ensures says { IfAsked arguments.now (PlacesAsked O.File.Write E.Sink F.Folder O.Outputs
         folder.now result outputs.old outputs.new streams.old streams.new) }
     ensures bound { result ≤ 2 }
 {
