@@ -45,7 +45,7 @@ module _ {R W E : Type 0} {Reads : Readers R} (Writes : Writers W) (K : SinkGhos
       by : (b : Bool) → counts_asked call.given ≡ b → Tells K (IsLineOf call fails) old.errors new.errors
       by false none = let warned = quiet none in tell warned.load warned.between warned.loaded old.errors new.errors warned.is
       by true some =
-          let (redacted, mid, warned, (ranges, found, volume, read, totals)) = (counts some).is in
+          let (redacted, (mid, warned, (ranges, found, volume, read, totals))) = (counts some).is in
           let load = (counts some).load in
           tells_both K (IsLineOf call fails) old.errors mid new.errors (tell load (counts some).between (counts some).loaded old.errors mid warned)
           (tells_weaker K (IsCountsLine call.given load.secrets) (IsLineOf call fails) mid new.errors (λ line is. inr (inr (inl (load, bytes_left old.input, (counts some).between, (counts some).loaded, is))))

@@ -51,7 +51,7 @@ doubts_tell K IsLine false given secrets old new may doubts = record { told = al
 module _ {E : Type 0} (K : SinkGhosts E) (call : Call) (IsLine : List ℕ → Type 0) (may : (line : List ℕ) → IsWarningLine call line → IsLine line)
     (load : Loaded) (left between : Option (List ℕ)) (loaded : AreLoaded (reading_by call) call.given load left between) where
   doubts_may : (strict : Bool) → has Strict call.given ≡ strict → (old new : Errors E) → TellsDoubts K strict call.given load.secrets old new → Tells K IsLine old new
-  doubts_may strict is old new doubts = doubts_tell K IsLine strict call.given load.secrets old new (λ lax line member. may line (is ∙ lax, load, left, between, loaded, inl member)) doubts
+  doubts_may strict is old new doubts = doubts_tell K IsLine strict call.given load.secrets old new (λ lax line member. may line (is ∙ lax, (load, left, between, loaded, inl member))) doubts
 
   pub unready_may : (old new : Errors E) → (new ≡ old) ⊎ TellsDoubts K (has Strict call.given) call.given load.secrets old new → Tells K IsLine old new
   unready_may old new (inl same) = tells_same K IsLine old new same
@@ -61,7 +61,7 @@ module _ {E : Type 0} (K : SinkGhosts E) (call : Call) (IsLine : List ℕ → Ty
   pieces_may : (old new : Errors E) → TellsOfPieces K (has Strict call.given) (redactor_by_given call.given load) old new → Tells K IsLine old new
   pieces_may old new (None, judged, same) = tells_same K IsLine old new same
   pieces_may old new (Some unclean, judged, (lax, told)) =
-      tells_line K IsLine old new (unclean_line unclean) (may (unclean_line unclean) (lax, load, left, between, loaded, inr (unclean, judged.0, judged.1, refl))) told
+      tells_line K IsLine old new (unclean_line unclean) (may (unclean_line unclean) (lax, (load, left, between, loaded, inr (unclean, judged.0, judged.1, refl)))) told
 
   -- one after the other
   pub warnings_may : (old new : Errors E) → WarnsLoaded K call load old new → Tells K IsLine old new

@@ -14,7 +14,7 @@ returns-then-usual g c =
     let usual : c.args.usual ≡ true = search rules in
     record { flaw = λ p of are. rw is at (c.requires.usual p of are usual) }
 
-pub returns-in-None : goal.returns-in-None
-returns-in-None g c =
+pub returns-else-usual : goal.returns-else-usual
+returns-else-usual g c =
     let is : c.args.judge.now.usual.now ≡ piece_by c.args.judge.now.usual.now (secret_of c.args.rule.now) = search rules in
     record { flaw = λ p of are. rw is at (c.flaw_of-in-None.ensures.flaw p of are) }

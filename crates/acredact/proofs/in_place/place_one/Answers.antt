@@ -1,5 +1,5 @@
 -- A new file is made, filled, and takes the place; or the file stays as it was.
-use Rattle.acredact.proofs.Common.{is_input}
+use Rattle.acredact.proofs.Common.{bytes_left, is_input}
 use Rattle.std.proofs.Common.{rules, ◌≡◌, inl, inr, refl, true, false}
 use Rattle.acredact.specs.Files.{redactor_of, work_of}
 use Rattle.acredact.specs.InPlace.{IsSparedLine}
@@ -43,8 +43,8 @@ returns-in-Ok g c =
                 flushed = rw all at does.flushed;
                 puts = puts;
               },
-              _,
-              _,
+              bytes_left c.args.streams.now.input,
+              bytes_left run.new.streams.input,
               all_redacted g.O.File.Write g.E.Sink _ run.result _ _ files all,
             ),
             files.quiet all,
