@@ -3,7 +3,7 @@ use Rattle.acredact.proofs.Common.{Errors, Failure, Readers, SinkGhosts, Streams
 use Rattle.std.proofs.Common.{◌≡◌, inl, inr, ℕ, ◌≤◌, List, true, false, refl, sym, ◌∙◌, arith}
 use Rattle.std.specs.Prelude.{Bool, ◌⊎◌, ◌&&◌, not, Ok, Err}
 use Rattle.std.proofs.lemmas.Bool.{and_parts}
-use Rattle.acredact.specs.Arguments.{AsksAnyCheck, AsksForRules, AsksForRulesCheck, AsksToRedact, Given, GivesNoPattern, any_check_asked, checks_asked, gives_rules, has, rules_asked, rules_check_asked}
+use Rattle.acredact.specs.Arguments.{AsksAnyCheck, AsksForRules, AsksForRulesCheck, Given, GivesNoPattern, any_check_asked, checks_asked, gives_rules, has, rules_asked, rules_check_asked}
 use Rattle.acredact.specs.Calls.{BeginsCall, Call, CallOutcome, IsLineOf, OfCall, OutputFails, TellsUpToEnd}
 use Rattle.acredact.specs.Failures.{IsFailureLine}
 use Rattle.acredact.specs.Statuses.{CallStatus, IsIdle}
@@ -35,15 +35,10 @@ any_part true false true is = absurd (cc)
 any_part true true version is = absurd (cc)
 any_part false help version is = absurd (cc)
 
--- a redaction is none
-pub any_redaction : (given : List Given) → AsksAnyCheck given → AsksToRedact given → ⊥
-any_redaction given (inl checks) asks = let clash : true ≡ false = sym checks.check ∙ asks.no_check in cc
-any_redaction given (inr checks) asks = let clash : true ≡ false = sym checks.check ∙ asks.no_check in cc
-
--- nor is a redaction by rules
-pub any_ruled : (given : List Given) → AsksAnyCheck given → AsksForRules given → ⊥
-any_ruled given (inl checks) asks = let clash : true ≡ false = sym checks.check ∙ asks.no_check in cc
-any_ruled given (inr checks) asks = let clash : true ≡ false = sym checks.check ∙ asks.no_check in cc
+-- what is no check is none of either kind
+pub checks_not : (given : List Given) → AsksAnyCheck given → has Check given ≡ false → ⊥
+checks_not given (inl checks) none = let clash : true ≡ false = sym checks.check ∙ none in cc
+checks_not given (inr checks) none = let clash : true ≡ false = sym checks.check ∙ none in cc
 
 -- a call checks or does not
 by_checks : {P : Type 0} (given : List Given) → (AsksAnyCheck given → P) → (any_check_asked given ≡ false → P) → P
