@@ -1,13 +1,14 @@
 -- What is told where a new file does not take a place.
 use Rattle.acredact.proofs.Common.{Errors, Readers, Reason, SinkGhosts, Streams, Tells, TellsBytes, TellsSome, Writers, bytes_left}
-use Rattle.std.proofs.Common.{◌≡◌, inl, inr, ℕ, zero, suc, List, Option, refl, subst, true, false, arith, ◌≤◌}
+use Rattle.std.proofs.Common.{◌≡◌, inl, inr, ℕ, zero, suc, List, Option, refl, sym, ◌∙◌, subst, true, false, arith, ◌≤◌}
 use Rattle.std.specs.Prelude.{Bool, Some}
 use Rattle.acredact.specs.Sums.{sums_of}
-use Rattle.acredact.specs.Arguments.{AsksAnyCheck, Given, all_asked, counts_asked}
+use Rattle.acredact.specs.Arguments.{AsksAnyCheck, Given, all_asked, counts_asked, has}
 use Rattle.acredact.specs.Calls.{Call, CountsCall, IsCountsLine, IsLineOf, WarnsCall, WarnsLoaded, reading_by}
 use Rattle.acredact.specs.Files.{unread_line}
 use Rattle.acredact.specs.Into.{IsOutputLine}
 use Rattle.acredact.specs.Loading.{AreLoaded, Loaded}
+use Rattle.acredact.specs.declared.options.Word.TheVariants.{Check}
 use Rattle.acredact.proofs.Calls.{some_weaker, tells_both, tells_counts, tells_last, tells_weaker}
 use Rattle.acredact.proofs.Given.{same_given}
 use Rattle.acredact.proofs.Warned.{warnings_may}
@@ -18,10 +19,14 @@ two_of zero bound one none = absurd (none refl)
 two_of (suc zero) bound one none = absurd (one refl)
 two_of (suc (suc status)) bound one none = omega (arith, bound)
 
--- what is no check is not one
-pub no_check_of : (arguments : List (List ℕ)) (given : List Given) → all_asked arguments ≡ Some given → (AsksAnyCheck given → ⊥)
+-- what is no check is none of either kind
+checks_not : (given : List Given) → AsksAnyCheck given → has Check given ≡ false → ⊥
+checks_not given (inl checks) none = let clash : true ≡ false = sym checks.check ∙ none in cc
+checks_not given (inr checks) none = let clash : true ≡ false = sym checks.check ∙ none in cc
+
+pub no_check_of : (arguments : List (List ℕ)) (given : List Given) → all_asked arguments ≡ Some given → has Check given ≡ false
     → ((items : List Given) × (all_asked arguments ≡ Some items) × AsksAnyCheck items) → ⊥
-no_check_of arguments given right none (items, mine, checks) = none (subst AsksAnyCheck (same_given (all_asked arguments) given items right mine) checks)
+no_check_of arguments given right none (items, mine, checks) = checks_not given (subst AsksAnyCheck (same_given (all_asked arguments) given items right mine) checks) none
 
 module _ {E : Type 0} (K : SinkGhosts E) (IsTold : List ℕ → Type 0) (name : List ℕ) where
   -- what `run` tells of a failure

@@ -1,6 +1,6 @@
 -- What the exit status says, by what is answered.
 use Rattle.acredact.proofs.Common.{Errors, Failure, Readers, SinkGhosts, Streams, TellsBytes, TellsSome, Writers, bytes_left}
-use Rattle.std.proofs.Common.{◌≡◌, inl, inr, ℕ, ◌≤◌, List, true, false, refl, sym, ◌∙◌, arith}
+use Rattle.std.proofs.Common.{◌≡◌, inl, inr, ℕ, ◌≤◌, List, true, false, refl, arith}
 use Rattle.std.specs.Prelude.{Bool, ◌⊎◌, ◌&&◌, not, Ok, Err}
 use Rattle.std.proofs.lemmas.Bool.{and_parts}
 use Rattle.acredact.specs.Arguments.{AsksAnyCheck, AsksForRules, AsksForRulesCheck, Given, GivesNoPattern, any_check_asked, checks_asked, gives_rules, has, rules_asked, rules_check_asked}
@@ -34,11 +34,6 @@ any_part true false false is = (refl, refl, refl)
 any_part true false true is = absurd (cc)
 any_part true true version is = absurd (cc)
 any_part false help version is = absurd (cc)
-
--- what is no check is none of either kind
-pub checks_not : (given : List Given) → AsksAnyCheck given → has Check given ≡ false → ⊥
-checks_not given (inl checks) none = let clash : true ≡ false = sym checks.check ∙ none in cc
-checks_not given (inr checks) none = let clash : true ≡ false = sym checks.check ∙ none in cc
 
 -- a call checks or does not
 by_checks : {P : Type 0} (given : List Given) → (AsksAnyCheck given → P) → (any_check_asked given ≡ false → P) → P

@@ -7,7 +7,7 @@ use Rattle.acredact.specs.Into.{IsOutputLine, TakesPlace}
 use Rattle.acredact.specs.Ruled.{IsRuledTold}
 use Rattle.acredact.proofs.Put.{done_told, no_check_of, put_told, some_told, two_of}
 use Rattle.acredact.proofs.RuledCalls.{notes_told}
-use Rattle.acredact.proofs.Statuses.{checks_not, tells_one}
+use Rattle.acredact.proofs.Statuses.{tells_one}
 use Rattle.acredact.proofs.into.make_and_run.Goals as goal
 
 pub returns-then-is_input : goal.returns-then-is_input
@@ -33,11 +33,11 @@ returns-then-done-ne0 g c =
       writes = λ given right asks zero. absurd (some zero);
       leaves = λ failed. inr (inr (record { held = _; meanwhile = c.make.new.self; made = c.in-Ok.ensures.made; kept = inl c.remove.ensures.removed }));
       tells = λ given right asks failed.
-          let two = two_of c.run-done.result ran.bound (λ is. no_check_of (texts c.args.arguments.now) given right (λ checks. checks_not given checks asks.no_check) (ran.one is)) some in
+          let two = two_of c.run-done.result ran.bound (λ is. no_check_of (texts c.args.arguments.now) given right asks.no_check (ran.one is)) some in
           inr (c.new.result, c.make.new.self, rw c.new.ensures.writer c.in-Ok.ensures.made, some_told g.E.Sink (IsLineOf (call_of g.F.Folder c.args.folder.now given) _) c.args.name.now _ _ (ran.tells given right asks two));
       ruled_writes = λ given right asks zero. absurd (some zero);
       ruled_tells = λ given right asks failed.
-          let two = two_of c.run-done.result ran.bound (λ is. no_check_of (texts c.args.arguments.now) given right (λ checks. checks_not given checks asks.no_check) (ran.one is)) some in
+          let two = two_of c.run-done.result ran.bound (λ is. no_check_of (texts c.args.arguments.now) given right asks.no_check (ran.one is)) some in
           some_told g.E.Sink (IsRuledTold (call_of g.F.Folder c.args.folder.now given)) c.args.name.now _ _ (ran.ruled_tells given right asks two);
     }
 
@@ -58,7 +58,7 @@ returns-then-put_new g c =
     } in
     record {
       writes = λ given right asks is. (
-        new (no_check_of _ given right (λ checks. checks_not given checks asks.no_check)),
+        new (no_check_of _ given right asks.no_check),
         rw same (record {
           all = ran.redacts given right asks zero;
           strict = λ refuses. ran.strict given right asks refuses zero;
@@ -69,7 +69,7 @@ returns-then-put_new g c =
       leaves = λ failed. absurd (failed refl);
       tells = λ given right asks failed. absurd (failed refl);
       ruled_writes = λ given right asks is. (
-        new (no_check_of _ given right (λ checks. checks_not given checks asks.no_check)),
+        new (no_check_of _ given right asks.no_check),
         rw same (ran.ruled given right asks zero, ran.ruled_quiet given right asks zero),
       );
       ruled_tells = λ given right asks failed. absurd (failed refl);
