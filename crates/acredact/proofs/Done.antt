@@ -87,10 +87,8 @@ module _ {R W E : Type 0} {Reads : Readers R} (Writes : Writers W) (K : SinkGhos
         is_all = none_both so.lines first all whole both so.is_all is_whole is;
         told = subst (TellsBytes K old.errors new.errors) (sym (concat_both so.lines first)) (tells-later K so.told tells);
         quiet = λ ends. let parts = both_so all whole both is ends in told.quiet (ap Ok parts.1) ∙ so.quiet parts.0;
-        done = λ more left held rests. subst (λ (l : List (List ℕ)). AreDone work names l (bytes_left old.input) left (output_bytes Writes old.output) held) (sym (append_assoc so.lines first more))
-            (so.done (first ++ more) left held (first, more, refl, bytes_left new.input, output_bytes Writes new.output, done, rests));
-        cut = λ more left held rests. subst (λ (l : List (List ℕ)). AreCut work names l (bytes_left old.input) left (output_bytes Writes old.output) held) (sym (append_assoc so.lines first more))
-            (so.cut (first ++ more) left held (inr (first, more, refl, bytes_left new.input, output_bytes Writes new.output, done, rests)));
+        done = λ more left held rests. rw (append_assoc so.lines first more) (so.done (first ++ more) left held (first, more, refl, bytes_left new.input, output_bytes Writes new.output, done, rests));
+        cut = λ more left held rests. rw (append_assoc so.lines first more) (so.cut (first ++ more) left held (inr (first, more, refl, bytes_left new.input, output_bytes Writes new.output, done, rests)));
         failures = told.fails.write_failed ∙ so.failures;
         empty_writes = told.fails.took_nothing ∙ so.empty_writes;
       }
@@ -99,9 +97,7 @@ module _ {R W E : Type 0} {Reads : Readers R} (Writes : Writers W) (K : SinkGhos
   pub far_all : (behind : List (List ℕ)) (all : Bool) (old new : Streams R W E Reads) → SoFar work.names behind all old new → behind ≡ [] → FilesOutcome Writes K work (Ok all) old new
   far_all behind all old new far none =
       let so = subst (λ (l : List (List ℕ)). SoFar work.names l all old new) none far in
-      let done : AreDone work work.names so.lines (bytes_left old.input) (bytes_left new.input) (output_bytes Writes old.output) (output_bytes Writes new.output) =
-      subst (λ (l : List (List ℕ)). AreDone work work.names l (bytes_left old.input) (bytes_left new.input) (output_bytes Writes old.output) (output_bytes Writes new.output)) (append-nil so.lines)
-      (so.done [] _ _ (refl, refl, Keeps-refl (output_bytes Writes new.output))) in
+      let done = rw (append-nil so.lines) at (so.done [] (bytes_left new.input) (output_bytes Writes new.output) (refl, refl, Keeps-refl (output_bytes Writes new.output))) in
       record {
         done = (so.lines, so.is_all, (done, so.told));
         cut = tt;
@@ -114,9 +110,7 @@ module _ {R W E : Type 0} {Reads : Readers R} (Writes : Writers W) (K : SinkGhos
       → behind ≡ name ∷ rest → ToldOutcome Writes K work name (Err error) mid new → FilesOutcome Writes K work (Err error) old new
   far_fails behind rest name all error old mid new far front told =
       let so = subst (λ (l : List (List ℕ)). SoFar work.names l all old mid) front far in
-      let cut : AreCut work work.names so.lines (bytes_left old.input) (bytes_left new.input) (output_bytes Writes old.output) (output_bytes Writes new.output) =
-      subst (λ (l : List (List ℕ)). AreCut work work.names l (bytes_left old.input) (bytes_left new.input) (output_bytes Writes old.output) (output_bytes Writes new.output)) (append-nil so.lines)
-      (so.cut [] _ _ (inl (refl, told.cut.0))) in
+      let cut = rw (append-nil so.lines) at (so.cut [] (bytes_left new.input) (output_bytes Writes new.output) (inl (refl, told.cut.0))) in
       record {
         done = tt;
         cut = (so.lines, (cut, subst (λ (e : Errors E). TellsBytes K old.errors e (concat so.lines)) (sym told.untold) so.told));

@@ -31,10 +31,7 @@ judged_by p false ignore_case key pieces (Some unclean) (clash, judged) = absurd
 pub judged_as : {Z : Type 0} (p : Patterns) (covers covers' named ignore_case : Bool) (key : Option (Vec ℕ Z)) (pieces pieces' : List (List ℕ)) (answer : Option Unclean) → covers' ≡ covers → named ≡ is_some key → pieces' ≡ pieces
     → IsJudgedBy p covers' named pieces' answer → IsJudgedBy p covers (is_some (key_of_cover covers (option_map (keyed_as ignore_case) (key_in key)))) pieces answer
 judged_as p covers covers' named ignore_case key pieces pieces' answer by is same judged =
-    judged_by p covers ignore_case key pieces answer
-    (subst (λ (b : Bool). IsJudgedBy p b (is_some key) pieces answer) by
-    (subst (λ (b : Bool). IsJudgedBy p covers' b pieces answer) is
-    (subst (λ (l : List (List ℕ)). IsJudgedBy p covers' named l answer) same judged)))
+    judged_by p covers ignore_case key pieces answer (rw (by, is, same) at judged)
 
 -- what holds of each member holds of all
 pub all_members : (Is : List ℕ → Type 0) (lines : List (List ℕ)) → ((line : List ℕ) → IsMember lines line → Is line) → All Is lines
