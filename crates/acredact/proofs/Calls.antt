@@ -1,11 +1,12 @@
 -- What comes of a call, by what comes of its files.
-use Rattle.acredact.proofs.Common.{All, All-append, All-cons, All-head, All-nil, All-tail, Errors, Failure, Folders, FromWrite, Memory, Other, OutOfMemory, PositionLimit, Read, Readers, Rule, SinkGhosts, StreamError, Streams, Tells, TellsBytes, TellsSome, Volume, Write, WriteZero, Writers, bytes_left, concat, failure_of_stream, output_bytes, tells-later, tells-nothing}
-use Rattle.std.proofs.Common.{◌≡◌, inl, inr, ℕ, List, [], ◌∷◌, ◌++◌, Option, true, false, refl, sym, ap, subst, ◌∙◌, append-nil}
-use Rattle.std.specs.Prelude.{◌⊎◌, Bool, MatchBool, Result, Ok, Err, IfErr, IfOk, OnOk}
+use Rattle.acredact.proofs.Common.{All, All-append, All-cons, All-head, All-nil, All-tail, Errors, Failure, Folders, FromWrite, Memory, Other, OutOfMemory, PositionLimit, Read, Readers, Rule, SinkGhosts, StreamError, Streams, Tells, TellsBytes, TellsSome, Volume, Write, WriteZero, Writers, bytes_left, concat, failure_of_stream}
+use Rattle.std.proofs.Common.{◌≡◌, inl, inr, ℕ, List, [], ◌∷◌, Option, true, false, refl, sym, ap, subst, ◌∙◌}
+use Rattle.std.specs.Prelude.{Bool, MatchBool, Result, Ok, Err, IfErr, IfOk, OnOk}
 use Rattle.std.proofs.lemmas.List.Elements.{All-weaker}
 use Rattle.aho_core.specs.declared.error.stream.StreamError.TheVariants.{Match}
+use Rattle.tool_parts.proofs.Lines.{some-one, some-tells, tells-none}
 use Rattle.acredact.specs.Arguments.{Given, counts_asked}
-use Rattle.acredact.specs.Calls.{AreBounded, Call, CallOutcome, CannotLoadCall, IsCountsFailure, IsCountsLine, IsLineOf, IsRunFailure, IsUnreadLine, IsWordLine, MayFail, OutputFails, RestOutcome, TellsCounts, TellsNumbers, call_of, names_asked, reading_by, work_by}
+use Rattle.acredact.specs.Calls.{AreBounded, Call, CallOutcome, CalledAs, CannotLoadCall, IsCountsFailure, IsCountsLine, IsLineOf, IsRunFailure, IsUnreadLine, IsWordLine, LoadsCall, MayFail, OutputFails, RestDone, RestOutcome, TellsCounts, call_of, names_asked, reading_by, work_by}
 use Rattle.acredact.specs.Builds.{patterns_by_given}
 use Rattle.acredact.specs.Counts.{secret_lines, zeros}
 use Rattle.acredact.specs.Files.{AreCut, Does, FilesOutcome, IsDone, Work, are_none, redactor_of, unread_line, work_of}
@@ -18,8 +19,10 @@ use Rattle.acredact.specs.Tables.{Secret, patterns_in, secrets_of}
 use Rattle.acredact.specs.Totals.{CountsOfNames}
 use Rattle.acredact.specs.Volumes.{ReadsVolume}
 use Rattle.acredact.specs.declared.files.Job.{Job}
-use Rattle.acredact.proofs.Done.{concat_both, cut_of, redacted_of}
+use Rattle.acredact.proofs.Done.{cut_of, redacted_of}
 use Rattle.acredact.proofs.Totals.{totals_told}
+-- lines behind lines, and lines that may be told of more
+pub use Rattle.tool_parts.proofs.Lines.{some-then as some_then, some-weaker as some_weaker, tells-then as tells_both, tells-weaker as tells_weaker, then-some as some_behind}
 
 -- no line is one
 pub none_are : (lines : List (List ℕ)) → are_none lines ≡ true → lines ≡ []
@@ -38,7 +41,7 @@ module _ (work : Work) where
   unread_one name names lines left left' held held' (inr (inr is)) =
       subst (All (IsUnreadLine (name ∷ names))) (sym is.0) (All-cons (IsUnreadLine (name ∷ names)) (output_line name) [] (name, inl refl, inr refl) (All-nil (IsUnreadLine (name ∷ names))))
 
-  unread_of : (names lines : List (List ℕ)) (left left' held held' : Option (List ℕ)) → AreCut work names lines left left' held held' → All (IsUnreadLine names) lines
+  pub unread_of : (names lines : List (List ℕ)) (left left' held held' : Option (List ℕ)) → AreCut work names lines left left' held held' → All (IsUnreadLine names) lines
   unread_of [] lines left left' held held' cut = subst (All (IsUnreadLine [])) (sym cut.0) (All-nil (IsUnreadLine []))
   unread_of (name ∷ names) lines left left' held held' (inl cut) = subst (All (IsUnreadLine (name ∷ names))) (sym cut.0) (All-nil (IsUnreadLine (name ∷ names)))
   unread_of (name ∷ names) lines left left' held held' (inr (first, rest, are, between, meanwhile, is, others)) =
@@ -47,79 +50,32 @@ module _ (work : Work) where
 
 -- nothing was told, where nothing has changed
 pub tells_same : {E : Type 0} (K : SinkGhosts E) (IsLine : List ℕ → Type 0) (old new : Errors E) → new ≡ old → Tells K IsLine old new
-tells_same K IsLine old new same = record { told = []; are_lines = All-nil IsLine; written = subst (λ (e : Errors _). TellsBytes K old e []) (sym same) (tells-nothing K old) }
+tells_same K IsLine old new same = subst (Tells K IsLine old) (sym same) (tells-none K IsLine old)
 
 -- one line was
 pub tells_line : {E : Type 0} (K : SinkGhosts E) (IsLine : List ℕ → Type 0) (old new : Errors E) (line : List ℕ) → IsLine line → TellsBytes K old new line → Tells K IsLine old new
-tells_line K IsLine old new line is told = record { told = line ∷ []; are_lines = All-cons IsLine line [] is (All-nil IsLine); written = subst (TellsBytes K old new) (sym (append-nil line)) told }
+tells_line K IsLine old new line is told = some-tells K IsLine old new (some-one K IsLine old new line is told)
 
 -- the text of the counts was
 pub tells_counts : {E : Type 0} (K : SinkGhosts E) (given : List Given) (old new : Errors E) (secrets : List Secret) (counts : List ℕ) (volume : Volume) → counts_asked given ≡ true
     → TellsBytes K old new (totals_text given (secret_lines secrets) counts volume) → Tells K (IsCountsLine given secrets) old new
 tells_counts K given old new secrets counts volume is told = tells_line K (IsCountsLine given secrets) old new (totals_text given (secret_lines secrets) counts volume) (is, (counts, volume, refl)) told
 
--- lines behind lines
-module _ {E : Type 0} (K : SinkGhosts E) (IsLine : List ℕ → Type 0) (old mid new : Errors E) (first : Tells K IsLine old mid) where
-  pub tells_both : Tells K IsLine mid new → Tells K IsLine old new
-  tells_both later = record {
-    told = first.told ++ later.told;
-    are_lines = All-append IsLine first.told later.told first.are_lines later.are_lines;
-    written = subst (TellsBytes K old new) (sym (concat_both first.told later.told)) (tells-later K first.written later.written);
-  }
-
-  pub some_behind : TellsSome K IsLine mid new → TellsSome K IsLine old new
-  some_behind later = behind first.told first.are_lines (tells-later K first.written later.written)
-    where
-      behind : (lines : List (List ℕ)) → All IsLine lines → TellsBytes K old new (concat lines ++ concat (later.first ∷ later.more)) → TellsSome K IsLine old new
-      behind [] are written = record { first = later.first; is_line = later.is_line; more = later.more; are_lines = later.are_lines; written = written }
-      behind (line ∷ lines) are written = record {
-        first = line;
-        is_line = All-head IsLine line lines are;
-        more = lines ++ (later.first ∷ later.more);
-        are_lines = All-append IsLine lines (later.first ∷ later.more) (All-tail IsLine line lines are) (All-cons IsLine later.first later.more later.is_line later.are_lines);
-        written = subst (TellsBytes K old new) (sym (concat_both (line ∷ lines) (later.first ∷ later.more))) written;
-      }
-
 -- a line more
 pub tells_last : {E : Type 0} (K : SinkGhosts E) (IsLine : List ℕ → Type 0) (old mid new : Errors E) (line : List ℕ) → Tells K IsLine old mid → IsLine line → TellsBytes K mid new line → TellsSome K IsLine old new
-tells_last K IsLine old mid new line before is told =
-    some_behind K IsLine old mid new before (record { first = line; is_line = is; more = []; are_lines = All-nil IsLine; written = subst (TellsBytes K mid new) (sym (append-nil line)) told })
-
--- lines behind one or more
-module _ {E : Type 0} (K : SinkGhosts E) (IsLine : List ℕ → Type 0) (old mid new : Errors E) where
-  pub some_then : TellsSome K IsLine old mid → Tells K IsLine mid new → TellsSome K IsLine old new
-  some_then some later = record {
-    first = some.first;
-    is_line = some.is_line;
-    more = some.more ++ later.told;
-    are_lines = All-append IsLine some.more later.told some.are_lines later.are_lines;
-    written = subst (TellsBytes K old new) (sym (concat_both (some.first ∷ some.more) later.told)) (tells-later K some.written later.written);
-  }
-
-module _ {E : Type 0} (K : SinkGhosts E) (Less More : List ℕ → Type 0) (old new : Errors E) (weaker : (line : List ℕ) → Less line → More line) where
-  pub some_weaker : TellsSome K Less old new → TellsSome K More old new
-  some_weaker some = record {
-    first = some.first;
-    is_line = weaker some.first some.is_line;
-    more = some.more;
-    are_lines = All-weaker Less More weaker some.more some.are_lines;
-    written = some.written;
-  }
-
-  pub some_all : TellsSome K Less old new → Tells K More old new
-  some_all some = record {
-    told = some.first ∷ some.more;
-    are_lines = All-cons More some.first some.more (weaker some.first some.is_line) (All-weaker Less More weaker some.more some.are_lines);
-    written = some.written;
-  }
+tells_last K IsLine old mid new line before is told = some_behind K IsLine old mid new before (some-one K IsLine mid new line is told)
 
 -- what is told may be told of more
-pub tells_weaker : {E : Type 0} (K : SinkGhosts E) (Less More : List ℕ → Type 0) (old new : Errors E) → ((line : List ℕ) → Less line → More line) → Tells K Less old new → Tells K More old new
-tells_weaker K Less More old new weaker tells = record { told = tells.told; are_lines = All-weaker Less More weaker tells.told tells.are_lines; written = tells.written }
+pub some_all : {E : Type 0} (K : SinkGhosts E) (Less More : List ℕ → Type 0) (old new : Errors E) → ((line : List ℕ) → Less line → More line) → TellsSome K Less old new → Tells K More old new
+some_all K Less More old new weaker some = tells_weaker K Less More old new weaker (some-tells K Less old new some)
 
 pub some_told : {E : Type 0} (K : SinkGhosts E) (IsLine : List ℕ → Type 0) (old new : Errors E) (lines : List (List ℕ)) → All IsLine lines → TellsBytes K old new (concat lines) → false ≡ are_none lines → TellsSome K IsLine old new
 some_told K IsLine old new [] are told none = absurd (cc)
 some_told K IsLine old new (line ∷ lines) are told none = record { first = line; is_line = All-head IsLine line lines are; more = lines; are_lines = All-tail IsLine line lines are; written = told }
+
+-- what is so of patterns and a key that were loaded
+pub loads_so : {call : Call} {left : Option (List ℕ)} {Is : Loaded → Option (List ℕ) → Type 0} (load : Loaded) (between : Option (List ℕ)) → AreLoaded (reading_by call) call.given load left between → Is load between → LoadsCall call left Is
+loads_so load between loaded is = record { load = load; between = between; loaded = loaded; is = is }
 
 -- why files are not redacted
 run_failure : {R : Type 0} {Reads : Readers R} {W E : Type 0} (Writes : Writers W) (K : SinkGhosts E) (work : Work) (error : StreamError) (old new : Streams R W E Reads) → FilesOutcome Writes K work (Err error) old new
@@ -134,17 +90,8 @@ run_failure Writes K work PositionLimit old new files = absurd files.fails.only
 -- what comes of a call that ends before its files
 pub call_ended : {W E : Type 0} (Writes : Writers W) (K : SinkGhosts E) (call : Call) (left left' : Option (List ℕ)) (failure : Failure) (output : FromWrite W) (errors errors' : Errors E) → MayFail call (OutputFails output output) failure
     → Tells K (IsLineOf call (OutputFails output output)) errors errors' → Tells K (IsWordLine call) errors errors' → CallOutcome Writes K call left left' (Err failure) output output errors errors'
-call_ended Writes K call left left' failure output errors errors' fails told words = record {
-  redacts = λ (is : Err failure ≡ Ok true). absurd (cc);
-  strict = λ asked (is : Err failure ≡ Ok true). absurd (cc);
-  begins = inl refl;
-  quiet = λ none (is : Err failure ≡ Ok true). absurd (cc);
-  counts = λ some (is : Err failure ≡ Ok true). absurd (cc);
-  partly = λ (is : Err failure ≡ Ok false). absurd (cc);
-  fails = fails;
-  told = told;
-  numbers = inl words;
-}
+call_ended Writes K call left left' failure output errors errors' fails told words =
+    record { comes = (fails, told); begins = inl refl; numbers = inl words }
 
 -- nothing was told
 pub call_refused : {W E : Type 0} (Writes : Writers W) (K : SinkGhosts E) (call : Call) (left left' : Option (List ℕ)) (failure : Failure) (output : FromWrite W) (errors : Errors E) → MayFail call (OutputFails output output) failure
@@ -171,32 +118,22 @@ module _ {R : Type 0} {Reads : Readers R} {W E : Type 0} (Writes : Writers W) (K
     cut_told IsLine may lines (cut, told) =
         tells_weaker K (IsUnreadLine (names_asked call.given)) IsLine old.errors new.errors may (record { told = lines; are_lines = unread_of (work_by call load) (names_asked call.given) lines _ _ _ _ cut; written = told })
 
-    -- the call fails
-    rest_failed : (failure : Failure) → (new.output ≡ old.output) ⊎ ((lines : List (List ℕ)) × AreCut (work_by call load) (names_asked call.given) lines (bytes_left old.input) (bytes_left new.input) (output_bytes Writes old.output) (output_bytes Writes new.output))
-        → MayFail call (OutputFails old.output new.output) failure → Tells K (IsLineOf call (OutputFails old.output new.output)) old.errors new.errors
-        → Tells K (IsWordLine call) old.errors new.errors ⊎ TellsNumbers K call load.secrets (bytes_left old.input) (bytes_left new.input) old.errors new.errors → RestOutcome Writes K call load (Err failure) old new
-    rest_failed failure begins fails told numbers = record {
-      redacts = λ (is : Err failure ≡ Ok true). absurd (cc);
-      begins = begins;
-      quiet = λ none (is : Err failure ≡ Ok true). absurd (cc);
-      counts = λ some (is : Err failure ≡ Ok true). absurd (cc);
-      partly = λ (is : Err failure ≡ Ok false). absurd (cc);
-      fails = fails;
-      told = told;
-      numbers = numbers;
-    }
-
     -- since its files are not redacted
     pub rest_cut : (error : StreamError) → FilesOutcome Writes K (work_by call load) (Err error) old new → RestOutcome Writes K call load (Err (Other (failure_of_stream error))) old new
     rest_cut error files =
-        let (lines, does) = files.cut in
-        rest_failed (Other (failure_of_stream error)) (inr (lines, does.0)) (may_fail call _ _ (run_failure Writes K (work_by call load) error old new files)) (cut_told _ (λ line is. inl is) lines does)
-        (inl (cut_told (IsWordLine call) (λ line is. inl is) lines does))
+        let (lines, does) = files.cut in record {
+          comes = (may_fail call _ _ (run_failure Writes K (work_by call load) error old new files), cut_told _ (λ line is. inl is) lines does);
+          begins = inr (lines, does.0);
+          numbers = inl (cut_told (IsWordLine call) (λ line is. inl is) lines does);
+        }
 
   -- or since memory runs out before
   pub rest_memory : (load : Loaded) (streams : Streams R W E Reads) → RestOutcome Writes K call load (Err (Other OutOfMemory)) streams streams
-  rest_memory load streams =
-      rest_failed load streams streams (Other OutOfMemory) (inl refl) (may_fail call _ _ (inl refl)) (tells_same K _ streams.errors streams.errors refl) (inl (tells_same K (IsWordLine call) streams.errors streams.errors refl))
+  rest_memory load streams = record {
+    comes = (may_fail call _ (Other OutOfMemory) (inl refl), tells_same K _ streams.errors streams.errors refl);
+    begins = inl refl;
+    numbers = inl (tells_same K (IsWordLine call) streams.errors streams.errors refl);
+  }
 
   -- those whose patterns were loaded as these rules, where all was done
   module _ (rules : List Rule) (key : Option (List ℕ)) (left between : Option (List ℕ)) (loaded : AreLoaded (reading_by call) call.given (loaded_as rules key) left between) (counts : List ℕ) (volume : Volume) (old mid : Streams R W E Reads) where
@@ -218,7 +155,18 @@ module _ {R : Type 0} {Reads : Readers R} {W E : Type 0} (Writes : Writers W) (K
     pub rest_told : (all : Bool) (result : Result Bool Failure) (errors : Errors E) → FilesOutcome Writes K (work_by call (loaded_as rules key)) (Ok all) old mid → Counted (counts_asked call.given) all → IfOk result (λ done. done ≡ all)
         → OnOk result (AreTold (counts_asked call.given) errors) → IfErr result (IsCountsFailure (counts_asked call.given)) → Tells K (IsCountsLine call.given (secrets_of rules)) mid.errors errors → Bounded → Tells K IsTotals mid.errors errors
         → RestOutcome Writes K call (loaded_as rules key) result old (record mid { errors = errors })
-    rest_told all result errors files grown same are_told fails told bounded totals = by result same are_told fails
+    rest_told all result errors files grown same are_told fails told bounded totals = record {
+      comes = by result same are_told fails;
+      begins = inr (cut.0, cut.1.0);
+      numbers = inr (record {
+        counts = sums_of (secrets_of rules) counts;
+        volume = volume;
+        bounded = bounded;
+        meanwhile = mid.errors;
+        words = cut_told (loaded_as rules key) old mid (IsWordLine call) (λ line is. inl is) cut.0 cut.1;
+        told = totals;
+      });
+    }
       where
         cut : (lines : List (List ℕ)) × Does Writes K old mid (AreCut (work_by call (loaded_as rules key)) (names_asked call.given) lines) lines
         cut = let (lines, is_all, (does, first)) = files.done in (lines, (cut_of (work_by call (loaded_as rules key)) _ lines _ _ _ _ does, first))
@@ -226,55 +174,36 @@ module _ {R : Type 0} {Reads : Readers R} {W E : Type 0} (Writes : Writers W) (K
         counts_told : Tells K (IsLineOf call (OutputFails old.output mid.output)) mid.errors errors
         counts_told = tells_weaker K (IsCountsLine call.given (secrets_of rules)) _ mid.errors errors (λ line is. inr (inr (inl (loaded_as rules key, left, between, loaded, is)))) told
 
-        numbers : TellsNumbers K call (secrets_of rules) (bytes_left old.input) (bytes_left mid.input) old.errors errors
-        numbers = record {
-          counts = sums_of (secrets_of rules) counts;
-          volume = volume;
-          bounded = bounded;
-          meanwhile = mid.errors;
-          words = cut_told (loaded_as rules key) old mid (IsWordLine call) (λ line is. inl is) cut.0 cut.1;
-          told = totals;
-        }
-
         by : (result : Result Bool Failure) → IfOk result (λ done. done ≡ all) → OnOk result (AreTold (counts_asked call.given) errors) → IfErr result (IsCountsFailure (counts_asked call.given))
-            → RestOutcome Writes K call (loaded_as rules key) result old (record mid { errors = errors })
-        by (Ok done) same are_told fails =
+            → CalledAs K call (RestDone Writes K call (loaded_as rules key) old (record mid { errors = errors })) (OutputFails old.output mid.output) result old.errors errors
+        by (Ok true) same are_told fails =
             let (lines, is_all, (does, first)) = files.done in
             record {
-              redacts = λ (is : Ok done ≡ Ok true).
-                  let so : done ≡ true = cc in
-                  redacted_of (work_by call (loaded_as rules key)) _ lines _ _ _ _ (none_are lines (sym is_all ∙ sym same ∙ so)) does;
-              begins = inr (cut.0, cut.1.0);
-              quiet = λ none (is : Ok done ≡ Ok true).
-                  let so : done ≡ true = cc in
-                  subst (λ (b : Bool). AreTold b errors) none are_told ∙ files.quiet (ap Ok (sym same ∙ so));
-              counts = λ some (is : Ok done ≡ Ok true).
-                  let so : done ≡ true = cc in
-                  let ((ranges, found, counted), read) = subst (λ (b : Bool). Counted b all) some grown (sym same ∙ so) in (
+              redacts = redacted_of (work_by call (loaded_as rules key)) _ lines _ _ _ _ (none_are lines (sym is_all ∙ sym same)) does;
+              quiet = λ none. subst (λ (b : Bool). AreTold b errors) none are_told ∙ files.quiet (ap Ok (sym same));
+              counts = λ some.
+                  let ((ranges, found, counted), read) = subst (λ (b : Bool). Counted b all) some grown (sym same) in (
                     ranges,
                     found,
                     volume,
                     read,
                     totals_told K call.given rules ranges counts volume old.errors errors counted
-                        (subst (λ (e : Errors E). TellsCounts K call.given rules counts volume e errors) (files.quiet (ap Ok (sym same ∙ so))) (subst (λ (b : Bool). AreTold b errors) some are_told)),
+                        (subst (λ (e : Errors E). TellsCounts K call.given rules counts volume e errors) (files.quiet (ap Ok (sym same))) (subst (λ (b : Bool). AreTold b errors) some are_told)),
                   );
-              partly = λ (is : Ok done ≡ Ok false).
-                  let so : done ≡ false = cc in
-                  some_then K (IsLineOf call (OutputFails old.output mid.output)) old.errors mid.errors errors
-                  (some_weaker K (IsUnreadLine (names_asked call.given)) (IsLineOf call (OutputFails old.output mid.output)) old.errors mid.errors (λ line is. inl is)
-                  (some_told K (IsUnreadLine (names_asked call.given)) old.errors mid.errors lines (unread_of (work_by call (loaded_as rules key)) _ lines _ _ _ _ (cut_of (work_by call (loaded_as rules key)) _ lines _ _ _ _ does)) first (sym so ∙ same ∙ is_all)))
-                  counts_told;
-              fails = tt;
-              told = tt;
-              numbers = inr numbers;
             }
-        by (Err failure) same are_told fails =
-            rest_failed (loaded_as rules key) old (record mid { errors = errors }) failure (inr (cut.0, cut.1.0))
-            (elim fails.1 [
-              | inl counts ↦ inr (inr (inl (counts, fails.0)))
-              | inr memory ↦ may_fail call _ failure (inl memory)
-            ])
-            (tells_both K (IsLineOf call (OutputFails old.output mid.output)) old.errors mid.errors errors (cut_told (loaded_as rules key) old mid _ (λ line is. inl is) cut.0 cut.1) counts_told) (inr numbers)
+        by (Ok false) same are_told fails =
+            let (lines, is_all, (does, first)) = files.done in
+            some_then K (IsLineOf call (OutputFails old.output mid.output)) old.errors mid.errors errors
+            (some_weaker K (IsUnreadLine (names_asked call.given)) (IsLineOf call (OutputFails old.output mid.output)) old.errors mid.errors (λ line is. inl is)
+            (some_told K (IsUnreadLine (names_asked call.given)) old.errors mid.errors lines (unread_of (work_by call (loaded_as rules key)) _ lines _ _ _ _ (cut_of (work_by call (loaded_as rules key)) _ lines _ _ _ _ does)) first (same ∙ is_all)))
+            counts_told
+        by (Err failure) same are_told fails = (
+          elim fails.1 [
+            | inl counts ↦ inr (inr (inl (counts, fails.0)))
+            | inr memory ↦ may_fail call _ failure (inl memory)
+          ],
+          tells_both K (IsLineOf call (OutputFails old.output mid.output)) old.errors mid.errors errors (cut_told (loaded_as rules key) old mid _ (λ line is. inl is) cut.0 cut.1) counts_told,
+        )
 
 -- what holds of the work of a job holds of what a call asks for
 pub job_does : {F X : Type 0} (D : Folders F X) (folder : F) (given : List Given) (load : Loaded) (job : Job F) → IsJobFor folder given load job

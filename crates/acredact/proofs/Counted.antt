@@ -1,10 +1,11 @@
 -- What a replacement by a closure writes, where the closure writes the piece of each match.
-use Rattle.acredact.proofs.Common.{Appends, Appends-nil, Appends-trans, AreFinds, Bor, CanBegin, Consumes-nil, CountsThese, Ghosts, IsFillRefusal, Memory, MutBor, Occurrence, Patterns, PositionLimit, Read, Refused, SinkGhosts, SourceGave, SourceGhosts, StartsWith, StreamError, counted, counts_none, counts_then, finds-exist, is_read_fault, is_write_fault, is_write_of_nothing, plain_search, shortest}
+use Rattle.acredact.proofs.Common.{Appends, Appends-nil, Appends-trans, AreFinds, Bor, CanBegin, Consumes-nil, CountsThese, Ghosts, IfErr-weaker, IsFillRefusal, Memory, MutBor, Occurrence, PositionLimit, Read, Refused, SinkGhosts, SourceGave, SourceGhosts, StartsWith, StreamError, counted, counts_none, counts_then, finds-exist, is_read_fault, is_write_fault, is_write_of_nothing, on_ok_weaker, plain_search, shortest}
 use Rattle.std.proofs.Common.{inl, inr, ◌≡◌, ◌⊎◌, ℕ, ◌≤◌, Bool, true, false, List, [], ◌∷◌, ◌++◌, Option, length, map, take, drop, refl, sym, ap, subst, ◌∙◌, append-nil, le_refl}
 use Rattle.std.specs.Prelude.{None, Some, Result, Ok, Err, IfErr, MatchBool, OnErr, OnOk, ◌&&◌, slice_index_or, slice_range}
 use Rattle.std.specs.Fn.{Mut}
 use Rattle.std.proofs.lemmas.List.{append_cancel_left, length-take-le}
 use Rattle.std.proofs.Math.Bool.{and-false}
+use Rattle.std.proofs.lemmas.Result.{on_err_weaker}
 use Rattle.aho_core.specs.ClosureRun.{CalledOn, ClosureRun}
 use Rattle.aho_core.specs.Replacement.{replaced, replaced_from}
 use Rattle.aho_devices.specs.Counts.{AppendsBeginning}
@@ -12,7 +13,7 @@ use Rattle.aho_devices.specs.Refusals.{IsWriteRefusal}
 use Rattle.aho_stream.specs.Refills.{is_limit}
 use Rattle.aho_stream.specs.Replacing.{MayBe}
 use Rattle.aho_stream.proofs.Called.{CalledOnFirst, run_calls}
-use Rattle.aho_stream.specs.StreamRun.{CallsOn, RunsAndLeaves, RunsLent, RunsOver, SinkTakes}
+use Rattle.aho_stream.specs.StreamRun.{CallsOn, RunsAndLeaves, RunsLent, SinkTakes}
 use Rattle.tool_parts.proofs.Beginnings.{beginning-later, beginning-more}
 use Rattle.acredact.specs.Faults.{IsStreamEnd}
 use Rattle.acredact.specs.Secrets.{BeginsRedaction, Redactor}
@@ -50,28 +51,20 @@ record Takes {W : Type 0} (K : SinkGhosts W) (stopped : Bool) (result : Result (
 
 module _ {W : Type 0} (K : SinkGhosts W) (stopped : Bool) where
   takes_sink : (old : W) (bytes : List ℕ) (result : Result (Unit {0}) StreamError) (new : W) → SinkTakes K stopped old bytes result new → Takes K stopped result old new bytes
-  takes_sink old bytes (Ok x) new takes = record { whole = takes.whole; beginning = tt; write_failed = takes.write_failed; took_nothing = takes.took_nothing; only = tt }
-  takes_sink old bytes (Err error) new takes =
-      record { whole = tt; beginning = takes.beginning; write_failed = takes.write_failed; took_nothing = takes.took_nothing; only = inl takes.only }
+  takes_sink old bytes result new takes =
+      record { whole = takes.whole; beginning = takes.beginning; write_failed = takes.write_failed; took_nothing = takes.took_nothing; only = IfErr-weaker result _ _ (λ error is. inl is) takes.only }
 
-  takes_piece : (old : W) (piece : List ℕ) (error : StreamError) (new : W) → WritesPiece K (Err error) old new piece → Takes K stopped (Err error) old new piece
-  takes_piece old piece error new writes =
-      record { whole = tt; beginning = writes.beginning; write_failed = writes.write_failed; took_nothing = writes.took_nothing; only = inr writes.only }
+  takes_piece : (old : W) (piece : List ℕ) (result : Result (Unit {0}) StreamError) (new : W) → WritesPiece K result old new piece → Takes K stopped result old new piece
+  takes_piece old piece result new writes =
+      record { whole = writes.whole; beginning = writes.beginning; write_failed = writes.write_failed; took_nothing = writes.took_nothing; only = IfErr-weaker result _ _ (λ error is. inr is) writes.only }
 
   -- all of some bytes, and then others
   takes_later : (old mid new : W) (result : Result (Unit {0}) StreamError) (bs cs : List ℕ) → Takes K stopped (Ok tt) old mid bs → Takes K stopped result mid new cs → Takes K stopped result old new (bs ++ cs)
-  takes_later old mid new (Ok x) bs cs first later = record {
-    whole = Appends-trans _ _ _ bs cs first.whole later.whole;
-    beginning = tt;
-    write_failed = later.write_failed ∙ first.write_failed;
-    took_nothing = later.took_nothing ∙ first.took_nothing;
-    only = tt;
-  }
-  takes_later old mid new (Err error) bs cs first later = record {
-    whole = tt;
-    beginning = beginning-later _ _ _ bs cs first.whole later.beginning;
-    write_failed = later.write_failed ∙ ap (counted (is_write_fault {A = Unit {0}} (Err error))) first.write_failed;
-    took_nothing = later.took_nothing ∙ ap (counted (is_write_of_nothing {A = Unit {0}} (Err error))) first.took_nothing;
+  takes_later old mid new result bs cs first later = record {
+    whole = on_ok_weaker result (λ taken. Appends-trans _ _ _ bs cs first.whole taken) later.whole;
+    beginning = on_err_weaker result (λ taken. beginning-later _ _ _ bs cs first.whole taken) later.beginning;
+    write_failed = later.write_failed ∙ ap (counted (is_write_fault result)) first.write_failed;
+    took_nothing = later.took_nothing ∙ ap (counted (is_write_of_nothing result)) first.took_nothing;
     only = later.only;
   }
 
@@ -95,9 +88,6 @@ module _ {F W : Type 0} (K : SinkGhosts W) (calls : F → Occurrence → List �
   abbrev Runs : ℕ → List Occurrence → F → W → Result (Unit {0}) StreamError → F → W → Type 0
   Runs at ms f old result last new = ClosureRun (SinkTakes K stopped) calls haystack at ms f old result last new
 
-  piece_taken : (old : W) (m : Occurrence) (new : W) → WritesPiece K (Ok tt) old new (piece m) → Takes K stopped (Ok tt) old new (piece m)
-  piece_taken old m new writes = record { whole = writes.whole; beginning = tt; write_failed = writes.write_failed; took_nothing = writes.took_nothing; only = tt }
-
   run_takes : (ms : List Occurrence) (at : ℕ) (f : F) (old : W) (result : Result (Unit {0}) StreamError) (last : F) (new : W) → Fits f → Runs at ms f old result last new
       → Takes K stopped result old new (replaced_from haystack at ms piece)
   run_takes [] at f old result last new fits run = takes_sink K stopped old (drop at haystack) result new run.1
@@ -109,7 +99,7 @@ module _ {F W : Type 0} (K : SinkGhosts W) (calls : F → Occurrence → List �
   run_takes (m ∷ ms) at f old (Err error) last new fits (inr (lent, gap, (Err reason, next, left, called, ends))) =
       let same : error ≡ reason = let is = ends.0 in cc in
       let wrote : Takes K stopped (Err error) lent new (piece m) =
-      rw (same, ends.2) (takes_piece K stopped lent (piece m) reason left (fails f m (slice_range haystack m.start m.end) lent reason next left fits called)) in
+      rw (same, ends.2) (takes_piece K stopped lent (piece m) (Err reason) left (fails f m (slice_range haystack m.start m.end) lent reason next left fits called)) in
       takes_later K stopped old lent new (Err error) (slice_range haystack at m.start) (piece m ++ replaced_from haystack m.end ms piece)
       (takes_sink K stopped old (slice_range haystack at m.start) (Ok tt) lent gap)
       (takes_more K stopped lent new error (piece m) (replaced_from haystack m.end ms piece) wrote)
@@ -119,7 +109,7 @@ module _ {F W : Type 0} (K : SinkGhosts W) (calls : F → Occurrence → List �
       takes_later K stopped old lent new result (slice_range haystack at m.start) (piece m ++ replaced_from haystack m.end ms piece)
       (takes_sink K stopped old (slice_range haystack at m.start) (Ok tt) lent gap)
       (takes_later K stopped lent left new result (piece m) (replaced_from haystack m.end ms piece)
-      (piece_taken lent m left step.2) (run_takes ms m.end next left result last new step.1 later))
+      (takes_piece K stopped lent (piece m) (Ok tt) left step.2) (run_takes ms m.end next left result last new step.1 later))
 
 -- the closure counts each match that it is called on, into the same borrow all along
 module _ {F W : Type 0} (K : SinkGhosts W) (calls : Mut F (Bor Occurrence × (Bor (List ℕ) × (MutBor W × Unit {0}))) (Result (Unit {0}) StreamError × (MutBor W × Unit {0})))
@@ -145,23 +135,6 @@ module _ {F W : Type 0} (K : SinkGhosts W) (calls : Mut F (Bor Occurrence × (Bo
   has_counted stopped haystack ms result run =
       run_calls (SinkTakes K stopped) (CallsOn calls) haystack HasCounted (λ f m matched old goes next new called. called.0) one_call ms [] 0 closure sink result last sink'
       (refl, counts_none (counts_of closure)) run
-
--- of a closure that is lent no less is known
-pub over_lent : {R F W : Type 0} {S : SourceGhosts R} {K : SinkGhosts W} {IsOf : Patterns → Type 0}
-    {calls : Mut F (Bor Occurrence × (Bor (List ℕ) × (MutBor W × Unit {0}))) (Result (Unit {0}) StreamError × (MutBor W × Unit {0}))}
-    {source source' : R} {closure : F} {sink : W} {result : Result (Unit {0}) StreamError} {last : F} {sink' : W}
-    → RunsAndLeaves S K IsOf calls source source' closure sink result last sink' → RunsOver S K IsOf calls source source' closure sink result sink'
-over_lent {last = last} over = record {
-  given = over.given;
-  ended = over.ended;
-  stopped = over.stopped;
-  gives = over.gives;
-  whole = over.whole;
-  read_failed = over.read_failed;
-  limit = over.limit;
-  run = λ p bytes ms of may finds. (last, over.run p bytes ms of may finds);
-  near = λ stopped. let near = over.near stopped in (near.0, near.1, near.2, λ p bytes ms of may finds. (last, near.3 p bytes ms of may finds));
-}
 
 -- none may follow what was given
 pub no_more : (given : List ℕ) (ended : Bool) → MayBe given ended given
@@ -211,25 +184,24 @@ module _ {A R W F : Type 0} (G : Ghosts A) (S : SourceGhosts R) (K : SinkGhosts 
   some_one = some_of G automaton r.patterns are can
 
   -- what a run took, by the finds of any text that may come
-  over_takes : (result : Result (Unit {0}) StreamError) (over : RunsOver S K (G.is_of automaton) calls source source' closure sink result sink') (bytes : List ℕ) (ms : List Occurrence)
+  over_takes : (result : Result (Unit {0}) StreamError) (last : F) (over : RunsAndLeaves S K (G.is_of automaton) calls source source' closure sink result last sink') (bytes : List ℕ) (ms : List Occurrence)
       → MayBe over.given over.ended bytes → AreFinds r.patterns (plain_search bytes) None ms → Takes K over.stopped result sink sink' (replaced bytes ms r.pieces)
-  over_takes result over bytes ms may found =
-      let run = over.run r.patterns bytes ms of may found in
+  over_takes result last over bytes ms may found =
       run_takes K (CallsOn calls) over.stopped bytes (λ m. slice_index_or r.pieces m.pattern []) Fits
       (λ f m matched old goes next new is called. let step = goes_on f m matched old next new is called.1 in (called.0, step.0, step.1))
       (λ f m matched old reason next new is called. fails f m matched old reason next new is called)
-      ms 0 closure sink result run.0 sink' fits run.1
+      ms 0 closure sink result last sink' fits (over.run r.patterns bytes ms of may found)
 
   -- that of the bytes that were given
-  given_takes : (result : Result (Unit {0}) StreamError) (over : RunsOver S K (G.is_of automaton) calls source source' closure sink result sink')
+  given_takes : (result : Result (Unit {0}) StreamError) (last : F) (over : RunsAndLeaves S K (G.is_of automaton) calls source source' closure sink result last sink')
       → (ms : List Occurrence) × AreFinds r.patterns (plain_search over.given) None ms × Takes K over.stopped result sink sink' (replaced over.given ms r.pieces)
-  given_takes result over =
+  given_takes result last over =
       let finds = finds-exist r.patterns (plain_search over.given) None (le_refl (length over.given)) in
-      (finds.0, finds.1, over_takes result over over.given finds.0 (no_more over.given over.ended) finds.1)
+      (finds.0, finds.1, over_takes result last over over.given finds.0 (no_more over.given over.ended) finds.1)
 
-  ran : (result : Result (Unit {0}) StreamError) → RunsOver S K (G.is_of automaton) calls source source' closure sink result sink' → StreamOutcome S K r result source source' sink sink'
-  ran (Ok tt) over =
-      let (ms, found, taken) = given_takes (Ok tt) over in
+  ran : (result : Result (Unit {0}) StreamError) (last : F) → RunsAndLeaves S K (G.is_of automaton) calls source source' closure sink result last sink' → StreamOutcome S K r result source source' sink sink'
+  ran (Ok tt) last over =
+      let (ms, found, taken) = given_takes (Ok tt) last over in
       comes_of S K r source source' sink sink' (Ok tt)
       (record {
         text = over.given;
@@ -245,9 +217,9 @@ module _ {A R W F : Type 0} (G : Ghosts A) (S : SourceGhosts R) (K : SinkGhosts 
         took_nothing = taken.took_nothing;
       })
       (λ (met : false ≡ true). absurd (cc)) tt
-  ran (Err error) over =
-      let (ms, found, taken) = given_takes (Err error) over in
-      let (part, begins, written) = begins_each r plain unkeyed some_one over.given over.ended (K.taken sink) (K.taken sink') (λ bytes ms may found. (over_takes (Err error) over bytes ms may found).beginning) in
+  ran (Err error) last over =
+      let (ms, found, taken) = given_takes (Err error) last over in
+      let (part, begins, written) = begins_each r plain unkeyed some_one over.given over.ended (K.taken sink) (K.taken sink') (λ bytes ms may found. (over_takes (Err error) last over bytes ms may found).beginning) in
       let (fault, stops, only) = stops_as over.stopped error taken.only in
       comes_of S K r source source' sink sink' (Err error) tt
       (record { given = over.given; ended = over.ended; gives = over.gives; part = part; begins = begins; written = written })
@@ -281,8 +253,9 @@ module _ {A R W F : Type 0} (G : Ghosts A) (S : SourceGhosts R) (K : SinkGhosts 
     abbrev Counted : Type 0
     Counted = (name_of last ≡ name_of closure) × CountsOfStream S r source source' (counts_of closure) (counts_of last)
 
-    lent_whole : RunsAndLeaves S K (G.is_of automaton) calls source source' closure sink (Ok tt) last sink' → Counted
-    lent_whole over =
+    lent_counts : (result : Result (Unit {0}) StreamError) → RunsAndLeaves S K (G.is_of automaton) calls source source' closure sink result last sink' → OnOk result Counted
+    lent_counts (Err error) over = tt
+    lent_counts (Ok tt) over =
         let finds = finds-exist r.patterns (plain_search over.given) None (le_refl (length over.given)) in
         let run = over.run r.patterns over.given finds.0 of (no_more over.given over.ended) finds.1 in
         let first = has_counted K calls closure last sink sink' name_of counts_of counts over.stopped over.given finds.0 (Ok tt) run in
@@ -297,21 +270,11 @@ module _ {A R W F : Type 0} (G : Ghosts A) (S : SourceGhosts R) (K : SinkGhosts 
           },
         )
 
-    lent_counts : (result : Result (Unit {0}) StreamError) → (CanBegin G automaton → RunsLent S K (G.is_of automaton) calls source source' closure sink result last sink') → OnOk result Counted
-    lent_counts (Err error) runs = tt
-    lent_counts (Ok tt) runs =
-        elim (runs can) [
-          | inl memory ↦ let clash = memory.0.0 in absurd (cc)
-          | inr over ↦ lent_whole over
-        ]
-
     -- whatever is answered
     pub lent_does : (result : Result (Unit {0}) StreamError) → (CanBegin G automaton → RunsLent S K (G.is_of automaton) calls source source' closure sink result last sink')
         → StreamOutcome S K r result source source' sink sink' × OnOk result Counted
-    lent_does result runs = (
-      elim (runs can) [
-        | inl memory ↦ rw (memory.0.0, memory.0.1, memory.0.2) untouched
-        | inr over ↦ ran result (over_lent over)
-      ],
-      lent_counts result runs,
-    )
+    lent_does result runs =
+        elim (runs can) [
+          | inl memory ↦ rw (memory.0.0, memory.0.1, memory.0.2) (untouched, tt)
+          | inr over ↦ (ran result last over, lent_counts result over)
+        ]

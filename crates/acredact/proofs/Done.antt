@@ -1,17 +1,16 @@
 -- What comes of files, one after another.
-use Rattle.acredact.proofs.Common.{Bor, Errors, FromWrite, Keeps, Keeps-refl, Readers, Reason, SinkGhosts, StreamError, Streams, TellsBytes, Write, WriteZero, Writers, bytes_left, concat, counted, is_write_fault, is_write_of_nothing, name_bytes, output_bytes, take-length, tells-later, tells-nothing}
+use Rattle.acredact.proofs.Common.{Bor, Errors, FromWrite, Keeps, Keeps-refl, Readers, Reason, SinkGhosts, StreamError, Streams, TellsBytes, Write, WriteZero, Writers, bytes_left, concat, counted, is_write_fault, is_write_of_nothing, name_bytes, nil_from_length, output_bytes, tells-later, tells-nothing}
 use Rattle.std.proofs.Common.{◌≡◌, inl, inr, ℕ, ◌≤◌, ◌-◌, List, [], ◌∷◌, ◌++◌, Option, true, false, length, take, drop, get_or, refl, sym, ap, subst, ◌∙◌, append-nil, append_assoc, arith}
 use Rattle.std.specs.Prelude.{Bool, ◌&&◌, None, Some, Ok, Err}
 use Rattle.std.proofs.KnownBytes.{Keeps-trans}
+use Rattle.std.proofs.lemmas.Bool.{and_parts}
 use Rattle.aho_devices.specs.Refusals.{IsWriteRefusal}
+use Rattle.tool_parts.proofs.Tellings.{parts-cut}
 use Rattle.acredact.specs.Faults.{IsOutputEnd}
 use Rattle.acredact.specs.Files.{AreCut, AreDone, AreRedacted, FileOutcome, FilesOutcome, ToldOutcome, Work, are_none, unread_line}
 use Rattle.acredact.specs.Messages.{output_line}
-
 -- the lines of two
-pub concat_both : (xs ys : List (List ℕ)) → concat (xs ++ ys) ≡ concat xs ++ concat ys
-concat_both [] ys = refl
-concat_both (x ∷ xs) ys = ap (λ l. x ++ l) (concat_both xs ys) ∙ sym (append_assoc x (concat xs) (concat ys))
+pub use Rattle.std.proofs.lemmas.List.Folds.{concat-append as concat_both}
 
 pub none_both : (xs ys : List (List ℕ)) (first second both : Bool) → first ≡ are_none xs → second ≡ are_none ys → both ≡ first && second → both ≡ are_none (xs ++ ys)
 none_both [] ys first second both is_first is_second is = is ∙ ap (λ (b : Bool). b && second) is_first ∙ is_second
@@ -19,9 +18,7 @@ none_both (x ∷ xs) ys first second both is_first is_second is = is ∙ ap (λ 
 
 -- both are so
 pub both_so : (first second both : Bool) → both ≡ first && second → both ≡ true → (first ≡ true) × (second ≡ true)
-both_so true true both is so = (refl, refl)
-both_so true false both is so = let clash : false ≡ true = sym is ∙ so in absurd (cc)
-both_so false second both is so = let clash : false ≡ true = sym is ∙ so in absurd (cc)
+both_so first second both is so = and_parts first second (sym is ∙ so)
 
 some_none : (line : List ℕ) (rest : List (List ℕ)) → (line ∷ []) ++ rest ≡ [] → ⊥
 some_none line rest is = cc
@@ -90,10 +87,8 @@ module _ {R W E : Type 0} {Reads : Readers R} (Writes : Writers W) (K : SinkGhos
         is_all = none_both so.lines first all whole both so.is_all is_whole is;
         told = subst (TellsBytes K old.errors new.errors) (sym (concat_both so.lines first)) (tells-later K so.told tells);
         quiet = λ ends. let parts = both_so all whole both is ends in told.quiet (ap Ok parts.1) ∙ so.quiet parts.0;
-        done = λ more left held rests. subst (λ (l : List (List ℕ)). AreDone work names l (bytes_left old.input) left (output_bytes Writes old.output) held) (sym (append_assoc so.lines first more))
-            (so.done (first ++ more) left held (first, more, refl, bytes_left new.input, output_bytes Writes new.output, done, rests));
-        cut = λ more left held rests. subst (λ (l : List (List ℕ)). AreCut work names l (bytes_left old.input) left (output_bytes Writes old.output) held) (sym (append_assoc so.lines first more))
-            (so.cut (first ++ more) left held (inr (first, more, refl, bytes_left new.input, output_bytes Writes new.output, done, rests)));
+        done = λ more left held rests. rw (append_assoc so.lines first more) (so.done (first ++ more) left held (first, more, refl, bytes_left new.input, output_bytes Writes new.output, done, rests));
+        cut = λ more left held rests. rw (append_assoc so.lines first more) (so.cut (first ++ more) left held (inr (first, more, refl, bytes_left new.input, output_bytes Writes new.output, done, rests)));
         failures = told.fails.write_failed ∙ so.failures;
         empty_writes = told.fails.took_nothing ∙ so.empty_writes;
       }
@@ -102,9 +97,7 @@ module _ {R W E : Type 0} {Reads : Readers R} (Writes : Writers W) (K : SinkGhos
   pub far_all : (behind : List (List ℕ)) (all : Bool) (old new : Streams R W E Reads) → SoFar work.names behind all old new → behind ≡ [] → FilesOutcome Writes K work (Ok all) old new
   far_all behind all old new far none =
       let so = subst (λ (l : List (List ℕ)). SoFar work.names l all old new) none far in
-      let done : AreDone work work.names so.lines (bytes_left old.input) (bytes_left new.input) (output_bytes Writes old.output) (output_bytes Writes new.output) =
-      subst (λ (l : List (List ℕ)). AreDone work work.names l (bytes_left old.input) (bytes_left new.input) (output_bytes Writes old.output) (output_bytes Writes new.output)) (append-nil so.lines)
-      (so.done [] _ _ (refl, refl, Keeps-refl (output_bytes Writes new.output))) in
+      let done = rw (append-nil so.lines) at (so.done [] (bytes_left new.input) (output_bytes Writes new.output) (refl, refl, Keeps-refl (output_bytes Writes new.output))) in
       record {
         done = (so.lines, so.is_all, (done, so.told));
         cut = tt;
@@ -117,9 +110,7 @@ module _ {R W E : Type 0} {Reads : Readers R} (Writes : Writers W) (K : SinkGhos
       → behind ≡ name ∷ rest → ToldOutcome Writes K work name (Err error) mid new → FilesOutcome Writes K work (Err error) old new
   far_fails behind rest name all error old mid new far front told =
       let so = subst (λ (l : List (List ℕ)). SoFar work.names l all old mid) front far in
-      let cut : AreCut work work.names so.lines (bytes_left old.input) (bytes_left new.input) (output_bytes Writes old.output) (output_bytes Writes new.output) =
-      subst (λ (l : List (List ℕ)). AreCut work work.names l (bytes_left old.input) (bytes_left new.input) (output_bytes Writes old.output) (output_bytes Writes new.output)) (append-nil so.lines)
-      (so.cut [] _ _ (inl (refl, told.cut.0))) in
+      let cut = rw (append-nil so.lines) at (so.cut [] (bytes_left new.input) (output_bytes Writes new.output) (inl (refl, told.cut.0))) in
       record {
         done = tt;
         cut = (so.lines, (cut, subst (λ (e : Errors E). TellsBytes K old.errors e (concat so.lines)) (sym told.untold) so.told));
@@ -214,12 +205,7 @@ module _ {R W E : Type 0} {Reads : Readers R} (Writes : Writers W) (K : SinkGhos
 
 -- the first of some names, and the others
 pub names_cut : (files : List (Bor (List ℕ))) (other : Bor (List ℕ)) → 1 ≤ length files → name_bytes files ≡ (get_or files 0 other).now ∷ name_bytes (take (length files - 1) (drop 1 files))
-names_cut [] other some = absurd (omega (arith, some))
-names_cut (name ∷ files) other some =
-    let count : length (name ∷ files) - 1 ≡ length files = omega arith in
-    let rest : take (length (name ∷ files) - 1) files ≡ files = ap (λ n. take n files) count ∙ take-length files in
-    ap (λ (l : List (Bor (List ℕ))). name.now ∷ name_bytes l) (sym rest)
+names_cut files other some = parts-cut files other (omega (arith, some))
 
 pub names_end : (files : List (Bor (List ℕ))) → length files ≡ 0 → name_bytes files ≡ []
-names_end [] none = refl
-names_end (name ∷ files) none = absurd (omega (arith, none))
+names_end files none = ap name_bytes (nil_from_length files none)

@@ -1,30 +1,29 @@
 -- What becomes of files that are replaced in place, one after another, and of a call that replaces them.
-use Rattle.acredact.proofs.Common.{All, All-cons, All-nil, CountsThese, Errors, Failure, Other, OutOfMemory, Readers, Rule, SinkGhosts, StreamError, Streams, Strict, Tells, TellsBytes, TellsSome, Volume, Writers, bytes_left, failure_of_stream, output_bytes}
-use Rattle.std.proofs.Common.{◌≡◌, inl, inr, ℕ, List, [], ◌∷◌, ◌++◌, Option, true, false, refl, sym, ap, subst, ◌∙◌, append-nil, arith}
+use Rattle.acredact.proofs.Common.{All, CountsThese, Errors, Failure, Other, OutOfMemory, Readers, Rule, SinkGhosts, StreamError, Streams, Strict, Tells, TellsBytes, TellsSome, Volume, Writers, bytes_left, failure_of_stream, output_bytes}
+use Rattle.std.proofs.Common.{◌≡◌, inl, inr, ℕ, List, [], ◌∷◌, Option, true, false, refl, sym, ap, subst, ◌∙◌, arith}
 use Rattle.std.specs.Prelude.{Bool, ◌&&◌, Result, Ok, Err, IfOk, OnOk, is_some, ◌⊎◌, MatchBool, IfErr}
+use Rattle.std.proofs.lemmas.List.Elements.{All-weaker}
 use Rattle.tool_parts.specs.Names.{IsOneOf}
 use Rattle.acredact.specs.Arguments.{counts_asked, has}
-use Rattle.acredact.specs.Calls.{Call, IsCountsFailure, IsCountsLine, MayFail, TellsCounts, names_asked, reading_by, redactor_by_given, work_by}
+use Rattle.acredact.specs.Calls.{Call, IsCountsFailure, IsCountsLine, IsUnreadLine, MayFail, TellsCounts, WarnsLoaded, names_asked, reading_by, redactor_by_given, work_by}
 use Rattle.acredact.specs.Counts.{zeros}
-use Rattle.acredact.specs.Doubts.{TellsDoubts, TellsWarnings}
+use Rattle.acredact.specs.Doubts.{TellsDoubts}
 use Rattle.acredact.specs.Failures.{IsFailureLine}
-use Rattle.acredact.specs.Files.{AreCut, AreRedacted, FilesOutcome, IsDone, Work, unread_line}
+use Rattle.acredact.specs.Files.{AreCut, AreRedacted, FilesOutcome, Work, unread_line}
 use Rattle.acredact.specs.InPlace.{AreInTurn, BeginInTurn, CalledPlaces, IsFreed, IsPlaceLine, IsPlaced, IsReplaced, IsSettled, IsSparedLine, IsSparedOf, KeepsCall, PlaceOutcome, PlacesOutcome, PlacesStatus, ReachesCall, TellsEnd}
 use Rattle.acredact.specs.Into.{TellsUnread}
 use Rattle.acredact.specs.Loading.{AreLoaded, Loaded, loaded_as}
-use Rattle.acredact.specs.Messages.{output_line}
-use Rattle.acredact.specs.Pieces.{TellsOfPieces}
 use Rattle.acredact.specs.Ready.{CannotPrepare}
 use Rattle.acredact.specs.Secrets.{AreCleanBy}
 use Rattle.acredact.specs.Summaries.{no_volume}
 use Rattle.acredact.specs.Tables.{secrets_of}
 use Rattle.acredact.specs.declared.outputs.Outputs.{Ghosts as Places}
-use Rattle.acredact.proofs.Calls.{may_fail, none_are, some_all, some_behind, some_then, some_told, some_weaker, tells_both, tells_last, tells_same, tells_weaker}
+use Rattle.acredact.proofs.Calls.{loads_so, may_fail, none_are, some_all, some_behind, some_then, some_told, some_weaker, tells_both, tells_last, tells_same, tells_weaker, unread_of}
 use Rattle.acredact.proofs.Done.{both_so, cut_of, redacted_of}
 use Rattle.acredact.proofs.Free.{free_of}
 use Rattle.acredact.proofs.Metering.{VolumeSoFar, all_read, far_unread, far_volume}
 use Rattle.acredact.proofs.Totals.{CountedSoFar, all_counted, far_counted, far_uncounted, totals_told}
-use Rattle.acredact.proofs.Warned.{clean_pieces, doubts_may, may_prepare, warnings_may}
+use Rattle.acredact.proofs.Warned.{clean_pieces, may_prepare, unready_may, warnings_may}
 
 -- what comes of files that were all read, where nothing is told
 pub all_redacted : {R W E : Type 0} {Reads : Readers R} (Writes : Writers W) (K : SinkGhosts E) (work : Work) (result : Result Bool StreamError) (streams streams' : Streams R W E Reads)
@@ -35,18 +34,14 @@ all_redacted Writes K work result streams streams' files is =
     redacted_of work work.names lines _ _ _ _ (none_are lines (sym is_all)) done
 
 -- the lines that are told of one file say why it is spared
-module _ (work : Work) (name : List ℕ) where
-  done_spared : (lines : List (List ℕ)) (left left' held held' : Option (List ℕ)) → IsDone work name lines left left' held held' → All (IsSparedLine name) lines
-  done_spared lines left left' held held' (inl is) = subst (All (IsSparedLine name)) (sym is.0) (All-nil (IsSparedLine name))
-  done_spared lines left left' held held' (inr (inl is)) =
-      subst (All (IsSparedLine name)) (sym is.1) (All-cons (IsSparedLine name) (unread_line name is.0) [] (inl (is.0, refl)) (All-nil (IsSparedLine name)))
-  done_spared lines left left' held held' (inr (inr is)) =
-      subst (All (IsSparedLine name)) (sym is.0) (All-cons (IsSparedLine name) (output_line name) [] (inr (inl refl)) (All-nil (IsSparedLine name)))
+spared_one : (name line : List ℕ) → IsUnreadLine (name ∷ []) line → IsSparedLine name line
+spared_one name line (other, inl same, inl (reason, is)) = inl (reason, rw same at is)
+spared_one name line (other, inl same, inr is) = inr (inl (rw same at is))
+spared_one name line (other, inr none, why) = absurd none
 
-  cut_spared : (lines : List (List ℕ)) (left left' held held' : Option (List ℕ)) → AreCut work (name ∷ []) lines left left' held held' → All (IsSparedLine name) lines
-  cut_spared lines left left' held held' (inl cut) = subst (All (IsSparedLine name)) (sym cut.0) (All-nil (IsSparedLine name))
-  cut_spared lines left left' held held' (inr (first, rest, are, between, meanwhile, is, others)) =
-      subst (All (IsSparedLine name)) (sym (are ∙ ap (λ l. first ++ l) others.0 ∙ append-nil first)) (done_spared first left between held meanwhile is)
+cut_spared : (work : Work) (name : List ℕ) (lines : List (List ℕ)) (left left' held held' : Option (List ℕ)) → AreCut work (name ∷ []) lines left left' held held' → All (IsSparedLine name) lines
+cut_spared work name lines left left' held held' cut =
+    All-weaker (IsUnreadLine (name ∷ [])) (IsSparedLine name) (spared_one name) lines (unread_of work (name ∷ []) lines left left' held held' cut)
 
 -- what was told of one file, before it was settled whether the new one takes its place
 pub record ToldOfOne {E : Type 0} (K : SinkGhosts E) (name : List ℕ) (done : Result Bool StreamError) (old mid : Errors E) : Type 0 where
@@ -98,23 +93,8 @@ module _ {O Z : Type 0} (Writes : Writers Z) (U : Places O Z) (work : Work) wher
   freed_all : work.redactor.covers ≡ true → work.redactor.words ≡ false → AreCleanBy (is_some work.redactor.key) work.redactor.patterns work.redactor.pieces → (names : List (List ℕ)) (outputs outputs' : O)
       → AreInTurn (IsReplaced Writes U work) names outputs outputs' → AreInTurn (IsFreed Writes U work) names outputs outputs'
   freed_all covers every clean [] outputs outputs' all = all
-  freed_all covers every clean (name ∷ names) outputs outputs' (mid, is, others) = (
-    mid,
-    record {
-      named = is.named;
-      file = is.file;
-      file' = is.file';
-      left = is.left;
-      left' = is.left';
-      meanwhile = is.meanwhile;
-      made = is.made;
-      empty = is.empty;
-      redacted = free_of work covers every clean (name ∷ []) is.left is.left' _ _ is.redacted;
-      flushed = is.flushed;
-      puts = is.puts;
-    },
-    freed_all covers every clean names mid outputs' others,
-  )
+  freed_all covers every clean (name ∷ names) outputs outputs' (mid, (file', new, left, left', redacted), others) =
+      (mid, (file', new, left, left', free_of work covers every clean (name ∷ []) left left' _ _ redacted), freed_all covers every clean names mid outputs' others)
 
 module _ {R O Z E : Type 0} {Reads : Readers R} (Writes : Writers Z) (K : SinkGhosts E) (U : Places O Z) (work : Work) where
   -- what comes of a file for which a new one was made and filled, by what becomes of that
@@ -230,12 +210,8 @@ module _ {O Z E : Type 0} (Writes : Writers Z) (K : SinkGhosts E) (U : Places O 
   places_refused failure outputs errors may = (record { may = may; ends = inl refl }, tells_same K (IsPlaceLine call) errors errors refl)
 
   module _ (load : Loaded) (between : Option (List ℕ)) (loaded : AreLoaded (reading_by call) call.given load left between) where
-    abbrev Warned : (errors errors' : Errors E) → Type 0
-    Warned errors errors' = TellsWarnings K (has Strict call.given) call.given load.secrets (redactor_by_given call.given load) errors errors'
-
-    warned_tell : (first warned : Errors E) → Warned first warned → Tells K (IsPlaceLine call) first warned
-    warned_tell first warned (mid, doubts, pieces) =
-        warnings_may K call (IsPlaceLine call) (λ line is. inl (inr (inr (inr is)))) load left between loaded first mid warned doubts pieces
+    warned_tell : (first warned : Errors E) → WarnsLoaded K call load first warned → Tells K (IsPlaceLine call) first warned
+    warned_tell first warned warnings = warnings_may K call (IsPlaceLine call) (λ line is. inl (inr (inr (inr is)))) load left between loaded first warned warnings
 
     -- what is told of files may be told
     files_tell : (old new : Errors E) → Tells K (IsSparedOf (names_asked call.given)) old new → Tells K (IsPlaceLine call) old new
@@ -246,31 +222,28 @@ module _ {O Z E : Type 0} (Writes : Writers Z) (K : SinkGhosts E) (U : Places O 
         → CalledPlaces Writes K U call left (Err failure) outputs outputs old new
     places_unready outputs old new failure cannot told = (
       record { may = may_prepare call load left between loaded ⊥ failure cannot; ends = inl refl },
-      elim told [
-        | inl same ↦ tells_same K (IsPlaceLine call) old new same
-        | inr doubts ↦ doubts_may K call (IsPlaceLine call) (λ line is. inl (inr (inr (inr is)))) load left between loaded (has Strict call.given) refl old new doubts
-      ],
+      unready_may K call (IsPlaceLine call) (λ line is. inl (inr (inr (inr is)))) load left between loaded old new told,
     )
 
     -- there is no memory for the counts
-    pub places_uncounted : (outputs : O) (first warned : Errors E) → Warned first warned → CalledPlaces Writes K U call left (Err (Other OutOfMemory)) outputs outputs first warned
+    pub places_uncounted : (outputs : O) (first warned : Errors E) → WarnsLoaded K call load first warned → CalledPlaces Writes K U call left (Err (Other OutOfMemory)) outputs outputs first warned
     places_uncounted outputs first warned warnings = (record { may = may_fail call ⊥ (Other OutOfMemory) (inl refl); ends = inl refl }, warned_tell first warned warnings)
 
     -- memory ran out at a file
-    pub places_cut : {R : Type 0} {Reads : Readers R} (outputs outputs' : O) (first : Errors E) (warned new : Streams R Z E Reads) (counts counts' : List ℕ) (volume volume' : Volume) → Warned first warned.errors → (error : StreamError)
+    pub places_cut : {R : Type 0} {Reads : Readers R} (outputs outputs' : O) (first : Errors E) (warned new : Streams R Z E Reads) (counts counts' : List ℕ) (volume volume' : Volume) → WarnsLoaded K call load first warned.errors → (error : StreamError)
         → PlacesOutcome Writes U (work_by call load) K (Err error) outputs outputs' warned new counts counts' volume volume' → CalledPlaces Writes K U call left (Err (Other (failure_of_stream error))) outputs outputs' first new.errors
     places_cut outputs outputs' first warned new counts counts' volume volume' warnings error (begun, told, is) =
         let memory : Other (failure_of_stream error) ≡ Other OutOfMemory = ap (λ (e : StreamError). Other (failure_of_stream e)) is in (
           record {
             may = may_fail call ⊥ (Other (failure_of_stream error)) (inl memory);
-            ends = inr (inr (memory, record { load = load; between = between; loaded = loaded; done = begun }));
+            ends = inr (inr (memory, loads_so load between loaded begun));
           },
           tells_both K (IsPlaceLine call) first warned.errors new.errors (warned_tell first warned.errors warnings) (files_tell warned.errors new.errors told),
         )
 
   module _ {R : Type 0} {Reads : Readers R} (rules : List Rule) (key : Option (List ℕ)) (numbers : List ℕ) (volume : Volume) (outputs outputs' : O) (first new : Errors E) (warned mid : Streams R Z E Reads)
       (loaded : AreLoaded (reading_by call) call.given (loaded_as rules key) left (bytes_left warned.input))
-      (warnings : TellsWarnings K (has Strict call.given) call.given (secrets_of rules) (redactor_by_given call.given (loaded_as rules key)) first warned.errors) where
+      (warnings : WarnsLoaded K call (loaded_as rules key) first warned.errors) where
     abbrev Ran : Bool → Type 0
     Ran all = PlacesOutcome Writes U (work_by call (loaded_as rules key)) K (Ok all) outputs outputs' warned mid (zeros (counts_asked call.given) rules) numbers no_volume volume
 
@@ -290,38 +263,30 @@ module _ {O Z E : Type 0} (Writes : Writers Z) (K : SinkGhosts E) (U : Places O 
       places_done true (all, quiet, (ranges, found, counted), read) are_told =
           let load = loaded_as rules key in
           record {
-            replaces = record { load = load; between = bytes_left warned.input; loaded = loaded; done = all };
-            strict = λ asked. record {
-              load = load;
-              between = bytes_left warned.input;
-              loaded = loaded;
-              done = freed_all Writes U (work_by call load) asked.covers asked.all (clean_pieces K (has Strict call.given) (redactor_by_given call.given load) warnings.0 warned.errors asked.strict warnings.2 asked.covers) (names_asked call.given) outputs outputs' all;
-            };
+            all = loads_so load (bytes_left warned.input) loaded all;
+            strict = λ asked. loads_so load (bytes_left warned.input) loaded (freed_all Writes U (work_by call load) asked.covers asked.all
+                (clean_pieces K (has Strict call.given) (redactor_by_given call.given load) warnings.0 warned.errors asked.strict warnings.2 asked.covers) (names_asked call.given) outputs outputs' all);
             quiet = λ none.
                 let same : new ≡ mid.errors = subst (λ (b : Bool). Told b) none are_told in
-                record {
-                  load = load;
-                  between = bytes_left warned.input;
-                  loaded = loaded;
-                  told = (warnings.0, warnings.1, subst (λ (e : Errors E). TellsOfPieces K (has Strict call.given) (redactor_by_given call.given load) warnings.0 e) (sym (same ∙ quiet)) warnings.2);
-                };
-            counts = λ some. record {
-              load = load;
-              between = bytes_left warned.input;
-              loaded = loaded;
-              after = bytes_left mid.input;
-              ranges = ranges;
-              found = found;
-              meanwhile = warned.errors;
-              warned = warnings;
-              volume = volume;
-              read = read;
-              counted = totals_told K call.given rules ranges numbers volume warned.errors new (subst (λ (b : Bool). CountsThese ranges (zeros b rules) numbers) some counted)
-                  (subst (λ (e : Errors E). TellsCounts K call.given rules numbers volume e new) quiet (subst (λ (b : Bool). Told b) some are_told));
-            };
+                loads_so load (bytes_left warned.input) loaded (subst (λ (e : Errors E). WarnsLoaded K call load first e) (sym (same ∙ quiet)) warnings);
+            counts = λ some. loads_so load (bytes_left warned.input) loaded (
+              bytes_left mid.input,
+              (
+                warned.errors,
+                warnings,
+                (
+                  ranges,
+                  found,
+                  volume,
+                  read,
+                  totals_told K call.given rules ranges numbers volume warned.errors new (subst (λ (b : Bool). CountsThese ranges (zeros b rules) numbers) some counted)
+                      (subst (λ (e : Errors E). TellsCounts K call.given rules numbers volume e new) quiet (subst (λ (b : Bool). Told b) some are_told)),
+                ),
+              ),
+            );
           }
       places_done false (placed, partly) are_told = (
-        record { load = loaded_as rules key; between = bytes_left warned.input; loaded = loaded; done = placed },
+        loads_so (loaded_as rules key) (bytes_left warned.input) loaded placed,
         some_behind K (IsPlaceLine call) first warned.errors new warned_told
             (some_then K (IsPlaceLine call) warned.errors mid.errors new (some_weaker K (IsSparedOf (names_asked call.given)) (IsPlaceLine call) warned.errors mid.errors (λ line is. inr is) partly) counts_told),
       )
@@ -336,7 +301,7 @@ module _ {O Z E : Type 0} (Writes : Writers Z) (K : SinkGhosts E) (U : Places O 
                 | inl counts ↦ inr (inr (inl (counts, fails.0)))
                 | inr memory ↦ may_fail call ⊥ failure (inl memory)
               ];
-              ends = inr (inl (record { load = load; between = bytes_left warned.input; loaded = loaded; done = placed }));
+              ends = inr (inl (loads_so load (bytes_left warned.input) loaded placed));
             },
             tells_both K (IsPlaceLine call) first warned.errors new warned_told
                 (tells_both K (IsPlaceLine call) warned.errors mid.errors new (files_tell load (bytes_left warned.input) loaded warned.errors mid.errors tells) counts_told),
@@ -348,41 +313,31 @@ module _ {O Z E : Type 0} (Writes : Writers Z) (K : SinkGhosts E) (U : Places O 
       places_told all (Ok done) run same counts unknown = subst (λ (b : Bool). CalledPlaces Writes K U call left (Ok b) outputs outputs' first new) (sym same) (places_done all run counts)
       places_told all (Err failure) run same counts unknown = places_untold all failure run unknown
 
+  -- each was replaced or spared
+  keeps_of : (outputs outputs' : O) → ReachesCall Writes U call left outputs outputs' → KeepsCall Writes U call left outputs outputs'
+  keeps_of outputs outputs' reaches =
+      inr (loads_so reaches.load reaches.between reaches.loaded (begun_all (IsPlaced Writes U (work_by call reaches.load)) (names_asked call.given) outputs outputs' reaches.is))
+
   -- all were replaced
   pub places_zero : (outputs outputs' : O) (old new : Errors E) → CalledPlaces Writes K U call left (Ok true) outputs outputs' old new → PlacesStatus Writes K U call left 0 outputs outputs' old new
-  places_zero outputs outputs' old new of = record {
-    replaces = λ zero. of.replaces;
-    strict = λ asked zero. of.strict asked;
-    keeps = inr (record {
-      load = of.replaces.load;
-      between = of.replaces.between;
-      loaded = of.replaces.loaded;
-      done = begun_all (IsPlaced Writes U (work_by call of.replaces.load)) (names_asked call.given) outputs outputs'
-          (placed_all Writes U (work_by call of.replaces.load) (names_asked call.given) outputs outputs' of.replaces.done);
-    });
-    quiet = λ none zero. of.quiet none;
-    counts = λ some zero. of.counts some;
-    tells = λ failed. absurd (failed refl);
-    reaches = λ failed. absurd (failed refl);
-  }
+  places_zero outputs outputs' old new of =
+      let all = of.all in
+      record {
+        replaces = λ zero. of;
+        keeps = keeps_of outputs outputs' (loads_so all.load all.between all.loaded (placed_all Writes U (work_by call all.load) (names_asked call.given) outputs outputs' all.is));
+        tells = λ failed. absurd (failed refl);
+        reaches = λ failed. absurd (failed refl);
+      }
 
   -- some were not
   places_two : (outputs outputs' : O) (old new : Errors E) → KeepsCall Writes U call left outputs outputs' → TellsSome K (IsPlaceLine call) old new
       → ReachesCall Writes U call left outputs outputs' ⊎ TellsEnd Writes K U call left outputs outputs' old new → PlacesStatus Writes K U call left 2 outputs outputs' old new
   places_two outputs outputs' old new keeps tells reaches = record {
     replaces = λ (zero : 2 ≡ 0). absurd (omega arith);
-    strict = λ asked (zero : 2 ≡ 0). absurd (omega arith);
     keeps = keeps;
-    quiet = λ none (zero : 2 ≡ 0). absurd (omega arith);
-    counts = λ some (zero : 2 ≡ 0). absurd (omega arith);
     tells = λ failed. tells;
     reaches = λ failed. reaches;
   }
-
-  -- each was replaced or spared
-  keeps_of : (outputs outputs' : O) → ReachesCall Writes U call left outputs outputs' → KeepsCall Writes U call left outputs outputs'
-  keeps_of outputs outputs' reaches =
-      inr (record { load = reaches.load; between = reaches.between; loaded = reaches.loaded; done = begun_all (IsPlaced Writes U (work_by call reaches.load)) (names_asked call.given) outputs outputs' reaches.done })
 
   -- since they were spared
   pub places_partly : (outputs outputs' : O) (old new : Errors E) → CalledPlaces Writes K U call left (Ok false) outputs outputs' old new → PlacesStatus Writes K U call left 2 outputs outputs' old new

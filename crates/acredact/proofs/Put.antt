@@ -1,12 +1,14 @@
 -- What is told where a new file does not take a place.
 use Rattle.acredact.proofs.Common.{Errors, Readers, Reason, SinkGhosts, Streams, Tells, TellsBytes, TellsSome, Writers, bytes_left}
-use Rattle.std.proofs.Common.{◌≡◌, inl, inr, ℕ, zero, suc, List, refl, subst, true, false, arith, ◌≤◌}
+use Rattle.std.proofs.Common.{◌≡◌, inl, inr, ℕ, zero, suc, List, Option, refl, sym, ◌∙◌, subst, true, false, arith, ◌≤◌}
 use Rattle.std.specs.Prelude.{Bool, Some}
 use Rattle.acredact.specs.Sums.{sums_of}
-use Rattle.acredact.specs.Arguments.{AsksAnyCheck, Given, all_asked, counts_asked}
-use Rattle.acredact.specs.Calls.{Call, CountsCall, IsCountsLine, IsLineOf, WarnsCall}
+use Rattle.acredact.specs.Arguments.{AsksAnyCheck, Given, all_asked, counts_asked, has}
+use Rattle.acredact.specs.Calls.{Call, CountsCall, IsCountsLine, IsLineOf, WarnsCall, WarnsLoaded, reading_by}
 use Rattle.acredact.specs.Files.{unread_line}
 use Rattle.acredact.specs.Into.{IsOutputLine}
+use Rattle.acredact.specs.Loading.{AreLoaded, Loaded}
+use Rattle.acredact.specs.declared.options.Word.TheVariants.{Check}
 use Rattle.acredact.proofs.Calls.{some_weaker, tells_both, tells_counts, tells_last, tells_weaker}
 use Rattle.acredact.proofs.Given.{same_given}
 use Rattle.acredact.proofs.Warned.{warnings_may}
@@ -17,15 +19,14 @@ two_of zero bound one none = absurd (none refl)
 two_of (suc zero) bound one none = absurd (one refl)
 two_of (suc (suc status)) bound one none = omega (arith, bound)
 
--- it is 0 or not
-pub by_status : {P : Type 0} (status : ℕ) → (status ≡ 0 → P) → ((status ≡ 0 → ⊥) → P) → P
-by_status zero none some = none refl
-by_status (suc status) none some = some (λ (is : suc status ≡ 0). omega (arith, is))
+-- what is no check is none of either kind
+checks_not : (given : List Given) → AsksAnyCheck given → has Check given ≡ false → ⊥
+checks_not given (inl checks) none = let clash : true ≡ false = sym checks.check ∙ none in cc
+checks_not given (inr checks) none = let clash : true ≡ false = sym checks.check ∙ none in cc
 
--- what is no check is not one
-pub no_check_of : (arguments : List (List ℕ)) (given : List Given) → all_asked arguments ≡ Some given → (AsksAnyCheck given → ⊥)
+pub no_check_of : (arguments : List (List ℕ)) (given : List Given) → all_asked arguments ≡ Some given → has Check given ≡ false
     → ((items : List Given) × (all_asked arguments ≡ Some items) × AsksAnyCheck items) → ⊥
-no_check_of arguments given right none (items, mine, checks) = none (subst AsksAnyCheck (same_given (all_asked arguments) given items right mine) checks)
+no_check_of arguments given right none (items, mine, checks) = checks_not given (subst AsksAnyCheck (same_given (all_asked arguments) given items right mine) checks) none
 
 module _ {E : Type 0} (K : SinkGhosts E) (IsTold : List ℕ → Type 0) (name : List ℕ) where
   -- what `run` tells of a failure
@@ -43,12 +44,14 @@ module _ {R W E : Type 0} {Reads : Readers R} (Writes : Writers W) (K : SinkGhos
       → Tells K (IsLineOf call fails) old.errors new.errors
   done_told quiet counts = by (counts_asked call.given) refl
     where
+      tell : (load : Loaded) (between : Option (List ℕ)) → AreLoaded (reading_by call) call.given load (bytes_left old.input) between → (first mid : Errors E) → WarnsLoaded K call load first mid → Tells K (IsLineOf call fails) first mid
+      tell load between loaded = warnings_may K call (IsLineOf call fails) (λ line is. inr (inr (inr is))) load (bytes_left old.input) between loaded
+
       by : (b : Bool) → counts_asked call.given ≡ b → Tells K (IsLineOf call fails) old.errors new.errors
-      by false none = let warned = quiet none in warnings_may K call (IsLineOf call fails) (λ line is. inr (inr (inr is))) warned.load (bytes_left old.input) warned.between warned.loaded old.errors warned.told.0 new.errors warned.told.1 warned.told.2
+      by false none = let warned = quiet none in tell warned.load warned.between warned.loaded old.errors new.errors warned.is
       by true some =
-          let counted = counts some in
-          let warned = counted.warned in
-          let load = counted.load in
-          tells_both K (IsLineOf call fails) old.errors counted.meanwhile new.errors (warnings_may K call (IsLineOf call fails) (λ line is. inr (inr (inr is))) load (bytes_left old.input) counted.between counted.loaded old.errors warned.0 counted.meanwhile warned.1 warned.2)
-          (tells_weaker K (IsCountsLine call.given load.secrets) (IsLineOf call fails) counted.meanwhile new.errors (λ line is. inr (inr (inl (load, bytes_left old.input, counted.between, counted.loaded, is))))
-          (tells_counts K call.given counted.meanwhile new.errors load.secrets (sums_of load.secrets counted.counted.counts) counted.volume some counted.counted.told))
+          let (redacted, (mid, warned, (ranges, found, volume, read, totals))) = (counts some).is in
+          let load = (counts some).load in
+          tells_both K (IsLineOf call fails) old.errors mid new.errors (tell load (counts some).between (counts some).loaded old.errors mid warned)
+          (tells_weaker K (IsCountsLine call.given load.secrets) (IsLineOf call fails) mid new.errors (λ line is. inr (inr (inl (load, bytes_left old.input, (counts some).between, (counts some).loaded, is))))
+          (tells_counts K call.given mid new.errors load.secrets (sums_of load.secrets totals.counts) volume some totals.told))

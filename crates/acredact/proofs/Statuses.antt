@@ -1,17 +1,16 @@
 -- What the exit status says, by what is answered.
 use Rattle.acredact.proofs.Common.{Errors, Failure, Readers, SinkGhosts, Streams, TellsBytes, TellsSome, Writers, bytes_left}
-use Rattle.std.proofs.Common.{◌≡◌, inl, inr, ℕ, ◌≤◌, List, true, false, refl, sym, ◌∙◌, arith}
+use Rattle.std.proofs.Common.{◌≡◌, inl, inr, ℕ, ◌≤◌, List, true, false, refl, arith}
 use Rattle.std.specs.Prelude.{Bool, ◌⊎◌, ◌&&◌, not, Ok, Err}
-use Rattle.acredact.specs.Arguments.{AsksAnyCheck, AsksForRules, AsksForRulesCheck, AsksToRedact, Given, GivesNoPattern, any_check_asked, checks_asked, gives_rules, has, rules_asked, rules_check_asked}
-use Rattle.acredact.specs.Calls.{Call, CallOutcome, IsLineOf, OutputFails}
+use Rattle.std.proofs.lemmas.Bool.{and_parts}
+use Rattle.acredact.specs.Arguments.{AsksAnyCheck, AsksForRules, AsksForRulesCheck, Given, GivesNoPattern, any_check_asked, checks_asked, gives_rules, has, rules_asked, rules_check_asked}
+use Rattle.acredact.specs.Calls.{BeginsCall, Call, CallOutcome, IsLineOf, OfCall, OutputFails, TellsUpToEnd}
 use Rattle.acredact.specs.Failures.{IsFailureLine}
 use Rattle.acredact.specs.Statuses.{CallStatus, IsIdle}
 use Rattle.acredact.specs.declared.options.Word.TheVariants.{Check, Help, Version}
-use Rattle.acredact.proofs.Calls.{tells_last, tells_same}
-
+use Rattle.acredact.proofs.Calls.{tells_last}
 -- a line alone
-pub tells_one : {E : Type 0} (K : SinkGhosts E) (IsLine : List ℕ → Type 0) (old new : Errors E) (line : List ℕ) → IsLine line → TellsBytes K old new line → TellsSome K IsLine old new
-tells_one K IsLine old new line is told = tells_last K IsLine old old new line (tells_same K IsLine old old refl) is told
+pub use Rattle.tool_parts.proofs.Lines.{some-one as tells_one}
 
 -- what a call does not ask for
 pub unruled : (given : List Given) → rules_asked given ≡ false → AsksForRules given → ⊥
@@ -22,35 +21,19 @@ unruled_check given none asks = let clash : true ≡ false = rw (asks.check, ask
 
 -- either is a check
 pub check_is_any : (given : List Given) → checks_asked given ≡ true → any_check_asked given ≡ true
-check_is_any given is = by (any_check_asked given) (not (gives_rules given)) is
-  where
-    by : (first second : Bool) → (first && second) ≡ true → first ≡ true
-    by true second is = refl
-    by false second is = absurd (cc)
+check_is_any given is = (and_parts (any_check_asked given) (not (gives_rules given)) is).0
 
 pub rules_check_is_any : (given : List Given) → rules_check_asked given ≡ true → any_check_asked given ≡ true
-rules_check_is_any given is = by (has Check given) (gives_rules given) (not (has Help given)) (not (has Version given)) is
-  where
-    by : (check rules help version : Bool) → (check && rules && help && version) ≡ true → (check && help && version) ≡ true
-    by true true help version is = is
-    by true false help version is = absurd (cc)
-    by false rules help version is = absurd (cc)
+rules_check_is_any given is =
+    let (front, no_version) = and_parts (has Check given && gives_rules given && not (has Help given)) (not (has Version given)) is in
+    let (asked, no_help) = and_parts (has Check given && gives_rules given) (not (has Help given)) front in
+    rw ((and_parts (has Check given) (gives_rules given) asked).0, no_help, no_version) refl
 
 any_part : (check help version : Bool) → (check && not help && not version) ≡ true → (help ≡ false) × (version ≡ false) × (check ≡ true)
 any_part true false false is = (refl, refl, refl)
 any_part true false true is = absurd (cc)
 any_part true true version is = absurd (cc)
 any_part false help version is = absurd (cc)
-
--- a redaction is none
-pub any_redaction : (given : List Given) → AsksAnyCheck given → AsksToRedact given → ⊥
-any_redaction given (inl checks) asks = let clash : true ≡ false = sym checks.check ∙ asks.no_check in cc
-any_redaction given (inr checks) asks = let clash : true ≡ false = sym checks.check ∙ asks.no_check in cc
-
--- nor is a redaction by rules
-pub any_ruled : (given : List Given) → AsksAnyCheck given → AsksForRules given → ⊥
-any_ruled given (inl checks) asks = let clash : true ≡ false = sym checks.check ∙ asks.no_check in cc
-any_ruled given (inr checks) asks = let clash : true ≡ false = sym checks.check ∙ asks.no_check in cc
 
 -- a call checks or does not
 by_checks : {P : Type 0} (given : List Given) → (AsksAnyCheck given → P) → (any_check_asked given ≡ false → P) → P
@@ -92,40 +75,32 @@ module _ {R : Type 0} {Reads : Readers R} {W E : Type 0} (Writes : Writers W) (K
   status_done some of = record {
     patternless = λ none. absurd (some none);
     idle = λ none. absurd (some none);
-    redacts = λ is. of.redacts refl;
+    done = λ is. of.comes;
     begins = of.begins;
-    strict = λ asked is. of.strict asked refl;
-    quiet = λ none is. of.quiet none refl;
-    counts = λ counted is. of.counts counted refl;
     tells = λ (is : 0 ≡ 2). absurd (omega arith);
     numbers = (new.errors, of.numbers, inl refl);
   }
 
-  -- some file was not read to its end
-  pub status_partly : (GivesNoPattern call.given → IsIdle old new) → CallOutcome Writes K call (bytes_left old.input) (bytes_left new.input) (Ok false) old.output new.output old.errors new.errors → CallStatus Writes K call 2 old new
-  status_partly idle of = record {
+  -- it was not, and that is told
+  status_two : (GivesNoPattern call.given → IsIdle old new) → OfCall (BeginsCall Writes) call old new → TellsSome K (IsLineOf call (OutputFails old.output new.output)) old.errors new.errors
+      → TellsUpToEnd K call (OutputFails old.output new.output) (bytes_left old.input) (bytes_left new.input) old.errors new.errors → CallStatus Writes K call 2 old new
+  status_two idle begins tells numbers = record {
     patternless = λ none. refl;
     idle = idle;
-    redacts = λ (is : 2 ≡ 0). absurd (omega arith);
-    begins = of.begins;
-    strict = λ asked (is : 2 ≡ 0). absurd (omega arith);
-    quiet = λ none (is : 2 ≡ 0). absurd (omega arith);
-    counts = λ counted (is : 2 ≡ 0). absurd (omega arith);
-    tells = λ is. of.partly refl;
-    numbers = (new.errors, of.numbers, inl refl);
+    done = λ (is : 2 ≡ 0). absurd (omega arith);
+    begins = begins;
+    tells = λ two. tells;
+    numbers = numbers;
   }
 
-  -- the call ended early, and that is told
-  pub status_failed : (GivesNoPattern call.given → IsIdle old new) → (failure : Failure) (errors : Errors E) (line : List ℕ)
-      → CallOutcome Writes K call (bytes_left old.input) (bytes_left new.input) (Err failure) old.output new.output old.errors new.errors → IsFailureLine failure line → TellsBytes K new.errors errors line → CallStatus Writes K call 2 old (record new { errors = errors })
-  status_failed idle failure errors line of is told = record {
-    patternless = λ none. refl;
-    idle = λ none. record { unread = (idle none).unread; unwritten = (idle none).unwritten };
-    redacts = λ (is : 2 ≡ 0). absurd (omega arith);
-    begins = of.begins;
-    strict = λ asked (is : 2 ≡ 0). absurd (omega arith);
-    quiet = λ none (is : 2 ≡ 0). absurd (omega arith);
-    counts = λ counted (is : 2 ≡ 0). absurd (omega arith);
-    tells = λ two. tells_last K (IsLineOf call (OutputFails old.output new.output)) _ _ _ line of.told (inr (inl (failure, of.fails, is))) told;
-    numbers = (new.errors, of.numbers, inr (failure, of.fails, line, is, told));
-  }
+  -- some file was not read to its end
+  pub status_partly : (GivesNoPattern call.given → IsIdle old new) → CallOutcome Writes K call (bytes_left old.input) (bytes_left new.input) (Ok false) old.output new.output old.errors new.errors → CallStatus Writes K call 2 old new
+  status_partly idle of = status_two idle of.begins of.comes (new.errors, of.numbers, inl refl)
+
+-- the call ended early, and that is told
+pub status_failed : {R : Type 0} {Reads : Readers R} {W E : Type 0} (Writes : Writers W) (K : SinkGhosts E) (call : Call) (old new : Streams R W E Reads) → (GivesNoPattern call.given → IsIdle old new) → (failure : Failure) (errors : Errors E) (line : List ℕ)
+    → CallOutcome Writes K call (bytes_left old.input) (bytes_left new.input) (Err failure) old.output new.output old.errors new.errors → IsFailureLine failure line → TellsBytes K new.errors errors line → CallStatus Writes K call 2 old (record new { errors = errors })
+status_failed Writes K call old new idle failure errors line of is told =
+    let (may, before) = of.comes in
+    status_two Writes K call old (record new { errors = errors }) (λ none. record { unread = (idle none).unread; unwritten = (idle none).unwritten }) of.begins
+    (tells_last K (IsLineOf call (OutputFails old.output new.output)) _ _ _ line before (inr (inl (failure, may, is))) told) (new.errors, of.numbers, inr (failure, may, line, is, told))

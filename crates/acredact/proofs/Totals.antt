@@ -60,8 +60,7 @@ module _ (work : Work) (names : List (List ℕ)) (old : Option (List ℕ)) (coun
   far_counted name rest mid new before after far (first, has, counted) = record {
     ranges = far.ranges ++ first;
     counted = counts_then far.ranges first counts before after far.counted counted;
-    found = λ more left rests. subst (λ (l : List Occurrence). NamesHaveRanges work names l old left) (sym (append_assoc far.ranges first more))
-        (far.found (first ++ more) left (first, more, refl, new, has, rests));
+    found = λ more left rests. rw (append_assoc far.ranges first more) (far.found (first ++ more) left (first, more, refl, new, has, rests));
   }
 
   -- behind all

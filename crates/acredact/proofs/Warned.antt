@@ -1,10 +1,9 @@
 -- What comes of a call whose pieces were looked at.
 use Rattle.acredact.proofs.Common.{All, All-cons, All-nil, Errors, Failure, FromWrite, IsMember, Patterns, Readers, SinkGhosts, Streams, Strict, Tells, Writers, bytes_left}
 use Rattle.std.proofs.Common.{◌≡◌, inl, inr, ℕ, List, [], ◌∷◌, Option, true, false, refl, sym, subst, ◌∙◌}
-use Rattle.std.specs.Prelude.{◌⊎◌, Bool, None, Some, Result, Err, Vec, is_some, option_map}
-use Rattle.std.proofs.lemmas.Result.{on_err_weaker}
+use Rattle.std.specs.Prelude.{◌⊎◌, Bool, None, Some, Result, Ok, Err, Vec, is_some, option_map}
 use Rattle.acredact.specs.Arguments.{Given, has}
-use Rattle.acredact.specs.Calls.{Call, CallOutcome, IsLineOf, IsWarningLine, IsWordLine, MayFail, OutputFails, RestOutcome, TellsAnyNumbers, TellsNumbers, keyed_as, names_asked, reading_by, redactor_by_given, work_by}
+use Rattle.acredact.specs.Calls.{Call, CallOutcome, CalledAs, IsLineOf, IsWarningLine, IsWordLine, MayFail, OutputFails, RedactsEach, RestDone, RestOutcome, TellsAnyNumbers, TellsNumbers, WarnsLoaded, keyed_as, names_asked, reading_by, redactor_by_given, work_by}
 use Rattle.acredact.specs.Doubts.{TellsDoubts, all_doubt_lines}
 use Rattle.acredact.specs.Loading.{AreLoaded, Loaded, key_in}
 use Rattle.acredact.specs.Messages.{unclean_line}
@@ -13,7 +12,7 @@ use Rattle.acredact.specs.Ready.{CannotPrepare}
 use Rattle.acredact.specs.Secrets.{AreCleanBy, Redactor, key_of_cover}
 use Rattle.acredact.specs.Tables.{Secret}
 use Rattle.acredact.specs.declared.clean.Unclean.{Unclean}
-use Rattle.acredact.proofs.Calls.{call_ended, may_fail, some_behind, tells_both, tells_line, tells_same}
+use Rattle.acredact.proofs.Calls.{call_ended, loads_so, may_fail, some_behind, tells_both, tells_line, tells_same}
 use Rattle.acredact.proofs.Free.{free_of}
 
 -- where they are to be refused, nothing is told and they are clean
@@ -32,10 +31,7 @@ judged_by p false ignore_case key pieces (Some unclean) (clash, judged) = absurd
 pub judged_as : {Z : Type 0} (p : Patterns) (covers covers' named ignore_case : Bool) (key : Option (Vec ℕ Z)) (pieces pieces' : List (List ℕ)) (answer : Option Unclean) → covers' ≡ covers → named ≡ is_some key → pieces' ≡ pieces
     → IsJudgedBy p covers' named pieces' answer → IsJudgedBy p covers (is_some (key_of_cover covers (option_map (keyed_as ignore_case) (key_in key)))) pieces answer
 judged_as p covers covers' named ignore_case key pieces pieces' answer by is same judged =
-    judged_by p covers ignore_case key pieces answer
-    (subst (λ (b : Bool). IsJudgedBy p b (is_some key) pieces answer) by
-    (subst (λ (b : Bool). IsJudgedBy p covers' b pieces answer) is
-    (subst (λ (l : List (List ℕ)). IsJudgedBy p covers' named l answer) same judged)))
+    judged_by p covers ignore_case key pieces answer (rw (by, is, same) at judged)
 
 -- what holds of each member holds of all
 pub all_members : (Is : List ℕ → Type 0) (lines : List (List ℕ)) → ((line : List ℕ) → IsMember lines line → Is line) → All Is lines
@@ -51,37 +47,36 @@ doubts_tell K IsLine false given secrets old new may doubts = record { told = al
 -- it may be told, where such a line may be
 module _ {E : Type 0} (K : SinkGhosts E) (call : Call) (IsLine : List ℕ → Type 0) (may : (line : List ℕ) → IsWarningLine call line → IsLine line)
     (load : Loaded) (left between : Option (List ℕ)) (loaded : AreLoaded (reading_by call) call.given load left between) where
-  pub doubts_may : (strict : Bool) → has Strict call.given ≡ strict → (old new : Errors E) → TellsDoubts K strict call.given load.secrets old new → Tells K IsLine old new
-  doubts_may strict is old new doubts = doubts_tell K IsLine strict call.given load.secrets old new (λ lax line member. may line (is ∙ lax, load, left, between, loaded, inl member)) doubts
+  doubts_may : (strict : Bool) → has Strict call.given ≡ strict → (old new : Errors E) → TellsDoubts K strict call.given load.secrets old new → Tells K IsLine old new
+  doubts_may strict is old new doubts = doubts_tell K IsLine strict call.given load.secrets old new (λ lax line member. may line (is ∙ lax, (load, left, between, loaded, inl member))) doubts
+
+  pub unready_may : (old new : Errors E) → (new ≡ old) ⊎ TellsDoubts K (has Strict call.given) call.given load.secrets old new → Tells K IsLine old new
+  unready_may old new (inl same) = tells_same K IsLine old new same
+  unready_may old new (inr doubts) = doubts_may (has Strict call.given) refl old new doubts
 
   -- and so may what is told of pieces
   pieces_may : (old new : Errors E) → TellsOfPieces K (has Strict call.given) (redactor_by_given call.given load) old new → Tells K IsLine old new
   pieces_may old new (None, judged, same) = tells_same K IsLine old new same
   pieces_may old new (Some unclean, judged, (lax, told)) =
-      tells_line K IsLine old new (unclean_line unclean) (may (unclean_line unclean) (lax, load, left, between, loaded, inr (unclean, judged.0, judged.1, refl))) told
+      tells_line K IsLine old new (unclean_line unclean) (may (unclean_line unclean) (lax, (load, left, between, loaded, inr (unclean, judged.0, judged.1, refl)))) told
 
   -- one after the other
-  pub warnings_may : (old mid new : Errors E) → TellsDoubts K (has Strict call.given) call.given load.secrets old mid → TellsOfPieces K (has Strict call.given) (redactor_by_given call.given load) mid new → Tells K IsLine old new
-  warnings_may old mid new doubts pieces = tells_both K IsLine old mid new (doubts_may (has Strict call.given) refl old mid doubts) (pieces_may mid new pieces)
+  pub warnings_may : (old new : Errors E) → WarnsLoaded K call load old new → Tells K IsLine old new
+  warnings_may old new (mid, doubts, pieces) = tells_both K IsLine old mid new (doubts_may (has Strict call.given) refl old mid doubts) (pieces_may mid new pieces)
 
 -- these lines hold no number that was counted
 module _ {E : Type 0} (K : SinkGhosts E) (call : Call) (load : Loaded) (left between : Option (List ℕ)) (loaded : AreLoaded (reading_by call) call.given load left between) where
   -- numbers behind them
   numbers_warned : (left' : Option (List ℕ)) (old mid new : Errors E) → Tells K (IsWordLine call) old mid → Tells K (IsWordLine call) mid new ⊎ TellsNumbers K call load.secrets between left' mid new → TellsAnyNumbers K call left left' old new
   numbers_warned left' old mid new first (inl words) = inl (tells_both K (IsWordLine call) old mid new first words)
-  numbers_warned left' old mid new first (inr numbers) = inr (record {
-    load = load;
-    between = between;
-    loaded = loaded;
-    is = record {
-      counts = numbers.counts;
-      volume = numbers.volume;
-      bounded = numbers.bounded;
-      meanwhile = numbers.meanwhile;
-      words = tells_both K (IsWordLine call) old mid numbers.meanwhile first numbers.words;
-      told = numbers.told;
-    };
-  })
+  numbers_warned left' old mid new first (inr numbers) = inr (loads_so load between loaded (record {
+    counts = numbers.counts;
+    volume = numbers.volume;
+    bounded = numbers.bounded;
+    meanwhile = numbers.meanwhile;
+    words = tells_both K (IsWordLine call) old mid numbers.meanwhile first numbers.words;
+    told = numbers.told;
+  }))
 
 -- why nothing is ready may end a call, and where it is a piece it is to be refused
 module _ (call : Call) (load : Loaded) (left between : Option (List ℕ)) (loaded : AreLoaded (reading_by call) call.given load left between) where
@@ -93,56 +88,36 @@ module _ (call : Call) (load : Loaded) (left between : Option (List ℕ)) (loade
 
 module _ {W E : Type 0} (Writes : Writers W) (K : SinkGhosts E) (call : Call) (left : Option (List ℕ)) (load : Loaded) where
   -- what comes of the files comes behind what is told of patterns of lists and of the pieces
-  pub call_warned : {R : Type 0} {Reads : Readers R} (old new : Streams R W E Reads) (first mid : Errors E) (result : Result Bool Failure) → AreLoaded (reading_by call) call.given load left (bytes_left old.input)
-      → TellsDoubts K (has Strict call.given) call.given load.secrets first mid → TellsOfPieces K (has Strict call.given) (redactor_by_given call.given load) mid old.errors → RestOutcome Writes K call load result old new
-      → CallOutcome Writes K call left (bytes_left new.input) result old.output new.output first new.errors
-  call_warned old new first mid result loaded doubts told rest =
-      let warns = λ (fails : Type 0). warnings_may K call (IsLineOf call fails) (λ line is. inr (inr (inr is))) load left (bytes_left old.input) loaded first mid old.errors doubts told in
+  pub call_warned : {R : Type 0} {Reads : Readers R} (old new : Streams R W E Reads) (first : Errors E) (result : Result Bool Failure) → AreLoaded (reading_by call) call.given load left (bytes_left old.input)
+      → WarnsLoaded K call load first old.errors → RestOutcome Writes K call load result old new → CallOutcome Writes K call left (bytes_left new.input) result old.output new.output first new.errors
+  call_warned old new first result loaded warned rest =
       record {
-        redacts = λ is. record { load = load; between = bytes_left old.input; loaded = loaded; is = rest.redacts is };
-        strict = λ asked is. record {
-          load = load;
-          between = bytes_left old.input;
-          loaded = loaded;
-          is = free_of (work_by call load) asked.covers asked.all (clean_pieces K (has Strict call.given) (redactor_by_given call.given load) mid old.errors asked.strict told asked.covers) (names_asked call.given) _ _ _ _ (rest.redacts is);
-        };
+        comes = by result rest.comes;
         begins = elim rest.begins [
           | inl same ↦ inl same
-          | inr cut ↦ inr (record { load = load; between = bytes_left old.input; loaded = loaded; is = cut })
+          | inr cut ↦ inr (loads_so load (bytes_left old.input) loaded cut)
         ];
-        quiet = λ none is. record {
-          load = load;
-          between = bytes_left old.input;
-          loaded = loaded;
-          told = (mid, doubts, subst (λ (e : Errors E). TellsOfPieces K (has Strict call.given) (redactor_by_given call.given load) mid e) (sym (rest.quiet none is)) told);
-        };
-        counts = λ some is. let (ranges, found, volume, read, counted) = rest.counts some is in record {
-          load = load;
-          between = bytes_left old.input;
-          loaded = loaded;
-          redacted = rest.redacts is;
-          ranges = ranges;
-          found = found;
-          meanwhile = old.errors;
-          warned = (mid, doubts, told);
-          volume = volume;
-          read = read;
-          counted = counted;
-        };
-        partly = λ is. some_behind K (IsLineOf call (OutputFails old.output new.output)) first old.errors new.errors (warns _) (rest.partly is);
-        fails = rest.fails;
-        numbers = numbers_warned K call load left (bytes_left old.input) loaded (bytes_left new.input) first old.errors new.errors (warnings_may K call (IsWordLine call) (λ line is. inr is) load left (bytes_left old.input) loaded first mid old.errors doubts told) rest.numbers;
-        told = on_err_weaker result (λ later. tells_both K (IsLineOf call (OutputFails old.output new.output)) first old.errors new.errors (warns _) later) rest.told;
+        numbers = numbers_warned K call load left (bytes_left old.input) loaded (bytes_left new.input) first old.errors new.errors (tell (IsWordLine call) (λ line is. inr is)) rest.numbers;
       }
+    where
+      tell : (IsLine : List ℕ → Type 0) → ((line : List ℕ) → IsWarningLine call line → IsLine line) → Tells K IsLine first old.errors
+      tell IsLine may = warnings_may K call IsLine may load left (bytes_left old.input) loaded first old.errors warned
+
+      by : (result : Result Bool Failure) → CalledAs K call (RestDone Writes K call load old new) (OutputFails old.output new.output) result old.errors new.errors
+          → CalledAs K call (RedactsEach Writes K call left (bytes_left new.input) old.output new.output first new.errors) (OutputFails old.output new.output) result first new.errors
+      by (Ok true) done = record {
+        all = loads_so load (bytes_left old.input) loaded done.redacts;
+        strict = λ asked. loads_so load (bytes_left old.input) loaded (free_of (work_by call load) asked.covers asked.all
+            (clean_pieces K (has Strict call.given) (redactor_by_given call.given load) warned.0 old.errors asked.strict warned.2 asked.covers) (names_asked call.given) _ _ _ _ done.redacts);
+        quiet = λ none. loads_so load (bytes_left old.input) loaded (subst (λ (e : Errors E). WarnsLoaded K call load first e) (sym (done.quiet none)) warned);
+        counts = λ some. loads_so load (bytes_left old.input) loaded (done.redacts, (old.errors, warned, done.counts some));
+      }
+      by (Ok false) some = some_behind K (IsLineOf call _) first old.errors new.errors (tell _ (λ line is. inr (inr (inr is)))) some
+      by (Err failure) (may, later) = (may, tells_both K (IsLineOf call _) first old.errors new.errors (tell _ (λ line is. inr (inr (inr is)))) later)
 
   -- nothing is ready
   pub call_unready : (left' : Option (List ℕ)) (failure : Failure) (output : FromWrite W) (errors errors' : Errors E) → AreLoaded (reading_by call) call.given load left left' → CannotPrepare call.given load failure
       → (errors' ≡ errors) ⊎ TellsDoubts K (has Strict call.given) call.given load.secrets errors errors' → CallOutcome Writes K call left left' (Err failure) output output errors errors'
   call_unready left' failure output errors errors' loaded cannot told =
-      call_ended Writes K call left left' failure output errors errors' (may_prepare call load left left' loaded _ failure cannot) (lines _ (λ line is. inr (inr (inr is)))) (lines _ (λ line is. inr is))
-    where
-      lines : (IsLine : List ℕ → Type 0) → ((line : List ℕ) → IsWarningLine call line → IsLine line) → Tells K IsLine errors errors'
-      lines IsLine may = elim told [
-        | inl same ↦ tells_same K IsLine errors errors' same
-        | inr doubts ↦ doubts_may K call IsLine may load left left' loaded (has Strict call.given) refl errors errors' doubts
-      ]
+      call_ended Writes K call left left' failure output errors errors' (may_prepare call load left left' loaded _ failure cannot)
+      (unready_may K call _ (λ line is. inr (inr (inr is))) load left left' loaded errors errors' told) (unready_may K call _ (λ line is. inr is) load left left' loaded errors errors' told)

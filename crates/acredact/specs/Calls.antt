@@ -1,6 +1,6 @@
 -- What a call does, by what its arguments ask for, and what it tells.
 use Rattle.acredact.specs.Common.{Errors, FromWrite, IsMember, Occurrence, OtherFailure, OutOfMemory, Patterns, Readers, Reason, SinkGhosts, Tells, TellsBytes, TellsSome, Writers, bytes_left, counted, output_bytes}
-use Rattle.std.specs.Prelude.{◌≡◌, ◌⊎◌, ℕ, ◌<◌, ◌≤◌, slice_index, ◌||◌, Bool, MatchBool, true, false, List, [], ◌∷◌, Option, Result, Ok, Err, IfErr, OnErr, codes, is_some, length, map, option_map, unwrap_or, if◌then◌else◌}
+use Rattle.std.specs.Prelude.{◌≡◌, ◌⊎◌, ℕ, ◌<◌, ◌≤◌, slice_index, ◌||◌, Bool, MatchBool, true, false, List, [], ◌∷◌, Option, Result, Ok, Err, codes, is_some, length, map, option_map, unwrap_or, if◌then◌else◌}
 use Rattle.aho_core.specs.declared.error.BuildError.{BuildError}
 use Rattle.tool_parts.specs.Building.{RefusesPatterns}
 use Rattle.tool_parts.specs.Names.{IsOneOf, or_input}
@@ -126,22 +126,24 @@ IsStrictFailure strict r failure =
     (unclean : Unclean) × (failure ≡ UncleanPiece unclean) × (strict ≡ true) × (r.covers ≡ true)
     × IsUncleanBy (is_some r.key) r.patterns r.pieces unclean
 
--- those of the patterns that were loaded
+-- this is so of what was loaded
+abbrev pub IsOfLoaded : Call → (Loaded → Type 0) → Type 0
+IsOfLoaded call Is = (load : Loaded) × (left : Option (List ℕ)) × (between : Option (List ℕ))
+    × AreLoaded (reading_by call) call.given load left between × Is load
+
+-- such a piece is refused of the patterns that were loaded
 abbrev pub IsUncleanFailure : Call → Failure → Type 0
-IsUncleanFailure call failure = (load : Loaded) × (left : Option (List ℕ)) × (between : Option (List ℕ))
-    × AreLoaded (reading_by call) call.given load left between
-    × IsStrictFailure (has Strict call.given) (redactor_by_given call.given load) failure
+IsUncleanFailure call failure =
+    IsOfLoaded call (λ load. IsStrictFailure (has Strict call.given) (redactor_by_given call.given load) failure)
 
 -- a pattern of a list that may be meant otherwise is refused
 abbrev pub IsDoubtedCall : Call → Failure → Type 0
-IsDoubtedCall call failure = (load : Loaded) × (left : Option (List ℕ)) × (between : Option (List ℕ))
-    × AreLoaded (reading_by call) call.given load left between × IsDoubtFailure (has Strict call.given) call.given load.secrets failure
+IsDoubtedCall call failure = IsOfLoaded call (λ load. IsDoubtFailure (has Strict call.given) call.given load.secrets failure)
 
 -- those that were loaded are refused
 abbrev pub IsRefusedCall : Call → Failure → Type 0
-IsRefusedCall call failure = (load : Loaded) × (left : Option (List ℕ)) × (between : Option (List ℕ))
-    × AreLoaded (reading_by call) call.given load left between
-    × IsBuildRefusal (patterns_by_given call.given (patterns_in load.secrets)) failure
+IsRefusedCall call failure =
+    IsOfLoaded call (λ load. IsBuildRefusal (patterns_by_given call.given (patterns_in load.secrets)) failure)
 
 -- one of the options or the key cannot be loaded, or memory runs out
 abbrev pub CannotLoadCall : Call → Failure → Type 0
@@ -198,8 +200,7 @@ IsCountsLine given secrets line = (counts_asked given ≡ true) × IsCountsText 
 
 -- of the patterns that were loaded
 abbrev pub CountsLoaded : Call → List ℕ → Type 0
-CountsLoaded call line = (load : Loaded) × (left : Option (List ℕ)) × (between : Option (List ℕ))
-    × AreLoaded (reading_by call) call.given load left between × IsCountsLine call.given load.secrets line
+CountsLoaded call line = IsOfLoaded call (λ load. IsCountsLine call.given load.secrets line)
 
 -- why the counts are not told
 abbrev pub IsCountsFailure : Bool → Failure → Type 0
@@ -213,8 +214,8 @@ Warns given secrets r line =
 
 -- one of the patterns that were loaded, where such a one is not refused
 abbrev pub IsWarningLine : Call → List ℕ → Type 0
-IsWarningLine call line = (has Strict call.given ≡ false) × (load : Loaded) × (left : Option (List ℕ)) × (between : Option (List ℕ))
-    × AreLoaded (reading_by call) call.given load left between × Warns call.given load.secrets (redactor_by_given call.given load) line
+IsWarningLine call line = (has Strict call.given ≡ false)
+    × IsOfLoaded call (λ load. Warns call.given load.secrets (redactor_by_given call.given load) line)
 
 -- a line without a number that was counted: of a file that is not read to its end, or such a warning
 abbrev pub IsWordLine : Call → List ℕ → Type 0
@@ -274,12 +275,42 @@ pub record LoadsCall (call : Call) (left : Option (List ℕ)) (Is : Loaded → (
   pub loaded : AreLoaded (reading_by call) call.given load left between
   pub is : Is load between
 
--- of all patterns that were loaded the pieces are told, where they are not clean
-pub record WarnsCall {E : Type 0} (K : SinkGhosts E) (call : Call) (left : Option (List ℕ)) (errors errors' : Errors E) : Type 0 where
-  pub load : Loaded
-  pub between : Option (List ℕ)
-  pub loaded : AreLoaded (reading_by call) call.given load left between
-  pub told : TellsWarnings K (has Strict call.given) call.given load.secrets (redactor_by_given call.given load) errors errors'
+module _ {E : Type 0} (K : SinkGhosts E) (call : Call) where
+  module _ (load : Loaded) where
+    -- of patterns that were loaded the pieces are told, where they are not clean
+    abbrev pub WarnsLoaded : (errors errors' : Errors E) → Type 0
+    WarnsLoaded errors errors' =
+        TellsWarnings K (has Strict call.given) call.given load.secrets (redactor_by_given call.given load) errors errors'
+
+    -- of the files it is told how often the text of each pattern was written: of how many ranges of all texts it took the place
+    abbrev pub CountsRest : (left left' : Option (List ℕ)) → (errors errors' : Errors E) → Type 0
+    CountsRest left left' errors errors' =
+        (ranges : List Occurrence) × NamesHaveRanges (work_by call load) (names_asked call.given) ranges left left'
+        × (volume : Volume) × ReadsVolume call.holds (names_asked call.given) no_volume volume left left'
+        × TellsTotals K call.given load.secrets ranges volume errors errors'
+
+    -- behind what is told of the pieces
+    abbrev pub WarnsAndCounts : (left left' : Option (List ℕ)) → (errors errors' : Errors E) → Type 0
+    WarnsAndCounts left left' errors errors' =
+        (meanwhile : Errors E) × WarnsLoaded errors meanwhile × CountsRest left left' meanwhile errors'
+
+  -- the pieces of all patterns that were loaded are told
+  abbrev pub WarnsCall : (left : Option (List ℕ)) → (errors errors' : Errors E) → Type 0
+  WarnsCall left errors errors' = LoadsCall call left (λ load between. WarnsLoaded load errors errors')
+
+  -- all was done, and no pattern is left where pieces that are not clean are refused; nothing is told but of pieces, and counts
+  pub record DoneCall (left : Option (List ℕ)) (Done Free Counts : Type 0) (errors errors' : Errors E) : Type 0 where
+    pub all : Done
+    pub strict : RefusesUnclean call.given → Free
+    pub quiet : counts_asked call.given ≡ false → WarnsCall left errors errors'
+    pub counts : counts_asked call.given ≡ true → Counts
+
+  -- what comes of a call: this, where all was done; or some file was not read to its end, or a failure ended it, and that is told
+  abbrev pub CalledAs : (Done fails : Type 0) → Result Bool Failure → (errors errors' : Errors E) → Type 0
+  CalledAs Done fails (Ok true) errors errors' = Done
+  CalledAs Done fails (Ok false) errors errors' = TellsSome K (IsLineOf call fails) errors errors'
+  CalledAs Done fails (Err failure) errors errors' =
+      MayFail call fails failure × Tells K (IsLineOf call fails) errors errors'
 
 -- such lines are told, and behind them such numbers
 pub record TellsNumbers {E : Type 0} (K : SinkGhosts E) (call : Call) (secrets : List Secret) (left left' : Option (List ℕ)) (errors errors' : Errors E) : Type 0 where
@@ -323,31 +354,21 @@ module _ {W : Type 0} (Writes : Writers W) where
         × AreCut (work_by call load) (names_asked call.given) lines between left' (output_bytes Writes output) (output_bytes Writes output'))
 
   module _ {E : Type 0} (K : SinkGhosts E) (call : Call) (left left' : Option (List ℕ)) where
-    -- all files were redacted. What pieces are not clean is told, and then how often the text of each pattern was written: of how many ranges
-    -- of the texts of all files it took the place
-    pub record CountsCall (output output' : FromWrite W) (errors errors' : Errors E) : Type 0 where
-      pub load : Loaded
-      pub between : Option (List ℕ)
-      pub loaded : AreLoaded (reading_by call) call.given load left between
-      pub redacted : AreRedacted (work_by call load) (names_asked call.given) between left' (output_bytes Writes output) (output_bytes Writes output')
-      pub ranges : List Occurrence
-      pub found : NamesHaveRanges (work_by call load) (names_asked call.given) ranges between left'
-      pub meanwhile : Errors E
-      pub warned : TellsWarnings K (has Strict call.given) call.given load.secrets (redactor_by_given call.given load) errors meanwhile
-      pub volume : Volume
-      pub read : ReadsVolume call.holds (names_asked call.given) no_volume volume between left'
-      pub counted : TellsTotals K call.given load.secrets ranges volume meanwhile errors'
+    -- all files were redacted. What pieces are not clean is told, and then the counts
+    abbrev pub CountsCall : (output output' : FromWrite W) → (errors errors' : Errors E) → Type 0
+    CountsCall output output' errors errors' = LoadsCall call left (λ load between.
+        AreRedacted (work_by call load) (names_asked call.given) between left' (output_bytes Writes output) (output_bytes Writes output')
+        × WarnsAndCounts K call load between left' errors errors')
+
+    -- all that is so where all files were redacted
+    abbrev pub RedactsEach : (output output' : FromWrite W) → (errors errors' : Errors E) → Type 0
+    RedactsEach output output' errors errors' = DoneCall K call left (RedactsCall call left left' output output')
+        (LeavesNone call left left' output output') (CountsCall output output' errors errors') errors errors'
 
     -- what comes of a call
     pub record CallOutcome (result : Result Bool Failure) (output output' : FromWrite W) (errors errors' : Errors E) : Type 0 where
-      pub redacts : result ≡ Ok true → RedactsCall call left left' output output'
-      pub strict : RefusesUnclean call.given → result ≡ Ok true → LeavesNone call left left' output output'
+      pub comes : CalledAs K call (RedactsEach output output' errors errors') (OutputFails output output') result errors errors'
       pub begins : BeginsCall call left left' output output'
-      pub quiet : counts_asked call.given ≡ false → result ≡ Ok true → WarnsCall K call left errors errors'
-      pub counts : counts_asked call.given ≡ true → result ≡ Ok true → CountsCall output output' errors errors'
-      pub partly : result ≡ Ok false → TellsSome K (IsLineOf call (OutputFails output output')) errors errors'
-      pub fails : IfErr result (MayFail call (OutputFails output output'))
-      pub told : OnErr result (Tells K (IsLineOf call (OutputFails output output')) errors errors')
       pub numbers : TellsAnyNumbers K call left left' errors errors'
 
 -- what holds of a call from one state of the streams to another
@@ -358,26 +379,19 @@ OfCall Is call streams streams' = Is call (bytes_left streams.input) (bytes_left
 
 module _ {R : Type 0} {Reads : Readers R} {W : Type 0} (Writes : Writers W) where
   module _ {E : Type 0} (K : SinkGhosts E) where
-    -- of the files of a call it is told how often the text of each pattern was written
-    abbrev pub CountsRest : Call → Loaded → (streams streams' : Streams R W E Reads) → Type 0
-    CountsRest call load streams streams' = (ranges : List Occurrence)
-        × NamesHaveRanges (work_by call load) (names_asked call.given) ranges (bytes_left streams.input) (bytes_left streams'.input)
-        × (volume : Volume) × ReadsVolume call.holds (names_asked call.given) no_volume volume (bytes_left streams.input) (bytes_left streams'.input)
-        × TellsTotals K call.given load.secrets ranges volume streams.errors streams'.errors
-
-    -- what comes of the files of a call whose patterns were loaded and whose pieces were looked at
-    pub record RestOutcome (call : Call) (load : Loaded) (result : Result Bool Failure) (streams streams' : Streams R W E Reads) : Type 0 where
-      pub redacts : result ≡ Ok true
-          → AreRedacted (work_by call load) (names_asked call.given) (bytes_left streams.input) (bytes_left streams'.input)
+    -- the files of a call whose patterns were loaded and whose pieces were looked at were redacted
+    pub record RestDone (call : Call) (load : Loaded) (streams streams' : Streams R W E Reads) : Type 0 where
+      pub redacts : AreRedacted (work_by call load) (names_asked call.given) (bytes_left streams.input) (bytes_left streams'.input)
           (output_bytes Writes streams.output) (output_bytes Writes streams'.output)
+      pub quiet : counts_asked call.given ≡ false → streams'.errors ≡ streams.errors
+      pub counts : counts_asked call.given ≡ true
+          → CountsRest K call load (bytes_left streams.input) (bytes_left streams'.input) streams.errors streams'.errors
+
+    -- what comes of them
+    pub record RestOutcome (call : Call) (load : Loaded) (result : Result Bool Failure) (streams streams' : Streams R W E Reads) : Type 0 where
+      pub comes : CalledAs K call (RestDone call load streams streams') (OutputFails streams.output streams'.output) result streams.errors streams'.errors
       pub begins : (streams'.output ≡ streams.output) ⊎ ((lines : List (List ℕ)) × AreCut (work_by call load) (names_asked call.given) lines (bytes_left streams.input) (bytes_left streams'.input)
           (output_bytes Writes streams.output) (output_bytes Writes streams'.output))
-      pub quiet : counts_asked call.given ≡ false → result ≡ Ok true → streams'.errors ≡ streams.errors
-      pub counts : counts_asked call.given ≡ true → result ≡ Ok true → CountsRest call load streams streams'
-      pub partly : result ≡ Ok false
-          → TellsSome K (IsLineOf call (OutputFails streams.output streams'.output)) streams.errors streams'.errors
-      pub fails : IfErr result (MayFail call (OutputFails streams.output streams'.output))
-      pub told : OnErr result (Tells K (IsLineOf call (OutputFails streams.output streams'.output)) streams.errors streams'.errors)
       pub numbers : Tells K (IsWordLine call) streams.errors streams'.errors
           ⊎ TellsNumbers K call load.secrets (bytes_left streams.input) (bytes_left streams'.input) streams.errors streams'.errors
 
@@ -387,6 +401,11 @@ module _ {R : Type 0} {Reads : Readers R} {W : Type 0} (Writes : Writers W) wher
     ReadyOutcome D folder given load result streams streams' = (left : Option (List ℕ))
         → AreLoaded (reading_by (call_of D folder given)) given load left (bytes_left streams.input)
         → RestOutcome (call_of D folder given) load result streams streams'
+
+    -- all that is so where all files of a call were redacted, from one state of the streams to another
+    abbrev pub RedactsWhole : Call → (streams streams' : Streams R W E Reads) → Type 0
+    RedactsWhole call streams streams' =
+        RedactsEach Writes K call (bytes_left streams.input) (bytes_left streams'.input) streams.output streams'.output streams.errors streams'.errors
 
     -- and of a call whose patterns are to be loaded
     abbrev pub AskedOutcome : {F X : Type 0} → Folders F X → F → List Given

@@ -1,20 +1,17 @@
 -- What becomes of files that are replaced in place: of each a new one is filled, and takes its place where all was done.
-use Rattle.acredact.specs.Common.{Errors, FromWrite, Memory, Occurrence, OutOfMemory, Readers, Reason, SinkGhosts, StreamError, Tells, TellsBytes, TellsSome, Writers, bytes_left, is_input, output_bytes}
-use Rattle.std.specs.Prelude.{◌≡◌, ◌⊎◌, ℕ, Bool, true, false, List, [], ◌∷◌, Option, Result, Ok, Err, IfSome}
+use Rattle.acredact.specs.Common.{Errors, FromWrite, Memory, OutOfMemory, Readers, Reason, SinkGhosts, StreamError, Tells, TellsBytes, TellsSome, Writers, bytes_left, is_input, output_bytes}
+use Rattle.std.specs.Prelude.{◌≡◌, ◌⊎◌, ℕ, Bool, true, false, List, [], ◌∷◌, Option, Result, Ok, Err}
 use Rattle.tool_parts.specs.Names.{IsOneOf}
-use Rattle.acredact.specs.Arguments.{Given, RefusesUnclean, all_given, counts_asked, has}
-use Rattle.acredact.specs.Calls.{Call, IsLineOf, MayFail, TellsTotals, WarnsCall, call_of, names_asked, reading_by, redactor_by_given, work_by}
-use Rattle.acredact.specs.Doubts.{TellsWarnings}
+use Rattle.acredact.specs.Arguments.{Given, all_given}
+use Rattle.acredact.specs.Calls.{Call, DoneCall, IsLineOf, LoadsCall, MayFail, WarnsAndCounts, WarnsLoaded, call_of, names_asked, reading_by, work_by}
 use Rattle.acredact.specs.Failures.{IsFailureLine}
 use Rattle.acredact.specs.Files.{AreFree, AreRedacted, Work, unread_line}
-use Rattle.acredact.specs.Into.{IsKept, IsSpared, TellsUnread}
+use Rattle.acredact.specs.Into.{IsKept, IsSpared, TakesPlace, TellsUnread}
 use Rattle.acredact.specs.Loading.{AreLoaded, Loaded}
 use Rattle.acredact.specs.Messages.{no_file_line, output_line}
-use Rattle.acredact.specs.Summaries.{no_volume}
-use Rattle.acredact.specs.Totals.{CountsOfName, CountsOfNames, NamesHaveRanges}
+use Rattle.acredact.specs.Totals.{CountsOfName, CountsOfNames}
 use Rattle.acredact.specs.Volumes.{ReadsVolume}
 use Rattle.acredact.specs.declared.options.Item.{Item}
-use Rattle.acredact.specs.declared.options.Word.TheVariants.{Strict}
 use Rattle.acredact.specs.declared.failure.Failure.{Failure}
 use Rattle.acredact.specs.declared.failure.Failure.TheVariants.{Other}
 use Rattle.acredact.specs.declared.folder.Folder.{Ghosts as Folders}
@@ -42,27 +39,18 @@ BeginInTurn {O} Is (name ∷ names) outputs outputs' =
     (outputs' ≡ outputs) ⊎ ((meanwhile : O) × Is name outputs meanwhile × BeginInTurn Is names meanwhile outputs')
 
 module _ {O Z : Type 0} (Writes : Writers Z) (U : Places O Z) (work : Work) where
-  -- a new file was made, which was empty, this of the file of this name was written into it and flushed, and then it took its place
-  pub record IsFilled (Written : (left left' held held' : Option (List ℕ)) → Type 0) (name : List ℕ) (outputs outputs' : O) : Type 0 where
-    pub named : is_input name ≡ false
-    pub file : FromWrite Z
-    pub file' : FromWrite Z
-    pub left : Option (List ℕ)
-    pub left' : Option (List ℕ)
-    pub meanwhile : O
-    pub made : U.makes outputs meanwhile name (output_bytes Writes file)
-    pub empty : IfSome (output_bytes Writes file) (λ held. held ≡ [])
-    pub redacted : Written left left' (output_bytes Writes file) (output_bytes Writes file')
-    pub flushed : file'.device.flushed ≡ true
-    pub puts : U.puts meanwhile outputs' name (output_bytes Writes file')
+  -- a new file took the place of the one of this name, and this of that was written into it
+  abbrev pub IsFilledBy : (Written : (left left' held held' : Option (List ℕ)) → Type 0) → List ℕ → (outputs outputs' : O) → Type 0
+  IsFilledBy Written name outputs outputs' = (file' : FromWrite Z) × (new : TakesPlace Writes U name outputs outputs' file')
+      × (left : Option (List ℕ)) × (left' : Option (List ℕ)) × Written left left' (output_bytes Writes new.file) (output_bytes Writes file')
 
   -- all of it was redacted
   abbrev pub IsReplaced : List ℕ → (outputs outputs' : O) → Type 0
-  IsReplaced name outputs outputs' = IsFilled (AreRedacted work (name ∷ [])) name outputs outputs'
+  IsReplaced name outputs outputs' = IsFilledBy (AreRedacted work (name ∷ [])) name outputs outputs'
 
   -- and no pattern occurs in that
   abbrev pub IsFreed : List ℕ → (outputs outputs' : O) → Type 0
-  IsFreed name outputs outputs' = IsFilled (AreFree work (name ∷ [])) name outputs outputs'
+  IsFreed name outputs outputs' = IsFilledBy (AreFree work (name ∷ [])) name outputs outputs'
 
   -- it was replaced or spared
   abbrev pub IsPlaced : List ℕ → (outputs outputs' : O) → Type 0
@@ -109,12 +97,9 @@ abbrev pub IsPlaceLine : Call → List ℕ → Type 0
 IsPlaceLine call line = IsLineOf call ⊥ line ⊎ IsSparedOf (names_asked call.given) line
 
 module _ {O Z : Type 0} (Writes : Writers Z) (U : Places O Z) (call : Call) (left : Option (List ℕ)) (outputs outputs' : O) where
-  -- the patterns and the key were loaded, of the input with so many bytes left, and then this became of the files
-  pub record LoadsAndPlaces (Done : Work → List (List ℕ) → Type 0) : Type 0 where
-    pub load : Loaded
-    pub between : Option (List ℕ)
-    pub loaded : AreLoaded (reading_by call) call.given load left between
-    pub done : Done (work_by call load) (names_asked call.given)
+  -- the patterns and the key were loaded, and then this became of the files
+  abbrev pub LoadsAndPlaces : (Done : Work → List (List ℕ) → Type 0) → Type 0
+  LoadsAndPlaces Done = LoadsCall call left (λ load between. Done (work_by call load) (names_asked call.given))
 
   -- each was replaced
   abbrev pub ReplacesCall : Type 0
@@ -143,26 +128,15 @@ module _ {O Z : Type 0} (Writes : Writers Z) (U : Places O Z) (call : Call) (lef
 
 module _ {E : Type 0} (K : SinkGhosts E) (call : Call) (left : Option (List ℕ)) where
   -- each file was replaced, and it is told whole how often the text of each pattern was written
-  pub record CountsPlaces (errors errors' : Errors E) : Type 0 where
-    pub load : Loaded
-    pub between : Option (List ℕ)
-    pub loaded : AreLoaded (reading_by call) call.given load left between
-    pub after : Option (List ℕ)
-    pub ranges : List Occurrence
-    pub found : NamesHaveRanges (work_by call load) (names_asked call.given) ranges between after
-    pub meanwhile : Errors E
-    pub warned : TellsWarnings K (has Strict call.given) call.given load.secrets (redactor_by_given call.given load) errors meanwhile
-    pub volume : Volume
-    pub read : ReadsVolume call.holds (names_asked call.given) no_volume volume between after
-    pub counted : TellsTotals K call.given load.secrets ranges volume meanwhile errors'
+  abbrev pub CountsPlaces : (errors errors' : Errors E) → Type 0
+  CountsPlaces errors errors' = LoadsCall call left (λ load between.
+      (after : Option (List ℕ)) × WarnsAndCounts K call load between after errors errors')
 
 module _ {O Z E : Type 0} (Writes : Writers Z) (K : SinkGhosts E) (U : Places O Z) (call : Call) (left : Option (List ℕ)) where
   -- each file was replaced, and nothing is told but of pieces, and counts
-  pub record PlacesEach (outputs outputs' : O) (errors errors' : Errors E) : Type 0 where
-    pub replaces : ReplacesCall Writes U call left outputs outputs'
-    pub strict : RefusesUnclean call.given → FreesCall Writes U call left outputs outputs'
-    pub quiet : counts_asked call.given ≡ false → WarnsCall K call left errors errors'
-    pub counts : counts_asked call.given ≡ true → CountsPlaces K call left errors errors'
+  abbrev pub PlacesEach : (outputs outputs' : O) → (errors errors' : Errors E) → Type 0
+  PlacesEach outputs outputs' errors errors' = DoneCall K call left (ReplacesCall Writes U call left outputs outputs')
+      (FreesCall Writes U call left outputs outputs') (CountsPlaces K call left errors errors') errors errors'
 
   -- what comes of a call: that, or each file was replaced or spared, or a failure ended it
   abbrev pub CalledPlaces : Result Bool Failure → (outputs outputs' : O) → (errors errors' : Errors E) → Type 0
@@ -182,53 +156,26 @@ module _ {O Z E : Type 0} (Writes : Writers Z) (K : SinkGhosts E) (U : Places O 
     pub is_line : IsFailureLine failure line
     pub last : TellsBytes K meanwhile errors' line
 
-  -- what its exit status says: where it is 0, each file was replaced, and nothing is told but of pieces, and counts. Else something is told,
-  -- and each file was replaced or spared, but where the call ended
+  -- what its exit status says
   pub record PlacesStatus (status : ℕ) (outputs outputs' : O) (errors errors' : Errors E) : Type 0 where
-    pub replaces : status ≡ 0 → ReplacesCall Writes U call left outputs outputs'
-    pub strict : RefusesUnclean call.given → status ≡ 0 → FreesCall Writes U call left outputs outputs'
+    -- where it is 0, each file was replaced, and nothing is told but of pieces, and counts
+    pub replaces : status ≡ 0 → PlacesEach outputs outputs' errors errors'
+    -- whatever it is, each file was replaced by its whole redaction, or is as it was
     pub keeps : KeepsCall Writes U call left outputs outputs'
-    pub quiet : counts_asked call.given ≡ false → status ≡ 0 → WarnsCall K call left errors errors'
-    pub counts : counts_asked call.given ≡ true → status ≡ 0 → CountsPlaces K call left errors errors'
+    -- else lines say why, and each file was come to, but where the call ended
     pub tells : (status ≡ 0 → ⊥) → TellsSome K (IsPlaceLine call) errors errors'
     pub reaches : (status ≡ 0 → ⊥) → ReachesCall Writes U call left outputs outputs' ⊎ TellsEnd outputs outputs' errors errors'
 
-module _ {F X O Z E R : Type 0} {Reads : Readers R} (Writes : Writers Z) (D : Folders F X) (U : Places O Z) (folder : F) where
-  -- what these options and files ask for is replaced, where the status is 0
-  abbrev pub PlacesAll : ℕ → Streams R Z E Reads → (outputs outputs' : O) → List Given → Type 0
-  PlacesAll status streams outputs outputs' given = status ≡ 0
-      → ReplacesCall Writes U (call_of D folder given) (bytes_left streams.input) outputs outputs'
-
-  -- and no pattern is left, where that is asked for
-  abbrev pub FreesAll : ℕ → Streams R Z E Reads → (outputs outputs' : O) → List Given → Type 0
-  FreesAll status streams outputs outputs' given =
-      RefusesUnclean given → status ≡ 0 → FreesCall Writes U (call_of D folder given) (bytes_left streams.input) outputs outputs'
-
-  -- or each is kept
-  abbrev pub KeepsEach : Streams R Z E Reads → (outputs outputs' : O) → List Given → Type 0
-  KeepsEach streams outputs outputs' given = KeepsCall Writes U (call_of D folder given) (bytes_left streams.input) outputs outputs'
-
-module _ {F X Z E R : Type 0} {Reads : Readers R} (K : SinkGhosts E) (D : Folders F X) (folder : F) (status : ℕ) (streams streams' : Streams R Z E Reads) (given : List Given) where
-  -- of files that were replaced the counts that are asked for are told
-  abbrev pub PlacesCount : Type 0
-  PlacesCount = counts_asked given ≡ true → status ≡ 0
-      → CountsPlaces K (call_of D folder given) (bytes_left streams.input) streams.errors streams'.errors
-
-  -- of others something is told
-  abbrev pub PlacesTell : Type 0
-  PlacesTell = (status ≡ 0 → ⊥) → TellsSome K (IsPlaceLine (call_of D folder given)) streams.errors streams'.errors
-
 module _ {F X O Z E R : Type 0} {Reads : Readers R} (Writes : Writers Z) (K : SinkGhosts E) (D : Folders F X) (U : Places O Z) (folder : F) where
-  -- each file was come to then, or it is told why the call ended
-  abbrev pub PlacesReach : ℕ → (outputs outputs' : O) → (streams streams' : Streams R Z E Reads) → List Given → Type 0
-  PlacesReach status outputs outputs' streams streams' given = (status ≡ 0 → ⊥)
-      → ReachesCall Writes U (call_of D folder given) (bytes_left streams.input) outputs outputs'
-      ⊎ TellsEnd Writes K U (call_of D folder given) (bytes_left streams.input) outputs outputs' streams.errors streams'.errors
+  -- what the status says of the call that asks for this
+  abbrev pub PlacesAsked : ℕ → (outputs outputs' : O) → (streams streams' : Streams R Z E Reads) → List Given → Type 0
+  PlacesAsked status outputs outputs' streams streams' given =
+      PlacesStatus Writes K U (call_of D folder given) (bytes_left streams.input) status outputs outputs' streams.errors streams'.errors
 
   -- what comes of a call whose patterns and key were loaded, behind what is told of them
   abbrev pub ReadyPlaces : List Item → Loaded → Result Bool Failure
       → (outputs outputs' : O) → (streams streams' : Streams R Z E Reads) → Type 0
   ReadyPlaces items load result outputs outputs' streams streams' = (left : Option (List ℕ)) (first : Errors E)
       → AreLoaded (reading_by (call_of D folder (all_given items))) (all_given items) load left (bytes_left streams.input)
-      → TellsWarnings K (has Strict (all_given items)) (all_given items) load.secrets (redactor_by_given (all_given items) load) first streams.errors
+      → WarnsLoaded K (call_of D folder (all_given items)) load first streams.errors
       → CalledPlaces Writes K U (call_of D folder (all_given items)) left result outputs outputs' first streams'.errors

@@ -1,8 +1,8 @@
 -- What the exit status of a call says.
 use Rattle.acredact.specs.Common.{Readers, SinkGhosts, TellsSome, Writers, bytes_left}
-use Rattle.std.specs.Prelude.{◌≡◌, ℕ, true, false, List, if◌then◌else◌}
-use Rattle.acredact.specs.Arguments.{AsksToRedact, Given, GivesNoPattern, RefusesUnclean, counts_asked}
-use Rattle.acredact.specs.Calls.{BeginsCall, Call, CountsCall, IsLineOf, LeavesNone, OfCall, OutputFails, RedactsCall, TellsUpToEnd, WarnsCall, call_of}
+use Rattle.std.specs.Prelude.{◌≡◌, ℕ, List, if◌then◌else◌}
+use Rattle.acredact.specs.Arguments.{AsksToRedact, Given, GivesNoPattern}
+use Rattle.acredact.specs.Calls.{BeginsCall, Call, IsLineOf, OfCall, OutputFails, RedactsWhole, TellsUpToEnd, call_of}
 use Rattle.acredact.specs.Checks.{SaysOfCheck}
 use Rattle.acredact.specs.Ruled.{SaysOfRules}
 use Rattle.acredact.specs.RuledChecks.{SaysOfRulesCheck}
@@ -23,12 +23,8 @@ pub record IsIdle {R W E : Type 0} {Reads : Readers R} (streams streams' : Strea
 pub record CallStatus {R W E : Type 0} {Reads : Readers R} (Writes : Writers W) (K : SinkGhosts E) (call : Call) (status : ℕ) (streams streams' : Streams R W E Reads) : Type 0 where
   pub patternless : GivesNoPattern call.given → status ≡ 2
   pub idle : GivesNoPattern call.given → IsIdle streams streams'
-  pub redacts : status ≡ 0 → OfCall (RedactsCall Writes) call streams streams'
+  pub done : status ≡ 0 → RedactsWhole Writes K call streams streams'
   pub begins : OfCall (BeginsCall Writes) call streams streams'
-  pub strict : RefusesUnclean call.given → status ≡ 0 → OfCall (LeavesNone Writes) call streams streams'
-  pub quiet : counts_asked call.given ≡ false → status ≡ 0 → WarnsCall K call (bytes_left streams.input) streams.errors streams'.errors
-  pub counts : counts_asked call.given ≡ true → status ≡ 0
-      → CountsCall Writes K call (bytes_left streams.input) (bytes_left streams'.input) streams.output streams'.output streams.errors streams'.errors
   pub tells : status ≡ 2 → TellsSome K (IsLineOf call (OutputFails streams.output streams'.output)) streams.errors streams'.errors
   pub numbers : TellsUpToEnd K call (OutputFails streams.output streams'.output) (bytes_left streams.input) (bytes_left streams'.input) streams.errors streams'.errors
 

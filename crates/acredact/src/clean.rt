@@ -131,30 +131,13 @@ fn flaw_of_rule<A: Automaton>(
 {
     match &rule.replacement {
         Some(own) => flaw_of(automaton, judge, marks, own.as_slice()),
-        None => flaw_unless(automaton, judge, marks, usual),
+        None => {
+            if usual {
+                return None;
+            }
+            flaw_of(automaton, judge, marks, judge.usual)
+        }
     }
-}
-
-/// Why the usual piece is not clean, where it is not known to be.
-fn flaw_unless<A: Automaton>(
-    automaton: &A,
-    judge: &Judge<'_, '_>,
-    marks: &[bool],
-    usual: bool,
-) -> Option<Flaw>
-    requires of { (p : Patterns) × A.is_of automaton.now p }
-    requires starts { IsOk (A.start automaton.now No) }
-    requires sized { length marks.now ≡ 256 }
-    requires marked { WordsAreMarked judge.now.ignore_case (pieces_of judge.now.words.now) marks.now }
-    requires usual { IfOf A.Automaton automaton.now (λ p. IsJudgeOf judge.now p →
-        usual ≡ true → IsCleanPiece p judge.now.usual.now) }
-    ensures flaw { IfOf A.Automaton automaton.now (λ p. IsJudgeOf judge.now p →
-        IsFlawOrNone p judge.now.usual.now result) }
-{
-    if usual {
-        return None;
-    }
-    flaw_of(automaton, judge, marks, judge.usual)
 }
 
 /// Why a piece is not clean, where it is not.

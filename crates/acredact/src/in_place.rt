@@ -1,7 +1,6 @@
 //! A call that replaces each file: a new one is written beside it, and takes its place where all of it was redacted.
 
-ghost use Rattle.std.specs.Prelude.{◌≡◌, ◌≤◌, Ok, true};
-ghost use Rattle.aho_core.specs.declared.error.stream.StreamError.TheVariants.{Memory};
+ghost use Rattle.std.specs.Prelude.{◌≡◌, ◌≤◌, Ok, false, true};
 ghost use Rattle.chromesquid.specs.Searcher.{ForItsPatterns};
 ghost use Rattle.tool_parts.specs.Arguments.{texts};
 ghost use Rattle.tool_parts.specs.Streams.{bytes_left};
@@ -9,8 +8,8 @@ ghost use Rattle.tool_parts.specs.Telling.{TellsSome};
 ghost use Rattle.acredact.specs.Arguments.{AreMistaken, IfAsked, all_given};
 ghost use Rattle.acredact.specs.Calls.{IsWrongLine, call_of};
 ghost use Rattle.acredact.specs.Files.{CanDo, redactor_of, work_of};
-ghost use Rattle.acredact.specs.InPlace.{CalledPlaces, FreesAll, IsSettled, KeepsEach, PlaceOutcome, PlacesAll, PlacesCount, PlacesOutcome, PlacesReach, PlacesStatus, PlacesTell, ReadyPlaces};
-ghost use Rattle.acredact.specs.Into.{WarnsAll};
+ghost use Rattle.acredact.specs.InPlace.{CalledPlaces, IsSettled, PlaceOutcome, PlacesAsked, PlacesOutcome, PlacesStatus, ReadyPlaces};
+ghost use Rattle.acredact.specs.Into.{TellsUnread};
 ghost use Rattle.acredact.specs.Loading.{AreSome, loaded_in};
 ghost use Rattle.acredact.specs.Ready.{IsReadyBy};
 
@@ -47,27 +46,12 @@ pub fn replace_in_place<F: Folder, O: Outputs, I: Read, E: Sink>(
     ensures tells_wrong { AreMistaken arguments.now → TellsSome E.Sink
         (IsWrongLine (texts arguments.now)) streams.old.errors streams.new.errors }
 
-    // Where the status is 0, each file was redacted into a new one, which was flushed and took its place.
-    ensures replaces { IfAsked arguments.now (PlacesAll O.File.Write F.Folder O.Outputs
-        folder.now result streams.old outputs.old outputs.new) }
-
-    // Whatever it is, each file was replaced by its whole redaction, or is as it was.
-    ensures keeps { IfAsked arguments.now (KeepsEach O.File.Write F.Folder O.Outputs
-        folder.now streams.old outputs.old outputs.new) }
-
-    // Where pieces that are not clean are refused, no pattern occurs in a file.
-    ensures strict { IfAsked arguments.now (FreesAll O.File.Write F.Folder O.Outputs
-        folder.now result streams.old outputs.old outputs.new) }
-
-    // Where all were replaced nothing is told but a piece of a cover that is not clean, and the counts that are asked for.
-    ensures quiet { IfAsked arguments.now (WarnsAll E.Sink F.Folder folder.now result streams.old streams.new) }
-    ensures counts { IfAsked arguments.now (PlacesCount E.Sink F.Folder folder.now result streams.old streams.new) }
-
-    // Else lines say why, and hold nothing of a file's content or of a pattern.
-    ensures tells { IfAsked arguments.now (PlacesTell E.Sink F.Folder folder.now result streams.old streams.new) }
-
-    // Each file was come to then, but where a failure ended the call before the first, or memory ran out.
-    ensures reaches { IfAsked arguments.now (PlacesReach O.File.Write E.Sink F.Folder O.Outputs
+    // Where the status is 0, each file was redacted into a new one, which was flushed and took its place, and where pieces that are not
+    // clean are refused, no pattern occurs in one. Nothing is told but a piece of a cover that is not clean, and the counts that are
+    // asked for. Else lines say why, and hold nothing of a file's content or of a pattern. Each file was come to then, but where a
+    // failure ended the call before the first, or memory ran out. Whatever the status is, each file was replaced by its whole
+    // redaction, or is as it was.
+    ensures says { IfAsked arguments.now (PlacesAsked O.File.Write E.Sink F.Folder O.Outputs
         folder.now result outputs.old outputs.new streams.old streams.new) }
     ensures bound { result ≤ 2 }
 {
@@ -227,7 +211,7 @@ fn settle<O: Outputs, I: Read, E: Sink>(
         Err(error) => {
             let reason = outputs.unwritten();
             outputs.remove(name);
-            if is_memory(error) {
+            if matches!(error, StreamError::Memory) {
                 return Err(StreamError::Memory);
             }
             tell_unread(&mut streams.errors, name, reason);
@@ -236,15 +220,8 @@ fn settle<O: Outputs, I: Read, E: Sink>(
     }
 }
 
-/// Whether memory ran out.
-fn is_memory(error: StreamError) -> bool
-    ensures memory { result ≡ true → error ≡ Memory }
-{
-    matches!(error, StreamError::Memory)
-}
-
 /// Has the new file take the place of the one of this name, and answers whether it did. Else it is told and removed.
-fn put_new<O: Outputs, I: Read, E: Sink>(
+pub fn put_new<O: Outputs, I: Read, E: Sink>(
     outputs: &mut O,
     name: &str,
     streams: &mut Streams<'_, I, O::File, E>,
@@ -252,6 +229,8 @@ fn put_new<O: Outputs, I: Read, E: Sink>(
     ensures settled { IsSettled O.File.Write E.Sink O.Outputs name.now
         (Ok true) (Ok result) outputs.old outputs.new streams.old streams.new }
     ensures input { streams.new.input ≡ streams.old.input }
+    ensures same { result ≡ true → streams.new ≡ streams.old }
+    ensures told { result ≡ false → TellsUnread E.Sink name.now streams.old.errors streams.new.errors }
 {
     match outputs.put(name, &streams.output) {
         Ok(()) => true,

@@ -1,13 +1,13 @@
 //! A call whose output is a new file, which takes the place of another where all was done.
 
 ghost use Rattle.std.specs.Prelude.{◌≡◌};
-ghost use Rattle.tool_parts.specs.Streams.{output_bytes};
 ghost use Rattle.acredact.specs.Arguments.{IfAsked, IfRuled};
-ghost use Rattle.acredact.specs.Into.{IsKept, IsSpared, RuledTellsUnput, TellsNone, TellsUnread, WritesAll, WritesAllByRules};
+ghost use Rattle.acredact.specs.Into.{IsSpared, RuledTellsUnput, TellsNone, WritesAll, WritesAllByRules};
 
 use crate::failure::{FAILED, tell_no_output, tell_unread};
 use crate::files::is_input;
 use crate::folder::Folder;
+use crate::in_place::put_new;
 use crate::outputs::Outputs;
 use crate::run::run;
 use crate::streams::Streams;
@@ -46,50 +46,19 @@ pub fn make_and_run<F: Folder, O: Outputs, I: Read, E: Sink>(
         Ok(file) => {
             streams.output = FromWrite::new(file);
             let done = run(alloc, arguments, folder, streams);
-            finish(outputs, name, done, streams)
+            if done != 0 {
+                outputs.remove(name);
+                return done;
+            }
+            if put_new(outputs, name, streams) {
+                0
+            } else {
+                FAILED
+            }
         }
         Err(reason) => {
             tell_unread(&mut streams.errors, name, reason);
             FAILED
         }
     }
-}
-
-/// Has the new file take the place of the one of this name, where all was done, and else removes it. Answers the exit status.
-fn finish<O: Outputs, I: Read, E: Sink>(
-    outputs: &mut O,
-    name: &str,
-    done: u8,
-    streams: &mut Streams<'_, I, O::File, E>,
-) -> u8
-    ensures done { result ≡ 0 → done ≡ 0 }
-    ensures same { result ≡ 0 → streams.new ≡ streams.old }
-    ensures puts { result ≡ 0 → O.puts outputs.old outputs.new name.now
-        (output_bytes O.File.Write streams.old.output) }
-    ensures kept { (result ≡ 0 → ⊥) → IsKept O.Outputs name.now outputs.old outputs.new }
-    // What was not done was told, and nothing is told twice.
-    ensures failed { (done ≡ 0 → ⊥) → (streams.new ≡ streams.old) × (result ≡ done) }
-    ensures output { streams.new.output ≡ streams.old.output }
-    ensures told { done ≡ 0 → (result ≡ 0 → ⊥)
-        → TellsUnread E.Sink name.now streams.old.errors streams.new.errors }
-{
-    if done != 0 {
-        return discard(outputs, name, done);
-    }
-    match outputs.put(name, &streams.output) {
-        Ok(()) => 0,
-        Err(reason) => {
-            tell_unread(&mut streams.errors, name, reason);
-            discard(outputs, name, FAILED)
-        }
-    }
-}
-
-/// Removes the new file that was to take the place of the one of this name, and answers the exit status.
-fn discard<O: Outputs>(outputs: &mut O, name: &str, status: u8) -> u8
-    ensures removed { O.removes outputs.old outputs.new name.now }
-    ensures status { result ≡ status }
-{
-    outputs.remove(name);
-    status
 }

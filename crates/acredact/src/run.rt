@@ -112,8 +112,8 @@ pub fn run<F: Folder, I: Read, W: Write, E: Sink>(
     // or 1 nothing is told but of patterns of lists that may be meant otherwise, and where these are refused there is none.
     ensures unchecked { IfChecking arguments.now (λ given. result ≡ 2
         → TellsUncheckedAsked F.Folder folder.now given streams.old streams.new E.Sink) }
-    ensures check_quiet { IfChecking arguments.now (λ given. result < 2
-        → TellsListsAsked F.Folder folder.now given streams.old streams.new E.Sink) }
+    ensures check_quiet { IfChecking arguments.now (λ all. result < 2
+        → TellsListsAsked F.Folder folder.now all streams.old streams.new E.Sink) }
     ensures check_unwritten { IfChecking arguments.now (λ _.
         streams.new.output ≡ streams.old.output) }
 
@@ -397,7 +397,7 @@ fn put_asked_summary(
     Ok(())
 }
 
-/// Redacts all files by the walk backward that the searcher holds, if it holds one, and else forward.
+/// Redacts all files by the walk backward that the searcher holds, if it holds one, and else by the automaton that it holds.
 pub fn redact_by<F: Folder, I: Read, W: Write, E: Sink>(
     searcher: &AhoCorasick,
     job: &Job<'_, '_, F>,
@@ -409,24 +409,9 @@ pub fn redact_by<F: Folder, I: Read, W: Write, E: Sink>(
     ensures done { ForItsPatterns searcher.now (DoesByPatterns W.Write E.Sink F.Folder job.now
         result streams.old streams.new counts.old counts.new volume.old volume.new) }
 {
-    match searcher.backward() {
-        Some(back) => back_files(searcher.itself(), back, job, counts, volume, streams),
-        None => redact_forward(searcher, job, counts, volume, streams),
+    if let Some(back) = searcher.backward() {
+        return back_files(searcher.itself(), back, job, counts, volume, streams);
     }
-}
-
-/// Redacts all files by the automaton that the searcher holds.
-fn redact_forward<F: Folder, I: Read, W: Write, E: Sink>(
-    searcher: &AhoCorasick,
-    job: &Job<'_, '_, F>,
-    counts: &mut [u64],
-    volume: &mut Volume,
-    streams: &mut Streams<'_, I, W, E>,
-) -> Result<bool, StreamError>
-    requires ready { CanDo ⟦<AhoCorasick as Automaton>⟧ searcher.now job.now }
-    ensures done { ForItsPatterns searcher.now (DoesByPatterns W.Write E.Sink F.Folder job.now
-        result streams.old streams.new counts.old counts.new volume.old volume.new) }
-{
     if let Some(rows) = searcher.rows() {
         return redact_files(rows, job, counts, volume, streams);
     }

@@ -1,9 +1,8 @@
 -- The input is read to its end.
-use Rattle.acredact.proofs.Common.{Consumes, IfErr-weaker, Reason, StreamError, at_end, bytes_left, counted, on_ok_weaker}
-use Rattle.std.proofs.Common.{◌≢◌, ap, sym, subst, ◌∙◌, Option}
-use Rattle.std.specs.Prelude.{Bool, Result}
+use Rattle.acredact.proofs.Common.{Consumes, IfErr-weaker, at_end, bytes_left, counted, on_ok_weaker}
+use Rattle.std.proofs.Common.{◌≢◌, ap, sym, subst, ◌∙◌}
+use Rattle.std.specs.Prelude.{Bool}
 use Rattle.acredact.specs.Faults.{is_unread}
-use Rattle.acredact.specs.Files.{TextDone}
 use Rattle.acredact.proofs.OneFile.{at_ok, begins_of, outcome_by, reaches_of, reading_unread, reading_whole, text_of}
 use Rattle.acredact.proofs.Metering.{text_bytes}
 use Rattle.acredact.proofs.Totals.{text_counts}
@@ -19,7 +18,7 @@ returns g c =
     record {
       outcome = λ red by.
           let stream = (run.ensures.done red by).outcome in
-          subst (λ (e : Result (Option Reason) StreamError). TextDone g.W.Write red e (bytes_left c.args.input.now) (bytes_left run.new.input) c.args.output.now run.new.output) (sym done)
+          rw done
           (outcome_by g.W.Write _ run.result _ _ c.args.output.now run.new.output
           (on_ok_weaker run.result (λ whole. text_of _ _ _ _ _ _ _ _ left none ends whole) stream.redacted)
           (begins_of _ _ _ _ _ _ _ _ left none ends stream.begun)

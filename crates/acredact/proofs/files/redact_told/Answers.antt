@@ -1,8 +1,7 @@
 -- A file that was not read to its end is told, and so is one that the output goes to.
-use Rattle.acredact.proofs.Common.{Reason, StreamError}
-use Rattle.std.proofs.Common.{rules, ◌≡◌, Option, refl, sym, subst}
-use Rattle.std.specs.Prelude.{Bool, Result, Ok, Err}
-use Rattle.acredact.specs.Files.{FileOutcome, ToldOutcome, work_of}
+use Rattle.std.proofs.Common.{rules, ◌≡◌, refl, subst}
+use Rattle.std.specs.Prelude.{Bool, Err}
+use Rattle.acredact.specs.Files.{work_of}
 use Rattle.acredact.proofs.Bounded.{no_numbers}
 use Rattle.acredact.proofs.Done.{told_cut, told_output, told_unread, told_whole}
 use Rattle.acredact.proofs.files.redact_told.Goals as goal
@@ -18,16 +17,13 @@ returns-then-is_output-clause-most g c = no_numbers (g.F.Folder.holds c.args.job
 pub returns-in_err-redact_file-clause-outcome : goal.returns-in_err-redact_file-clause-outcome
 returns-in_err-redact_file-clause-outcome g c =
     let is : c.from_residual.result ≡ Err c.in_err-redact_file.field-0.0 = search rules in
-    λ red by. subst (λ (r : Result Bool StreamError). ToldOutcome g.W.Write g.E.Sink (work_of g.F.Folder c.args.job.now red) c.args.name.now r c.args.streams.now (record c.args.streams.now { input = c.redact_file.new.input; output = c.redact_file.new.output })) (sym is)
-    (told_cut g.W.Write g.E.Sink (work_of g.F.Folder c.args.job.now red) _ _ _ _ (c.in_err-redact_file.ensures.outcome red by) refl)
+    λ red by. rw is (told_cut g.W.Write g.E.Sink (work_of g.F.Folder c.args.job.now red) _ _ _ _ (c.in_err-redact_file.ensures.outcome red by) refl)
 
 pub returns-in-None-clause-outcome : goal.returns-in-None-clause-outcome
 returns-in-None-clause-outcome g c = λ red by. told_whole g.W.Write g.E.Sink (work_of g.F.Folder c.args.job.now red) _ _ _
     (subst (λ (b : Bool). g.F.Folder.meets c.args.job.now.folder.now c.args.name.now b) c.if-is_output.false c.is_output.ensures)
-    (subst (λ (o : Option Reason). FileOutcome g.W.Write (work_of g.F.Folder c.args.job.now red) c.args.name.now (Ok o) c.args.streams.now.input c.redact_file.new.input c.args.streams.now.output c.redact_file.new.output)
-    c.in-None.is (c.in_ok-redact_file.ensures.outcome red by)) refl
+    (rw c.in-None.is at (c.in_ok-redact_file.ensures.outcome red by)) refl
 
 pub returns-in-Some-clause-outcome : goal.returns-in-Some-clause-outcome
 returns-in-Some-clause-outcome g c = λ red by. told_unread g.W.Write g.E.Sink (work_of g.F.Folder c.args.job.now red) c.args.name.now c.in-Some.reason c.args.streams.now (record c.args.streams.now { input = c.redact_file.new.input; output = c.redact_file.new.output }) _
-    (subst (λ (o : Option Reason). FileOutcome g.W.Write (work_of g.F.Folder c.args.job.now red) c.args.name.now (Ok o) c.args.streams.now.input c.redact_file.new.input c.args.streams.now.output c.redact_file.new.output)
-    c.in-Some.is (c.in_ok-redact_file.ensures.outcome red by)) refl c.tell_unread.ensures.told
+    (rw c.in-Some.is at (c.in_ok-redact_file.ensures.outcome red by)) refl c.tell_unread.ensures.told

@@ -1,5 +1,5 @@
 -- A new file is made, filled, and takes the place; or the file stays as it was.
-use Rattle.acredact.proofs.Common.{is_input}
+use Rattle.acredact.proofs.Common.{bytes_left, is_input}
 use Rattle.std.proofs.Common.{rules, ◌≡◌, inl, inr, refl, true, false}
 use Rattle.acredact.specs.Files.{redactor_of, work_of}
 use Rattle.acredact.specs.InPlace.{IsSparedLine}
@@ -32,19 +32,21 @@ returns-in-Ok g c =
           place_settled g.O.File.Write g.E.Sink g.O.Outputs _ c.args.name.now run.result c.settle.result c.args.outputs.now c.make.new.self c.settle.new.outputs c.args.streams.now run.new.streams c.settle.new.streams
           c.args.counts.now run.new.counts c.args.volume.now run.new.volume _ (told_of_one g.O.File.Write g.E.Sink _ c.args.name.now refl run.result _ _ files)
           (λ all puts. (
-            record {
-              named = named;
-              file = c.new.result;
-              file' = run.new.streams.output;
-              left = _;
-              left' = _;
-              meanwhile = c.make.new.self;
-              made = rw c.new.ensures.writer c.in-Ok.ensures.made;
-              empty = rw c.new.ensures.writer c.in-Ok.ensures.empty;
-              redacted = all_redacted g.O.File.Write g.E.Sink _ run.result _ _ files all;
-              flushed = rw all at does.flushed;
-              puts = puts;
-            },
+            (
+              run.new.streams.output,
+              record {
+                named = named;
+                file = c.new.result;
+                meanwhile = c.make.new.self;
+                made = rw c.new.ensures.writer c.in-Ok.ensures.made;
+                empty = rw c.new.ensures.writer c.in-Ok.ensures.empty;
+                flushed = rw all at does.flushed;
+                puts = puts;
+              },
+              bytes_left c.args.streams.now.input,
+              bytes_left run.new.streams.input,
+              all_redacted g.O.File.Write g.E.Sink _ run.result _ _ files all,
+            ),
             files.quiet all,
             one_counts (work_of g.F.Folder c.args.job.now (redactor_of c.args.job.now p)) c.args.name.now _ _ _ _ (does.counted all),
             does.read all,

@@ -1,16 +1,14 @@
 -- The files' outcome, and then the counts.
-use Rattle.acredact.proofs.Common.{Other, OutOfMemory, Rule, Strict, bytes_left, failure_of_stream}
-use Rattle.std.proofs.Common.{rules, ◌≡◌, ◌∙◌, List, ℕ, ap, subst, sym}
+use Rattle.acredact.proofs.Common.{Other, OutOfMemory, bytes_left, failure_of_stream}
+use Rattle.std.proofs.Common.{rules, ◌≡◌, ◌∙◌, ap}
 use Rattle.std.specs.Prelude.{Bool, Err, Ok}
-use Rattle.acredact.specs.Arguments.{all_given, counts_asked, has}
-use Rattle.acredact.specs.Calls.{call_of, reading_by, redactor_by_given, work_by}
+use Rattle.acredact.specs.Arguments.{all_given, counts_asked}
+use Rattle.acredact.specs.Calls.{call_of}
 use Rattle.acredact.specs.Counts.{zeros}
-use Rattle.acredact.specs.Doubts.{TellsWarnings}
 use Rattle.acredact.specs.Files.{Work}
 use Rattle.acredact.specs.InPlace.{PlacesOutcome}
-use Rattle.acredact.specs.Loading.{AreLoaded, key_in, loaded_as, loaded_in}
+use Rattle.acredact.specs.Loading.{key_in, loaded_in}
 use Rattle.acredact.specs.Summaries.{no_volume}
-use Rattle.acredact.specs.Tables.{secrets_of}
 use Rattle.acredact.proofs.Calls.{job_does}
 use Rattle.acredact.proofs.PlacedCalls.{places_cut, places_told, places_uncounted}
 use Rattle.acredact.proofs.in_place.place_ready.Goals as goal
@@ -43,20 +41,15 @@ pub returns : goal.returns
 returns g c = record {
   outcome = λ left first loaded warnings.
       let call = call_of g.F.Folder c.args.folder.now (all_given c.args.given.now) in
-      let key = key_in c.args.secrets.now.key in
-      let value : c.as_slice-rules.result.now ≡ c.args.secrets.now.rules.items = c.as_slice-rules.ensures.value in
-      let work = work_by call (loaded_as c.as_slice-rules.result.now key) in
-      let as_asked = λ (P : Work → Type 0) (done : P _). subst (λ (l : List Rule). P (work_by call (loaded_as l key))) (sym value)
-      (job_does g.F.Folder c.args.folder.now call.given (loaded_in c.args.secrets.now) c.job_of-job.result (c.job_of-job.ensures.job c.requires.ready) P done) in
-      let none : c.as_mut_slice-tally.result.now ≡ zeros (counts_asked call.given) c.as_slice-rules.result.now =
-      c.as_mut_slice-tally.ensures.value ∙ c.in_ok-counted.ensures.counts ∙ ap (λ (b : Bool). zeros b c.as_slice-rules.result.now) c.counts.ensures.counts in
-      let run = as_asked (λ w. PlacesOutcome g.O.File.Write g.O.Outputs w g.E.Sink (Ok c.in_ok-all.all) c.args.outputs.now c.place_each.new.outputs c.args.streams.now c.place_each.new.streams c.as_mut_slice-tally.result.now c.place_each.new.counts no_volume c.place_each.new.volume)
+      let items = c.args.secrets.now.rules.items in
+      let value = c.as_slice-rules.ensures.value in
+      let none : c.as_mut_slice-tally.result.now ≡ zeros (counts_asked call.given) items =
+      c.as_mut_slice-tally.ensures.value ∙ c.in_ok-counted.ensures.counts ∙ ap (λ (b : Bool). zeros b c.as_slice-rules.result.now) c.counts.ensures.counts ∙ ap (zeros (counts_asked call.given)) value in
+      let run = job_does g.F.Folder c.args.folder.now call.given (loaded_in c.args.secrets.now) c.job_of-job.result (c.job_of-job.ensures.job c.requires.ready)
+      (λ (w : Work). PlacesOutcome g.O.File.Write g.O.Outputs w g.E.Sink (Ok c.in_ok-all.all) c.args.outputs.now c.place_each.new.outputs c.args.streams.now c.place_each.new.streams c.as_mut_slice-tally.result.now c.place_each.new.counts no_volume c.place_each.new.volume)
       (c.in_ok-all.ensures.outcome _ c.requires.ready.of) in
-      places_told g.O.File.Write g.E.Sink g.O.Outputs call left c.as_slice-rules.result.now key c.place_each.new.counts c.place_each.new.volume
-      c.args.outputs.now c.place_each.new.outputs first c.tell_counted.new.errors c.args.streams.now c.place_each.new.streams
-      (subst (λ (l : List Rule). AreLoaded (reading_by call) call.given (loaded_as l key) left (bytes_left c.args.streams.now.input)) (sym value) loaded)
-      (subst (λ (l : List Rule). TellsWarnings g.E.Sink (has Strict call.given) call.given (secrets_of l) (redactor_by_given call.given (loaded_as l key)) first c.args.streams.now.errors) (sym value) warnings)
-      c.tell_counted.ensures.lines c.in_ok-all.all c.tell_counted.result
-      (subst (λ (l : List ℕ). PlacesOutcome g.O.File.Write g.O.Outputs work g.E.Sink (Ok c.in_ok-all.all) c.args.outputs.now c.place_each.new.outputs c.args.streams.now c.place_each.new.streams l c.place_each.new.counts no_volume c.place_each.new.volume) none run)
-      c.tell_counted.ensures.all c.tell_counted.ensures.told c.tell_counted.ensures.fails;
+      places_told g.O.File.Write g.E.Sink g.O.Outputs call left items (key_in c.args.secrets.now.key) c.place_each.new.counts c.place_each.new.volume
+      c.args.outputs.now c.place_each.new.outputs first c.tell_counted.new.errors c.args.streams.now c.place_each.new.streams loaded warnings
+      (rw value at c.tell_counted.ensures.lines) c.in_ok-all.all c.tell_counted.result (rw none at run)
+      c.tell_counted.ensures.all (rw value at c.tell_counted.ensures.told) c.tell_counted.ensures.fails;
 }

@@ -27,6 +27,5 @@ returns-in-Err-prepare-clause-outcome g c = λ asks.
 pub returns-clause-outcome : goal.returns-clause-outcome
 returns-clause-outcome g c = λ asks.
     let left = bytes_left c.args.streams.now.input in
-    let (mid, doubts, pieces) = c.in-Ok-prepare.ensures.told in
     call_warned g.W.Write g.E.Sink (call_of g.F.Folder c.args.folder.now (all_given c.args.given.now)) left (loaded_in c.in-Ok.secrets) (record c.args.streams.now { input = c.load.new.input; errors = c.prepare.new.errors })
-    c.redact_ready.new.streams c.args.streams.now.errors mid c.redact_ready.result c.in-Ok.ensures.loaded doubts pieces (c.redact_ready.ensures.outcome left c.in-Ok.ensures.loaded)
+    c.redact_ready.new.streams c.args.streams.now.errors c.redact_ready.result c.in-Ok.ensures.loaded c.in-Ok-prepare.ensures.told (c.redact_ready.ensures.outcome left c.in-Ok.ensures.loaded)

@@ -25,12 +25,12 @@ returns g c =
       idle = λ given right asks. (redacted given right asks).idle;
       check_patternless = λ given right asks. (checked given right asks).patternless;
       check_idle = λ given right asks none. record { unread = (checked given right asks).unread none; unwritten = (checked given right asks).unwritten };
-      redacts = λ given right asks. (redacted given right asks).redacts;
-      hides = λ given right asks forms zero. call_hides g.W.Write (call_of g.F.Folder c.args.folder.now given) _ _ _ _ (forms_cover (texts c.args.arguments.now) given right forms) (forms_unworded (texts c.args.arguments.now) given right forms) ((redacted given right asks).redacts zero);
+      redacts = λ given right asks zero. ((redacted given right asks).done zero).all;
+      hides = λ given right asks forms zero. call_hides g.W.Write (call_of g.F.Folder c.args.folder.now given) _ _ _ _ (forms_cover (texts c.args.arguments.now) given right forms) (forms_unworded (texts c.args.arguments.now) given right forms) ((redacted given right asks).done zero).all;
       begins = λ given right asks. (redacted given right asks).begins;
-      strict = λ given right asks. (redacted given right asks).strict;
-      quiet = λ given right asks. (redacted given right asks).quiet;
-      counts = λ given right asks. (redacted given right asks).counts;
+      strict = λ given right asks refuses zero. ((redacted given right asks).done zero).strict refuses;
+      quiet = λ given right asks none zero. ((redacted given right asks).done zero).quiet none;
+      counts = λ given right asks some zero. ((redacted given right asks).done zero).counts some;
       tells = λ given right asks. (redacted given right asks).tells;
       numbers = λ given right asks. (redacted given right asks).numbers;
       unmatched = λ given right asks. (checked given right asks).says.unmatched;
