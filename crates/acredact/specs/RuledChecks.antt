@@ -22,7 +22,7 @@ use Rattle.acredact.specs.LineRules.{most_asked}
 use Rattle.acredact.specs.Looks.{all_seen, verdict_of}
 use Rattle.acredact.specs.Reads.{EachName, OfName, ReadsText}
 use Rattle.rule_files.specs.Flaws.{name_or_number}
-use Rattle.acredact.specs.Ruled.{AreRulesGiven, AreRulesGivenBy, Between, IsRuledTold, TellsRuled, ruling_by}
+use Rattle.acredact.specs.Ruled.{AreRulesGiven, AreRulesGivenBy, Between, IsRuledTold, OutcomeOf, ruling_by}
 use Rattle.acredact.specs.Sums.{counts_for}
 use Rattle.acredact.specs.Tables.{Secret, secrets_of}
 use Rattle.acredact.specs.declared.options.Word.TheVariants.{Summary}
@@ -304,11 +304,11 @@ module _ (call : Call) (left left' held held' : Option (List ℕ)) where
 
 module _ {E : Type 0} (K : SinkGhosts E) where
   -- what comes of the files of a call whose patterns and rules were loaded
-  pub record CheckedLines (call : Call) (load : CheckLoad) (result : Result Verdict RuledFailure) (left left' held held' : Option (List ℕ)) (errors errors' : Errors E) : Type 0 where
-    pub whole : IfOk result (λ verdict. verdict.all ≡ true → SeesLoaded call verdict.found left left' held held' load)
-    pub begun : BeginsLoadedCheck call left left' held held' load
-    pub tells : TellsRuled K call (all_seen result) errors errors'
-    pub quiet : IfOk result (λ verdict. verdict.all ≡ true → errors' ≡ errors)
+  abbrev pub CheckedLines : Call → CheckLoad → Result Verdict RuledFailure → (left left' held held' : Option (List ℕ))
+      → (errors errors' : Errors E) → Type 0
+  CheckedLines call load result left left' held held' errors errors' =
+      OutcomeOf K call (λ verdict. verdict.all) (λ verdict. SeesLoaded call verdict.found left left' held held' load)
+      (BeginsLoadedCheck call left left' held held' load) (errors' ≡ errors) result errors errors'
 
   -- nothing was told but of the patterns of the lists that were loaded
   abbrev pub TellsListsBeside : Call → (left : Option (List ℕ)) → (errors errors' : Errors E) → Type 0
@@ -316,11 +316,10 @@ module _ {E : Type 0} (K : SinkGhosts E) where
       LoadsToCheck call left (λ load between. TellsDoubts K false call.given load.secrets errors errors')
 
   -- and of the whole call
-  pub record RuledCheck (call : Call) (result : Result Verdict RuledFailure) (left left' held held' : Option (List ℕ)) (errors errors' : Errors E) : Type 0 where
-    pub whole : IfOk result (λ verdict. verdict.all ≡ true → SeesByRules call verdict.found left left' held held')
-    pub begun : BeginsRuledCheck call left left' held held'
-    pub tells : TellsRuled K call (all_seen result) errors errors'
-    pub quiet : IfOk result (λ verdict. verdict.all ≡ true → TellsListsBeside call left errors errors')
+  abbrev pub RuledCheck : Call → Result Verdict RuledFailure → (left left' held held' : Option (List ℕ)) → (errors errors' : Errors E) → Type 0
+  RuledCheck call result left left' held held' errors errors' =
+      OutcomeOf K call (λ verdict. verdict.all) (λ verdict. SeesByRules call verdict.found left left' held held')
+      (BeginsRuledCheck call left left' held held') (TellsListsBeside call left errors errors') result errors errors'
 
   -- what its status says
   abbrev pub RuledCheckStatus : Call → (status : ℕ) → (left left' held held' : Option (List ℕ)) → (errors errors' : Errors E) → Type 0

@@ -1,12 +1,12 @@
 -- What was loaded is redacted by.
-use Rattle.acredact.proofs.Common.{bytes_left}
-use Rattle.std.proofs.Common.{refl}
+use Rattle.acredact.proofs.Common.{Keeps-refl, bytes_left}
+use Rattle.std.proofs.Common.{inl, refl}
 use Rattle.acredact.specs.Arguments.{all_given}
 use Rattle.acredact.specs.Calls.{call_of}
 use Rattle.acredact.specs.Ruled.{IsRuledTold}
 use Rattle.acredact.proofs.Calls.{tells_same}
 use Rattle.acredact.proofs.Naming.{ruled_some}
-use Rattle.acredact.proofs.RuledCalls.{ruled_early}
+use Rattle.acredact.proofs.RuledCalls.{outcome_early}
 use Rattle.acredact.proofs.ruled.redact_given.Goals as goal
 
 pub redact_keyed-requires : goal.redact_keyed-requires
@@ -18,4 +18,4 @@ returns-in-Ok-clause-outcome g c = c.redact_keyed.ensures.outcome (bytes_left c.
 pub returns-in-Err-clause-outcome : goal.returns-in-Err-clause-outcome
 returns-in-Err-clause-outcome g c =
     let call = call_of g.F.Folder c.args.folder.now (all_given c.args.given.now) in
-    ruled_early g.E.Sink call c.in-Err.failure _ _ _ _ _ (tells_same g.E.Sink (IsRuledTold call) _ _ refl)
+    outcome_early g.E.Sink call (inl (Keeps-refl _)) (tells_same g.E.Sink (IsRuledTold call) _ _ refl)

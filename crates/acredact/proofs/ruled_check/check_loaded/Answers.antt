@@ -1,12 +1,12 @@
 -- What is told of doubtful patterns comes first.
-use Rattle.acredact.proofs.Common.{name_bytes}
-use Rattle.std.proofs.Common.{◌∙◌, ap}
+use Rattle.acredact.proofs.Common.{Keeps-refl, name_bytes}
+use Rattle.std.proofs.Common.{◌∙◌, ap, inl}
 use Rattle.acredact.specs.Arguments.{all_given}
 use Rattle.acredact.specs.Calls.{call_of}
 use Rattle.acredact.specs.RuledChecks.{check_load}
 use Rattle.acredact.specs.Tables.{secrets_of}
-use Rattle.acredact.proofs.RuledCalls.{all_doubts_told}
-use Rattle.acredact.proofs.RuledCheckCalls.{check_behind, check_early}
+use Rattle.acredact.proofs.RuledCalls.{all_doubts_told, outcome_early}
+use Rattle.acredact.proofs.RuledCheckCalls.{check_behind}
 use Rattle.acredact.proofs.ruled_check.check_loaded.Goals as goal
 
 pub ready_for_lines-requires : goal.ready_for_lines-requires
@@ -22,7 +22,7 @@ returns-in-Ok-clause-outcome g c = λ left loaded.
 pub returns-in-Err-clause-outcome : goal.returns-in-Err-clause-outcome
 returns-in-Err-clause-outcome g c = λ left loaded.
     let call = call_of g.F.Folder c.args.folder.now (all_given c.args.given.now) in
-    check_early g.E.Sink call c.in-Err.failure left _ _ _ _ (all_doubts_told g.E.Sink call (secrets_of c.as_slice-secrets.result.now) _ _ c.ready_for_lines.ensures.told)
+    outcome_early g.E.Sink call (inl (Keeps-refl _)) (all_doubts_told g.E.Sink call (secrets_of c.as_slice-secrets.result.now) _ _ c.ready_for_lines.ensures.told)
 
 pub check_by-requires : goal.check_by-requires
 check_by-requires g c = record { can = c.in-Ok.ensures.can; of = c.in-Ok.ensures.ready.of; names = ap name_bytes c.as_slice.ensures.value ∙ c.in-Ok.ensures.ready.names }
