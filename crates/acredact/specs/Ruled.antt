@@ -364,13 +364,6 @@ module _ {R : Type 0} {Reads : Readers R} {W E : Type 0} (Writes : Writers W) wh
     LoadedRuled D folder items secrets rules key result streams streams' =
         Between (RuledOutcome K (call_of D folder (all_given items)) (ruled_load secrets rules key) result) streams streams'
 
-    -- and before that, where doubtful ones are to be told
-    abbrev pub KeyedRuled : {F X : Type 0} → Folders F X → F → List Item → KeyedRules
-        → Result Bool RuledFailure → (streams streams' : Streams R W E Reads) → Type 0
-    KeyedRuled D folder items made result streams streams' = (left : Option (List ℕ))
-        → AreRulesKeyedBy D folder items left (bytes_left streams.input) made
-        → RuledCall K (call_of D folder (all_given items)) result left (bytes_left streams'.input) (output_bytes Writes streams.output) (output_bytes Writes streams'.output) streams.errors streams'.errors
-
     -- and of what these options ask for
     abbrev pub AskedRuled : {F X : Type 0} → Folders F X → F → List Given
         → Result Bool RuledFailure → (streams streams' : Streams R W E Reads) → Type 0

@@ -22,7 +22,7 @@ use Rattle.acredact.specs.LineRules.{most_asked}
 use Rattle.acredact.specs.Looks.{all_seen, verdict_of}
 use Rattle.acredact.specs.Reads.{EachName, OfName, ReadsText}
 use Rattle.rule_files.specs.Flaws.{name_or_number}
-use Rattle.acredact.specs.Ruled.{AreRulesGiven, AreRulesGivenBy, Between, IsRuledTold, OutcomeOf, ruling_by}
+use Rattle.acredact.specs.Ruled.{AreRulesGiven, Between, IsRuledTold, OutcomeOf, ruling_by}
 use Rattle.acredact.specs.Sums.{counts_for}
 use Rattle.acredact.specs.Tables.{Secret, secrets_of}
 use Rattle.acredact.specs.declared.options.Word.TheVariants.{Summary}
@@ -36,7 +36,6 @@ use Rattle.acredact.specs.declared.look.Look.TheVariants.{Clean, Found, Unread}
 use Rattle.acredact.specs.declared.look.Verdict.{Verdict}
 use Rattle.acredact.specs.declared.patterns.Rule.{Rule as PatternRule}
 use Rattle.acredact.specs.declared.ruled_failure.RuledFailure.{RuledFailure}
-use Rattle.acredact.specs.declared.ruled_load.GivenRules.{GivenRules}
 use Rattle.acredact.specs.declared.streams.Streams.{Streams}
 
 -- what the numbers of runs stand for: patterns, rules behind them, and behind these lines with more bytes
@@ -410,13 +409,6 @@ module _ {R : Type 0} {Reads : Readers R} {W E : Type 0} (Writes : Writers W) (K
       → List Rule → Result Verdict RuledFailure → (streams streams' : Streams R W E Reads) → Type 0
   LoadedCheck D folder items secrets rules result streams streams' =
       Between Writes (CheckedLines K (call_of D folder (all_given items)) (check_load secrets rules) result) streams streams'
-
-  -- and before that, where doubtful ones are to be told
-  abbrev pub GivenCheck : {F X : Type 0} → Folders F X → F → List Item → GivenRules
-      → Result Verdict RuledFailure → (streams streams' : Streams R W E Reads) → Type 0
-  GivenCheck D folder items made result streams streams' = (left : Option (List ℕ))
-      → AreRulesGivenBy D folder items left (bytes_left streams.input) made
-      → RuledCheck K (call_of D folder (all_given items)) result left (bytes_left streams'.input) (output_bytes Writes streams.output) (output_bytes Writes streams'.output) streams.errors streams'.errors
 
   -- and of what these options ask for
   abbrev pub AskedCheck : {F X : Type 0} → Folders F X → F → List Given
