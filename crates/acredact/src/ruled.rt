@@ -1,6 +1,6 @@
 //! A call with rules: each line is redacted by what rules mark in it, and by the patterns that occur in it.
 
-ghost use Rattle.std.specs.Prelude.{◌≡◌, ◌⊎◌, ◌++◌, ◌∷◌, [], IfOk, OnOk, map, replicate, true};
+ghost use Rattle.std.specs.Prelude.{◌≡◌, ◌⊎◌, ◌++◌, ◌∷◌, [], IfOk, OnOk, map, true};
 ghost use Rattle.aho_core.specs.Replacement.{pieces_of};
 ghost use Rattle.chromesquid.specs.Searcher.{IsBuiltFrom};
 ghost use Rattle.secret_rules.specs.OpenLines.{CanSearch};
@@ -157,7 +157,7 @@ fn redact_lines<'a, A: Automaton, F: Folder, I: Read, W: Write, E: Sink>(
     let texts = texts_of(alloc, given, secrets, rules.as_slice())?;
     let most = most_of(given);
     let texts = texts.as_slice();
-    let mut counts = counts_for(alloc, texts.len())?;
+    let mut counts: Vec<u64> = vec![in alloc; 0; texts.len()]?;
     let words = has(given, Word::AsWord);
     let pieces = pieces_by(given, texts, key, secrets.len());
     let cover = line_cover(alloc, automaton, rules, words, most)?;
@@ -249,17 +249,6 @@ fn named_count(given: &[Item<'_>], patterns: usize) -> usize
         return patterns;
     }
     0
-}
-
-/// So many counts.
-fn counts_for(alloc: Global, count: usize) -> Result<Vec<u64>, AllocError>
-    ensures zeros { IfOk result (λ counts. counts.items ≡ replicate count 0) }
-{
-    let mut counts = Vec::new(alloc);
-    while counts.len() < count {
-        counts.push(0)?;
-    }
-    Ok(counts)
 }
 
 /// Tells how many lines were too long, if some were.
