@@ -174,9 +174,9 @@ module _ {E : Type 0} (K : SinkGhosts E) where
 -- the same of the input, by what the folder and the options say
 module _ {E F Y R : Type 0} {Reads : Readers R} (K : SinkGhosts E) (D : Folders F Y) where
   -- what comes of looking for patterns in some files
-  abbrev pub SeesSearched : {X : Type 0} → Searched F → Patterns → Result Verdict X
-      → (input input' : FromRead R Reads) → (errors errors' : Errors E) → Type 0
-  SeesSearched files p result input input' errors errors' =
+  abbrev pub SeesSearched : {X : Type 0} → Searched F → Result Verdict X
+      → (input input' : FromRead R Reads) → (errors errors' : Errors E) → Patterns → Type 0
+  SeesSearched files result input input' errors errors' p =
       SeesFiles K (quest_of D files.folder.now files.words p) (name_bytes files.names.now) result (bytes_left input) (bytes_left input') errors errors'
 
   -- and for those of some rules in the files that are asked for

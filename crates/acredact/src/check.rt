@@ -122,7 +122,7 @@ fn look_by<F: Folder, I: Read, E: Sink>(
     errors: &mut Errors<'_, E>,
 ) -> Result<Verdict, AllocError>
     requires ready { CanLook ⟦<AhoCorasick as Automaton>⟧ searcher.now files.now.words }
-    ensures sees { ForItsPatterns searcher.now (λ p. SeesSearched E.Sink F.Folder files.now p
+    ensures sees { ForItsPatterns searcher.now (SeesSearched E.Sink F.Folder files.now
         result input.old input.new errors.old errors.new) }
 {
     if let Some(rows) = searcher.rows() {
