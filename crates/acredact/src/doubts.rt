@@ -61,9 +61,9 @@ fn refuse_doubtful<'a>(given: &[Item<'a>], rules: &[Rule]) -> Result<(), Failure
     ensures refused { IfErr result (RefusesFirstDoubt (all_given given.now) (secrets_of rules.now)) }
 {
     let mut rest = rules;
-    while !rest.is_empty() {
-        match refuse_doubt(given, &rest[0]) {
-            Ok(()) => rest = &rest[1..],
+    while let Some((rule, more)) = rest.split_first() {
+        match refuse_doubt(given, rule) {
+            Ok(()) => rest = more,
             Err(failure) => return Err(failure),
         }
     }
@@ -90,9 +90,9 @@ fn tell_doubtful<E: Sink>(errors: &mut Errors<'_, E>, given: &[Item<'_>], rules:
     ensures told { TellsBytes E.Sink errors.old errors.new (concat (list_doubt_lines (all_given given.now) (secrets_of rules.now))) }
 {
     let mut rest = rules;
-    while !rest.is_empty() {
-        tell_doubt(errors, given, &rest[0]);
-        rest = &rest[1..];
+    while let Some((rule, more)) = rest.split_first() {
+        tell_doubt(errors, given, rule);
+        rest = more;
     }
 }
 
