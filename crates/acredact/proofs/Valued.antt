@@ -1,6 +1,6 @@
 -- Values of variables, one after another.
-use Rattle.acredact.proofs.Common.{All-head, All-tail, Bor, Form, Rule, common_steps, get_or-map, length-map, pieces_of, take_rest}
-use Rattle.std.proofs.Common.{◌≡◌, ℕ, ◌+◌, ◌-◌, ◌^◌, ◌<◌, ◌≤◌, Bool, true, false, List, [], ◌∷◌, ◌++◌, Option, length, take, drop, get_or, refl, sym, ap, subst, ◌∙◌, append-nil, append_assoc, arith}
+use Rattle.acredact.proofs.Common.{All-head, All-tail, Bor, Form, Rule, common_steps, get_or-map, length-map, pieces_of}
+use Rattle.std.proofs.Common.{◌≡◌, ℕ, ◌+◌, ◌-◌, ◌^◌, ◌<◌, Bool, true, false, List, [], ◌∷◌, ◌++◌, Option, length, get_or, refl, sym, ap, subst, ◌∙◌, append-nil, append_assoc, arith}
 use Rattle.std.specs.Prelude.{Some, None, if◌then◌else◌, min, nat_eq, nat_lt, slice_index_or}
 use Rattle.std.specs.List.{cons_option}
 use Rattle.acredact.specs.Parts.{IsAddedSome}
@@ -65,26 +65,19 @@ pub record ValuedSoFar (parts : Bool) (all rest : List (List ℕ)) (old new : Li
 pub valued_none : (parts : Bool) (all : List (List ℕ)) (old : List Secret) → ValuedSoFar parts all all old old
 valued_none parts all old = record { so = []; grown = sym (append-nil old); given = λ more given. given }
 
-pub valued_more : (parts : Bool) (all rest : List (List ℕ)) (value : List ℕ) (old mid new : List Secret) → ValuedSoFar parts all (value ∷ rest) old mid → IsAddedSome (GivesValue parts value) mid new → ValuedSoFar parts all rest old new
-valued_more parts all rest value old mid new far added = record {
+pub valued_next : (parts : Bool) (all : List (List ℕ)) (rest values : List (Bor (List ℕ))) (value : Bor (List ℕ)) (old mid new : List Secret) → rest ≡ value ∷ values → ValuedSoFar parts all (pieces_of rest) old mid
+    → IsAddedSome (GivesValue parts value.now) mid new → ValuedSoFar parts all (pieces_of values) old new
+valued_next parts all rest values value old mid new cut far added = record {
   so = far.so ++ added.more;
   grown = added.grown ∙ ap (λ l. l ++ added.more) far.grown ∙ append_assoc old far.so added.more;
-  given = λ more given. subst (GiveEach parts all) (sym (append_assoc far.so added.more more)) (far.given (added.more ++ more) (added.more, more, refl, added.of, given));
+  given = λ more given. subst (GiveEach parts all) (sym (append_assoc far.so added.more more))
+      (far.given (added.more ++ more) (subst (λ l. GiveEach parts (pieces_of l) (added.more ++ more)) (sym cut) (added.more, more, refl, added.of, given)));
 }
 
--- the first of what is left, and at the end nothing
-pub valued_next : (parts : Bool) (all : List (List ℕ)) (rest : List (Bor (List ℕ))) (other : Bor (List ℕ)) (old mid new : List Secret) → 1 ≤ length rest → ValuedSoFar parts all (pieces_of rest) old mid
-    → IsAddedSome (GivesValue parts (get_or rest 0 other).now) mid new → ValuedSoFar parts all (pieces_of (take (length rest - 1) (drop 1 rest))) old new
-valued_next parts all [] other old mid new some far added = absurd (omega (arith, some))
-valued_next parts all (value ∷ rest) other old mid new some far added =
-    subst (λ (l : List (Bor (List ℕ))). ValuedSoFar parts all (pieces_of l) old new) (sym (take_rest (value ∷ rest) 1)) (valued_more parts all (pieces_of rest) value.now old mid new far added)
-
-valued_all : (parts : Bool) (all : List (List ℕ)) (old new : List Secret) → ValuedSoFar parts all [] old new → IsAddedSome (GiveEach parts all) old new
-valued_all parts all old new far = record { more = far.so; grown = far.grown; of = subst (GiveEach parts all) (append-nil far.so) (far.given [] refl) }
-
-pub valued_end : (parts : Bool) (all : List (List ℕ)) (rest : List (Bor (List ℕ))) (old new : List Secret) → length rest ≡ 0 → ValuedSoFar parts all (pieces_of rest) old new → IsAddedSome (GiveEach parts all) old new
-valued_end parts all [] old new none far = valued_all parts all old new far
-valued_end parts all (value ∷ rest) old new none far = absurd (omega (arith, none))
+-- at the end nothing is left
+pub valued_end : (parts : Bool) (all : List (List ℕ)) (rest : List (Bor (List ℕ))) (old new : List Secret) → rest ≡ [] → ValuedSoFar parts all (pieces_of rest) old new → IsAddedSome (GiveEach parts all) old new
+valued_end parts all rest old new none far =
+    record { more = far.so; grown = far.grown; of = subst (GiveEach parts all) (append-nil far.so) (far.given [] (subst (λ l. GiveEach parts (pieces_of l) []) (sym none) refl)) }
 
 -- the pattern of the rule of a number is that of the secret
 pub pattern_there : (rules : List Rule) (number : ℕ) (rule d : Rule) (other : List ℕ) → true ≡ nat_lt number (length rules) → rule ≡ slice_index_or rules number d

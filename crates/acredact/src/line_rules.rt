@@ -52,13 +52,13 @@ fn read_rules<'a, F: Folder, I: Read>(
 {
     let mut rules = Vec::new(lists.alloc);
     let mut rest = items;
-    while !rest.is_empty() {
+    while let Some((item, more)) = rest.split_first() {
         // Not by `?`: this error holds names.
-        match add_rules(lists, &mut rules, rest[0], input) {
+        match add_rules(lists, &mut rules, *item, input) {
             Ok(()) => {}
             Err(failure) => return Err(failure),
         }
-        rest = &rest[1..];
+        rest = more;
     }
     Ok(rules)
 }
