@@ -1,5 +1,5 @@
 -- What comes of files whose lines are looked at, one after another.
-use Rattle.acredact.proofs.Common.{All-nil, Appends-nil, Appends-trans, AreSearchedFor, Automata, CanCoverLines, Covering, Errors, IfOk-weaker, Keeps, LineError, Look, Occurrence, Patterns, SinkGhosts, TellsBytes, Verdict, and-true, concat, covering_by, is_input, most_of, or-false, or_assoc, rules_of, searched_automaton, stream_lines, words_of}
+use Rattle.acredact.proofs.Common.{All-nil, Appends-nil, Appends-trans, AreSearchedFor, Automata, CanCoverLines, Covering, Errors, IfOk-weaker, Keeps, LineError, Look, Patterns, SinkGhosts, TellsBytes, Verdict, and-true, concat, covering_by, is_input, most_of, or-false, or_assoc, rules_of, searched_automaton, stream_lines, words_of}
 use Rattle.std.proofs.Common.{◌≡◌, inl, ℕ, List, [], ◌∷◌, Option, true, false, refl, ap, ◌∙◌}
 use Rattle.std.specs.Prelude.{Bool, ◌||◌, ◌&&◌, Result, Ok, Err}
 use Rattle.std.proofs.KnownBytes.{Appends-kept}
@@ -11,12 +11,14 @@ use Rattle.acredact.specs.Calls.{IsUnreadLine, TellsOfFiles}
 use Rattle.acredact.specs.Checks.{look_lines}
 use Rattle.acredact.specs.Files.{unread_line}
 use Rattle.acredact.specs.Looks.{both_seen, is_unread_look, verdict_of}
-use Rattle.acredact.specs.RuledChecks.{BeginsFindings, BeginsNamedTelling, BeginsTelling, HasLineRuns, IsCoveredBy, Labels, LineQuest, LookedNamed, LookedText, SeenFile, SeenFiles, SeesAllLines, SeesNamed, SeesText, files_findings, is_some_line, lines_findings}
+use Rattle.acredact.specs.RuledChecks.{BeginsFindings, BeginsNamedTelling, BeginsTelling, IsCoveredBy, Labels, LineQuest, LookedNamed, LookedText, SeenFile, SeenFiles, SeesAllLines, SeesNamed, SeesText, files_findings, is_some_line, lines_findings}
+use Rattle.acredact.specs.RunCounts.{HasLineRuns}
 use Rattle.acredact.specs.declared.look.Look.TheVariants.{Unread}
 use Rattle.acredact.proofs.Calls.{tells_same}
 use Rattle.acredact.proofs.Done.{both_so}
-use Rattle.acredact.proofs.OneFile.{begun_nothing, each_none, known_begun, known_read, name_unread, of_folder, of_input}
+use Rattle.acredact.proofs.OneFile.{begun_nothing, each_none, known_begun, name_unread, of_folder, of_input}
 use Rattle.acredact.proofs.RuledFiles.{of_first, told_any, told_more}
+use Rattle.acredact.proofs.RuledText.{known_line_runs}
 use Rattle.acredact.proofs.Turns.{Joins, also}
 
 -- it covers lines as before
@@ -41,14 +43,6 @@ begun_none : (covering : Covering) (labels : Labels) (name : List ℕ) (left hel
 begun_none covering labels name left held =
     begun_nothing (BeginsFindings covering labels name) (record { lines = []; runs = []; are = tt; first = λ bytes may. (stream_lines bytes, refl); begins = refl }) left held
 
--- of a text that is known
-known_runs : (covering : Covering) (runs : List (List Occurrence)) (told left left' : Option (List ℕ)) → Keeps told left → HasLineRuns covering runs left left' → HasLineRuns covering runs told left'
-known_runs covering runs told left left' kept has = record {
-  text = has.text;
-  reads = record { read = known_read told left left' has.text kept has.reads.read; ended = has.reads.ended };
-  are = has.are;
-}
-
 module _ (quest : LineQuest) (name : List ℕ) (left left' held held' : Option (List ℕ)) where
   -- of the input, or of a file that was opened
   input_named : is_input name ≡ true → (found : Bool) → SeesText quest.covering quest.labels name found left left' held held' → SeesNamed quest name found left left' held held'
@@ -70,7 +64,7 @@ module _ (quest : LineQuest) (name : List ℕ) (left left' held held' : Option (
   opened_named is same given rest kept found sees =
       record {
         runs = sees.runs;
-        has = of_folder quest.holds name (HasLineRuns quest.covering sees.runs) left left' is same rest (known_runs quest.covering sees.runs (quest.holds name) given rest kept sees.has);
+        has = of_folder quest.holds name (HasLineRuns quest.covering sees.runs) left left' is same rest (known_line_runs quest.covering sees.runs (quest.holds name) given rest kept sees.has);
         found_is = sees.found_is;
         told = sees.told;
       }

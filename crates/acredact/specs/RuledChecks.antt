@@ -20,9 +20,10 @@ use Rattle.acredact.specs.Doubts.{TellsDoubts}
 use Rattle.acredact.specs.Files.{BeginsWriting}
 use Rattle.acredact.specs.LineRules.{most_asked}
 use Rattle.acredact.specs.Looks.{all_seen, verdict_of}
-use Rattle.acredact.specs.Reads.{EachName, OfName, ReadsText}
+use Rattle.acredact.specs.Reads.{EachName, OfName}
 use Rattle.rule_files.specs.Flaws.{name_or_number}
 use Rattle.acredact.specs.Ruled.{AreRulesGiven, Between, IsRuledTold, OutcomeOf, ruling_by}
+use Rattle.acredact.specs.RunCounts.{HasLineRuns}
 use Rattle.acredact.specs.Sums.{counts_for}
 use Rattle.acredact.specs.Tables.{Secret, secrets_of}
 use Rattle.acredact.specs.declared.options.Word.TheVariants.{Summary}
@@ -158,13 +159,7 @@ module _ {W : Type 0} (K : SinkGhosts W) where
     pub same : output'.ghost_name ≡ output.ghost_name
     pub begun : AppendsBeginning (K.taken output.now) (K.taken output'.now) (findings_of findings runs)
 
--- a text was read to its end, and these are the runs of its lines
-pub record HasLineRuns (covering : Covering) (runs : List (List Occurrence)) (left left' : Option (List ℕ)) : Type 0 where
-  pub text : List ℕ
-  pub reads : ReadsText text left left'
-  pub are : AreLineRuns covering [] (stream_lines text) runs
-
--- those of all files, one after another
+-- the runs of the lines of all files, one after another
 abbrev pub HaveLineRuns : (holds : List ℕ → Option (List ℕ)) → Covering → List (List ℕ)
     → List (List (List Occurrence)) → (left left' : Option (List ℕ)) → Type 0
 HaveLineRuns holds covering [] [] left left' = left' ≡ left
