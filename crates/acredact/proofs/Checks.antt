@@ -1,5 +1,5 @@
 -- What is seen of files, one after another.
-use Rattle.acredact.proofs.Common.{Consumes-nil, Errors, Failure, Keeps, Keeps-refl, Look, Reason, SinkGhosts, Strict, TellsBytes, Verdict, concat, is_input, tells-later, tells-nothing}
+use Rattle.acredact.proofs.Common.{Consumes-nil, Errors, Failure, Keeps, Look, Reason, SinkGhosts, Strict, TellsBytes, Verdict, concat, is_input, tells-later, tells-nothing}
 use Rattle.std.proofs.Common.{◌≡◌, inl, inr, ℕ, List, [], ◌∷◌, ◌++◌, Option, true, false, refl, sym, subst, ◌∙◌, arith}
 use Rattle.std.specs.Prelude.{Bool, ◌⊎◌, ◌<◌, ◌||◌, ◌&&◌, Result, Ok, Err, IfErr}
 use Rattle.acredact.specs.Builds.{patterns_by_given}
@@ -20,8 +20,8 @@ use Rattle.acredact.specs.declared.look.Look.TheVariants.{Clean, Found, Unread}
 use Rattle.acredact.proofs.Calls.{none_are, tells_both, tells_same, tells_weaker}
 use Rattle.acredact.proofs.Done.{both_so, concat_both, none_both}
 use Rattle.acredact.proofs.LookedFiles.{verdicts_joined}
-use Rattle.acredact.proofs.OneFile.{known_read, of_folder, of_input}
-use Rattle.acredact.proofs.RuledFiles.{told_as, told_more}
+use Rattle.acredact.proofs.OneFile.{known_read, of_folder}
+use Rattle.acredact.proofs.RuledFiles.{IsFileRead, told_as, told_more}
 use Rattle.acredact.proofs.Turns.{also}
 use Rattle.acredact.proofs.Warned.{doubts_tell}
 
@@ -37,12 +37,8 @@ module _ (quest : Quest) (name : List ℕ) where
   abbrev MayBeTold : Reason → Type 0
   MayBeTold reason = IsReadReason reason ⊎ quest.refuses name reason
 
-  pub look_input : (look : Look) (left left' : Option (List ℕ)) → is_input name ≡ true → IsLook quest.redactor IsReadReason look left left' → IsLookOf quest name look left left'
-  look_input look left left' is looks = of_input quest.holds name (IsLook quest.redactor MayBeTold look) left left' is (known_look quest.redactor IsReadReason MayBeTold left left left' (Keeps-refl left) (λ reason why. inl why) look looks)
-
-  pub look_opened : (look : Look) (given left left' rest : Option (List ℕ)) → is_input name ≡ false → left' ≡ left → Keeps (quest.holds name) given → IsLook quest.redactor IsReadReason look given rest → IsLookOf quest name look left left'
-  look_opened look given left left' rest is same kept looks =
-      of_folder quest.holds name (IsLook quest.redactor MayBeTold look) left left' is same rest (known_look quest.redactor IsReadReason MayBeTold (quest.holds name) given rest kept (λ reason why. inl why) look looks)
+  pub look_file : {given rest left left' : Option (List ℕ)} (look : Look) → IsFileRead quest.holds name given rest left left' → IsLook quest.redactor IsReadReason look given rest → IsLookOf quest name look left left'
+  look_file {given} {rest} look file looks = file.of (IsLook quest.redactor MayBeTold look) (known_look quest.redactor IsReadReason MayBeTold file.known given rest file.kept (λ reason why. inl why) look looks)
 
   pub look_refused : (reason : Reason) (left left' : Option (List ℕ)) → is_input name ≡ false → left' ≡ left → quest.refuses name reason → IsLookOf quest name (Unread reason) left left'
   look_refused reason left left' is same why =

@@ -1,5 +1,5 @@
 -- What comes of files whose lines are looked at, one after another.
-use Rattle.acredact.proofs.Common.{All-nil, Appends-nil, Appends-trans, AreSearchedFor, Automata, CanCoverLines, Covering, Errors, IfOk-weaker, Keeps, LineError, Look, Patterns, SinkGhosts, TellsBytes, Verdict, and-true, concat, covering_by, is_input, most_of, or-false, or_assoc, rules_of, searched_automaton, stream_lines, words_of}
+use Rattle.acredact.proofs.Common.{All-nil, Appends-nil, Appends-trans, AreSearchedFor, Automata, CanCoverLines, Covering, Errors, IfOk-weaker, Keeps, LineError, Look, Patterns, SinkGhosts, TellsBytes, Verdict, and-true, concat, covering_by, most_of, or-false, or_assoc, rules_of, searched_automaton, stream_lines, words_of}
 use Rattle.std.proofs.Common.{◌≡◌, inl, ℕ, List, [], ◌∷◌, Option, true, false, refl, ap, ◌∙◌}
 use Rattle.std.specs.Prelude.{Bool, ◌||◌, ◌&&◌, Result, Ok, Err}
 use Rattle.std.proofs.KnownBytes.{Appends-kept}
@@ -16,8 +16,8 @@ use Rattle.acredact.specs.RunCounts.{HasLineRuns}
 use Rattle.acredact.specs.declared.look.Look.TheVariants.{Unread}
 use Rattle.acredact.proofs.Calls.{tells_same}
 use Rattle.acredact.proofs.Done.{both_so}
-use Rattle.acredact.proofs.OneFile.{begun_nothing, each_none, known_begun, name_unread, of_folder, of_input}
-use Rattle.acredact.proofs.RuledFiles.{of_first, told_any, told_more}
+use Rattle.acredact.proofs.OneFile.{begun_nothing, each_none, known_begun, name_unread}
+use Rattle.acredact.proofs.RuledFiles.{IsFileRead, of_first, told_any, told_more}
 use Rattle.acredact.proofs.RuledText.{known_line_runs}
 use Rattle.acredact.proofs.Turns.{Joins, also}
 
@@ -43,39 +43,21 @@ begun_none : (covering : Covering) (labels : Labels) (name : List ℕ) (left hel
 begun_none covering labels name left held =
     begun_nothing (BeginsFindings covering labels name) (record { lines = []; runs = []; are = tt; first = λ bytes may. (stream_lines bytes, refl); begins = refl }) left held
 
-module _ (quest : LineQuest) (name : List ℕ) (left left' held held' : Option (List ℕ)) where
-  -- of the input, or of a file that was opened
-  input_named : is_input name ≡ true → (found : Bool) → SeesText quest.covering quest.labels name found left left' held held' → SeesNamed quest name found left left' held held'
-  input_named is found sees = record {
-    runs = sees.runs;
-    has = of_input quest.holds name (HasLineRuns quest.covering sees.runs) left left' is sees.has;
-    found_is = sees.found_is;
-    told = sees.told;
-  }
-
-  pub looked_input : (result : Result Look LineError) → is_input name ≡ true → LookedText quest.covering quest.labels name result left left' held held' → LookedNamed quest name result left left' held held'
-  looked_input result is text = record {
-    whole = IfOk-weaker result _ _ (λ look sees all. input_named is (verdict_of look).found (sees all)) text.whole;
-    begun = of_input quest.holds name (λ l l'. BeginsTelling quest.covering quest.labels name l l' held held') left left' is text.begun;
-  }
-
-  opened_named : is_input name ≡ false → left' ≡ left → (given rest : Option (List ℕ)) → Keeps (quest.holds name) given → (found : Bool)
-      → SeesText quest.covering quest.labels name found given rest held held' → SeesNamed quest name found left left' held held'
-  opened_named is same given rest kept found sees =
-      record {
-        runs = sees.runs;
-        has = of_folder quest.holds name (HasLineRuns quest.covering sees.runs) left left' is same rest (known_line_runs quest.covering sees.runs (quest.holds name) given rest kept sees.has);
-        found_is = sees.found_is;
-        told = sees.told;
-      }
-
-  pub looked_opened : (result : Result Look LineError) → is_input name ≡ false → left' ≡ left → (given rest : Option (List ℕ)) → Keeps (quest.holds name) given
-      → LookedText quest.covering quest.labels name result given rest held held' → LookedNamed quest name result left left' held held'
-  looked_opened result is same given rest kept text = record {
-    whole = IfOk-weaker result _ _ (λ look sees all. opened_named is same given rest kept (verdict_of look).found (sees all)) text.whole;
-    begun = of_folder quest.holds name (λ l l'. BeginsTelling quest.covering quest.labels name l l' held held') left left' is same rest
-        (known_begun (quest.holds name) given rest held held' kept text.begun);
-  }
+-- what is told of a text is told of its file
+pub looked_file : (quest : LineQuest) (name : List ℕ) (result : Result Look LineError) (given rest left left' held held' : Option (List ℕ)) → IsFileRead quest.holds name given rest left left'
+    → LookedText quest.covering quest.labels name result given rest held held' → LookedNamed quest name result left left' held held'
+looked_file quest name result given rest left left' held held' file text = record {
+  whole = IfOk-weaker result _ _ (λ look sees all. named (verdict_of look).found (sees all)) text.whole;
+  begun = file.of (λ l l'. BeginsTelling quest.covering quest.labels name l l' held held') (known_begun file.known given rest held held' file.kept text.begun);
+}
+  where
+    named : (found : Bool) → SeesText quest.covering quest.labels name found given rest held held' → SeesNamed quest name found left left' held held'
+    named found sees = record {
+      runs = sees.runs;
+      has = file.of (HasLineRuns quest.covering sees.runs) (known_line_runs quest.covering sees.runs file.known given rest file.kept sees.has);
+      found_is = sees.found_is;
+      told = sees.told;
+    }
 
 -- nothing was told of a file, or of any
 pub named_none : (quest : LineQuest) (name : List ℕ) (left held : Option (List ℕ)) → BeginsNamedTelling quest name left left held held

@@ -1,9 +1,10 @@
 -- What comes of files that are redacted line by line, one after another.
-use Rattle.acredact.proofs.Common.{Errors, Keeps, LineError, Reason, SinkGhosts, Tells, TellsSome, and-true, counts_none, counts_then, is_input}
+use Rattle.acredact.proofs.Common.{Errors, Keeps, Keeps-refl, LineError, Reason, SinkGhosts, Tells, TellsSome, and-true, counts_none, counts_then, is_input}
 use Rattle.std.proofs.Common.{◌≡◌, inl, inr, ℕ, List, [], ◌∷◌, ◌++◌, Option, true, false, refl, subst, ◌∙◌}
 use Rattle.std.specs.Prelude.{Bool, ◌&&◌, None, Some, Result, Ok, Err, IfOk}
 use Rattle.std.proofs.Math.Bool.{and_assoc}
 use Rattle.acredact.specs.Calls.{IsUnreadLine, TellsOfFiles}
+use Rattle.acredact.specs.Reads.{OfName}
 use Rattle.acredact.specs.Ruled.{AreBegun, AreRuled, BeginsLinesRedaction, LinedFile, LinedFiles, LinesOutcome, NamedOutcome, RedactsLines, RuledWork, WritesLines, WritesRuled}
 use Rattle.acredact.specs.RunCounts.{CountsAllRuns, HasRuns}
 use Rattle.acredact.proofs.Calls.{some_all, some_then, some_weaker, tells_both, tells_same, tells_weaker}
@@ -12,32 +13,32 @@ use Rattle.acredact.proofs.OneFile.{begun_nothing, each_none, known_begun, known
 use Rattle.acredact.proofs.RuledText.{known_runs}
 use Rattle.acredact.proofs.Turns.{Joins, also}
 
--- what comes of the file of a name
-module _ (work : RuledWork) (name : List ℕ) (result : Result (Option Reason) LineError) (counts counts' : List ℕ) (left left' held held' : Option (List ℕ)) where
-  pub named_input : is_input name ≡ true → LinesOutcome work.ruling result counts counts' left left' held held' → NamedOutcome work name result counts counts' left left' held held'
-  named_input is text = record {
-    whole = λ done. of_input work.holds name (λ l l'. RedactsLines work.ruling l l' held held') left left' is (text.whole done);
-    begun = of_input work.holds name (λ l l'. WritesLines work.ruling l l' held held') left left' is text.begun;
-    counted = λ done. let counted = text.counted done in (counted.0, of_input work.holds name (HasRuns work.ruling.covering counted.0) left left' is counted.1, counted.2);
-  }
+-- the file of a name was read from what was given of it to a rest: that of the input, or one of the folder, which may have told it
+pub record IsFileRead (holds : List ℕ → Option (List ℕ)) (name : List ℕ) (given rest left left' : Option (List ℕ)) : Type 1 where
+  pub known : Option (List ℕ)
+  pub kept : Keeps known given
+  pub of : (Reads : Option (List ℕ) → Option (List ℕ) → Type 0) → Reads known rest → OfName holds name Reads left left'
 
-  pub named_opened : is_input name ≡ false → left' ≡ left → (given rest : Option (List ℕ)) → Keeps (work.holds name) given → LinesOutcome work.ruling result counts counts' given rest held held'
-      → NamedOutcome work name result counts counts' left left' held held'
-  named_opened is same given rest kept text = record {
-    whole = λ done. of_folder work.holds name (λ l l'. RedactsLines work.ruling l l' held held') left left' is same rest
-        (known_text (work.holds name) given rest held held' kept (text.whole done));
-    begun = of_folder work.holds name (λ l l'. WritesLines work.ruling l l' held held') left left' is same rest
-        (by text.begun);
-    counted = λ done. let counted = text.counted done in (
-      counted.0,
-      of_folder work.holds name (HasRuns work.ruling.covering counted.0) left left' is same rest (known_runs work.ruling.covering counted.0 (work.holds name) given rest kept counted.1),
-      counted.2,
-    );
-  }
-    where
-      by : WritesLines work.ruling given rest held held' → WritesLines work.ruling (work.holds name) rest held held'
-      by (inl whole) = inl (known_text (work.holds name) given rest held held' kept whole)
-      by (inr begun) = inr (known_begun (work.holds name) given rest held held' kept begun)
+pub read_input : {holds : List ℕ → Option (List ℕ)} {name : List ℕ} {left left' : Option (List ℕ)} → is_input name ≡ true → IsFileRead holds name left left' left left'
+read_input {holds} {name} {left} {left'} is = record { known = left; kept = Keeps-refl left; of = λ Reads reads. of_input holds name Reads left left' is reads }
+
+pub read_opened : {holds : List ℕ → Option (List ℕ)} {name : List ℕ} {given rest left : Option (List ℕ)} → is_input name ≡ false → Keeps (holds name) given → IsFileRead holds name given rest left left
+read_opened {holds} {name} {given} {rest} {left} is kept = record { known = holds name; kept = kept; of = λ Reads reads. of_folder holds name Reads left left is refl rest reads }
+
+-- what comes of it
+pub named_file : {work : RuledWork} {name : List ℕ} {result : Result (Option Reason) LineError} {counts counts' : List ℕ} {given rest left left' held held' : Option (List ℕ)} → IsFileRead work.holds name given rest left left'
+    → LinesOutcome work.ruling result counts counts' given rest held held' → NamedOutcome work name result counts counts' left left' held held'
+named_file {work} {given = given} {rest = rest} {held = held} {held' = held'} file text = record {
+  whole = λ done. file.of (λ l l'. RedactsLines work.ruling l l' held held') (known_text file.known given rest held held' file.kept (text.whole done));
+  begun = file.of (λ l l'. WritesLines work.ruling l l' held held') (by text.begun);
+  counted = λ done.
+      let counted = text.counted done in
+      (counted.0, file.of (HasRuns work.ruling.covering counted.0) (known_runs work.ruling.covering counted.0 file.known given rest file.kept counted.1), counted.2);
+}
+  where
+    by : WritesLines work.ruling given rest held held' → WritesLines work.ruling file.known rest held held'
+    by (inl whole) = inl (known_text file.known given rest held held' file.kept whole)
+    by (inr begun) = inr (known_begun file.known given rest held held' file.kept begun)
 
 -- nothing was written of a file, or of any
 pub named_nothing : (work : RuledWork) (name : List ℕ) (left held : Option (List ℕ)) → WritesRuled work name left left held held
