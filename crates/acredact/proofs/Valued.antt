@@ -1,45 +1,12 @@
 -- Values of variables, one after another.
-use Rattle.acredact.proofs.Common.{All-head, All-tail, Bor, Form, Rule, common_steps, get_or-map, length-map, pieces_of}
-use Rattle.std.proofs.Common.{◌≡◌, ℕ, ◌+◌, ◌-◌, ◌^◌, ◌<◌, Bool, true, false, List, [], ◌∷◌, ◌++◌, Option, length, get_or, refl, sym, ap, subst, ◌∙◌, append-nil, append_assoc, arith}
-use Rattle.std.specs.Prelude.{Some, None, if◌then◌else◌, min, nat_eq, nat_lt, slice_index_or}
+use Rattle.acredact.proofs.Common.{Bor, Form, Rule, common_steps, get_or-map, length-map, pieces_of}
+use Rattle.std.proofs.Common.{◌≡◌, ℕ, ◌+◌, ◌-◌, ◌^◌, ◌<◌, Bool, true, List, [], ◌∷◌, ◌++◌, Option, length, get_or, refl, sym, ap, subst, ◌∙◌, append-nil, append_assoc, arith}
+use Rattle.std.specs.Prelude.{Some, None, min, nat_lt, slice_index_or}
 use Rattle.std.specs.List.{cons_option}
 use Rattle.acredact.specs.Parts.{IsAddedSome}
-use Rattle.acredact.specs.Tables.{IsWithout, Secret, patterns_in, secret_of, secrets_of, stripped_by}
-use Rattle.acredact.specs.Values.{GiveEach, GivesValue, bad_or, before_equals, behind_equals, fault_of_line, first_fault, is_named, value_of_entry, values_with}
+use Rattle.acredact.specs.Tables.{Secret, patterns_in, secret_of, secrets_of, stripped_by}
+use Rattle.acredact.specs.Values.{GiveEach, GivesValue, bad_or, fault_of_line, first_fault, values_with}
 use Rattle.acredact.specs.declared.patterns.LineFault.{LineFault}
-
--- the first equals sign parts a text
-pub behind_at : (front rest : List ℕ) → IsWithout 61 front → behind_equals (front ++ (61 ∷ rest)) ≡ Some rest
-behind_at [] rest without = refl
-behind_at (byte ∷ front) rest without =
-    ap (λ (b : Bool). if b then Some (front ++ (61 ∷ rest)) else behind_equals (front ++ (61 ∷ rest))) (All-head (λ b. nat_eq b 61 ≡ false) byte front without)
-    ∙ behind_at front rest (All-tail (λ b. nat_eq b 61 ≡ false) byte front without)
-
-pub before_at : (front rest : List ℕ) → IsWithout 61 front → before_equals (front ++ (61 ∷ rest)) ≡ front
-before_at [] rest without = refl
-before_at (byte ∷ front) rest without =
-    ap (λ (b : Bool). if b then [] else byte ∷ before_equals (front ++ (61 ∷ rest))) (All-head (λ b. nat_eq b 61 ≡ false) byte front without)
-    ∙ ap (λ l. byte ∷ l) (before_at front rest (All-tail (λ b. nat_eq b 61 ≡ false) byte front without))
-
-pub behind_none : (text : List ℕ) → IsWithout 61 text → behind_equals text ≡ None
-behind_none [] without = refl
-behind_none (byte ∷ text) without =
-    ap (λ (b : Bool). if b then Some text else behind_equals text) (All-head (λ b. nat_eq b 61 ≡ false) byte text without)
-    ∙ behind_none text (All-tail (λ b. nat_eq b 61 ≡ false) byte text without)
-
--- so an entry of this name has a value, and one without such a sign has none
-pub entry_at : (name entry front rest : List ℕ) → entry ≡ front ++ (61 ∷ rest) → IsWithout 61 front → value_of_entry name entry ≡ (if is_named name front then Some rest else None)
-entry_at name entry front rest is without =
-    ap (value_of_entry name) is
-    ∙ ap (λ (l : List ℕ). if is_named name l then behind_equals (front ++ (61 ∷ rest)) else None) (before_at front rest without)
-    ∙ ap (λ (o : Option (List ℕ)). if is_named name front then o else None) (behind_at front rest without)
-
-pub entry_none : (name entry : List ℕ) → IsWithout 61 entry → value_of_entry name entry ≡ None
-entry_none name entry without = by (is_named name (before_equals entry)) (behind_equals entry) (behind_none entry without)
-  where
-    by : (b : Bool) (o : Option (List ℕ)) → o ≡ None → (if b then o else None) ≡ None
-    by true o is = is
-    by false o is = refl
 
 -- a value more
 pub values_more : (values rest all : List (List ℕ)) (value : Option (List ℕ)) → values ++ cons_option value rest ≡ all → values_with values value ++ rest ≡ all
