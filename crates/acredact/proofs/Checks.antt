@@ -79,7 +79,7 @@ module _ {E X : Type 0} (K : SinkGhosts E) (quest : Quest) where
   pub looks_of_none : {old : Option (List ℕ) × Errors E} → ComesOfLooks [] (Ok verdicts_joined.none) old old
   looks_of_none {old} = record { seen = ([], refl, (refl, refl, refl), tells-nothing K old.1); quiet = λ is. refl; told = tt }
 
-  pub looks_failed : {names : List (List ℕ)} {error : X} {old : Option (List ℕ) × Errors E} → ComesOfLooks names (Err error) old old
+  pub looks_failed : {names : List (List ℕ)} {error : X} {old : Option (List ℕ) × Errors E} {left : Option (List ℕ)} → ComesOfLooks names (Err error) old (left, old.1)
   looks_failed {names} {error} {old} = record { seen = tt; quiet = tt; told = tells_same K (IsUnreadLine names) old.1 old.1 refl }
 
 -- where nothing was found and nothing told, each file was read to its end and has no match

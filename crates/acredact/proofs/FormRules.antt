@@ -1,11 +1,12 @@
 -- The forms of rules, one after another.
 use Rattle.acredact.proofs.Common.{All, All-cons, All-nil, Nested, Rule, map-append}
-use Rattle.std.proofs.Common.{◌≡◌, ℕ, ◌+◌, ◌-◌, List, [], ◌∷◌, ◌++◌, length, map, refl, sym, ap, subst, ◌∙◌, append-nil, append_assoc}
+use Rattle.std.proofs.Common.{◌≡◌, ℕ, ◌+◌, ◌-◌, List, [], ◌∷◌, ◌++◌, length, map, refl, sym, ap, subst, ◌∙◌, append-nil, append_assoc, ◌≤◌, take, drop, get_or}
 use Rattle.std.specs.Prelude.{Bool, true, false, nat_lt, None, Some, Result, Ok, Err, OnOk, flat_map, is_ok, if◌then◌else◌}
 use Rattle.std.proofs.lemmas.List.Elements.{filter-append}
+use Rattle.std.proofs.lemmas.Slice.{first_rest}
 use Rattle.secret_forms.specs.Forms.{HidesForm}
 use Rattle.secret_forms.specs.declared.form.Form.{Form as SecretForm}
-use Rattle.acredact.specs.Forms.{AskedForms, HaveForms, HideSecrets, HidesNestedForm, HidesSecret, asked_forms, filled, forms_asked, forms_from, forms_named, forms_of, nested_named, once_patterns}
+use Rattle.acredact.specs.Forms.{AskedForms, HaveForms, HideSecrets, HidesNestedForm, HidesSecret, asked_forms, filled, forms_asked, forms_from, forms_named, nested_named, once_patterns}
 use Rattle.acredact.specs.Tables.{Secret, secret_of, secrets_of}
 use Rattle.acredact.specs.declared.forms.Asked.{Asked}
 
@@ -13,12 +14,17 @@ use Rattle.acredact.specs.declared.forms.Asked.{Asked}
 pub all_next : {X : Type 0} (P : X → Type 0) (rest others : List X) (x : X) → rest ≡ x ∷ others → P x → All P others → All P rest
 all_next P rest others x cut one are = subst (All P) (sym cut) (All-cons P x others one are)
 
--- the forms of one rule more are added
-pub rules_next : (asked : AskedForms) (number : ℕ) (rest others : List Rule) (rule : Rule) (all old new more : List Secret) → rest ≡ rule ∷ others → all ≡ old ++ forms_from asked number (secrets_of rest)
-    → new ≡ old ++ more → more ≡ forms_of asked number (secret_of rule) → all ≡ new ++ forms_from asked (number + 1) (secrets_of others)
-rules_next asked number rest others rule all old new more cut is grown are =
-    let later = forms_from asked (number + 1) (secrets_of others) in
-    is ∙ ap (λ l. old ++ forms_from asked number (secrets_of l)) cut ∙ ap (λ l. old ++ (l ++ later)) (sym are) ∙ sym (append_assoc old more later) ∙ ap (λ l. l ++ later) (sym grown)
+-- what is made of one rule more is added
+pub rules_more : (made later : List Secret → List Secret) (one : Secret → List Secret) → ((secret : Secret) (secrets : List Secret) → made (secret ∷ secrets) ≡ one secret ++ later secrets)
+    → (rest others : List Rule) (rule : Rule) (all old new more : List Secret) → rest ≡ rule ∷ others → all ≡ old ++ made (secrets_of rest) → new ≡ old ++ more → more ≡ one (secret_of rule) → all ≡ new ++ later (secrets_of others)
+rules_more made later one each rest others rule all old new more cut is grown are =
+    let behind = later (secrets_of others) in
+    is ∙ ap (λ l. old ++ l) (ap (λ l. made (secrets_of l)) cut ∙ each (secret_of rule) (secrets_of others) ∙ ap (λ l. l ++ behind) (sym are)) ∙ sym (append_assoc old more behind) ∙ ap (λ l. l ++ behind) (sym grown)
+
+pub rules_next : (made later : List Secret → List Secret) (one : Secret → List Secret) → ((secret : Secret) (secrets : List Secret) → made (secret ∷ secrets) ≡ one secret ++ later secrets)
+    → (rest : List Rule) (other : Rule) (all old new more : List Secret) → 1 ≤ length rest → all ≡ old ++ made (secrets_of rest) → new ≡ old ++ more → more ≡ one (secret_of (get_or rest 0 other))
+    → all ≡ new ++ later (secrets_of (take (length rest - 1) (drop 1 rest)))
+rules_next made later one each rest other all old new more some = rules_more made later one each rest _ _ all old new more (first_rest rest other some)
 
 -- those of one form of a form more are added
 pub nested_next : (patterns : Nested → List (List ℕ)) (make : List ℕ → Secret) (rest others : List Nested) (one : Nested) (all old new more : List Secret) → rest ≡ one ∷ others

@@ -3,7 +3,7 @@ use Rattle.acredact.proofs.Common.{AreSearchedFor, Automata, CanCoverLines, Cove
 use Rattle.std.proofs.Common.{◌≡◌, ◌≢◌, inl, inr, ℕ, List, [], ◌∷◌, ◌++◌, Option, true, false, length, map, refl, sym, ap, subst, ◌∙◌, arith}
 use Rattle.std.specs.Prelude.{Bool, None, OnErr, OnOk, Result, Ok, Err}
 use Rattle.aho_cover.specs.declared.pieces.Pieces.{Ghosts as PieceGhosts}
-use Rattle.aho_cover.proofs.Copied.{begins_behind, begins_longer}
+use Rattle.aho_cover.proofs.Copied.{begins_longer}
 use Rattle.secret_rules.specs.Covering.{lines_cover}
 use Rattle.secret_rules.specs.LineCovers.{BeginsLines, BeginsNextLine, CoversLines, CoversWholeLines, LeavesLines, all_of}
 use Rattle.secret_rules.specs.Ready.{CoversTheSame}
@@ -14,6 +14,11 @@ use Rattle.acredact.specs.Ruled.{BeginsLinesText, IsLined, LeavesLined, LinesOut
 use Rattle.acredact.specs.RunCounts.{CountsTextRuns, HasLineRuns, HasRuns}
 use Rattle.acredact.specs.declared.ruled_files.Lined.{Lined}
 use Rattle.acredact.proofs.OneFile.{begun_writing, ended_text, known_read}
+
+-- a beginning behind the same bytes
+pub begins_behind : (front all first : List ℕ) → StartsWith all first → StartsWith (front ++ all) (front ++ first)
+begins_behind [] all first is = is
+begins_behind (byte ∷ front) all first is = ap (λ l. byte ∷ l) (begins_behind front all first is)
 
 -- the cover of all lines begins with that of the first ones, and a beginning of that of the next
 begins_cover : (rule : PieceRule) (lines : List Line) (runs : List (List Occurrence)) (part : List ℕ) (all : List Line) (all_runs : List (List Occurrence)) → length runs ≡ length lines

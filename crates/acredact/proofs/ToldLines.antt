@@ -3,7 +3,7 @@ use Rattle.acredact.proofs.Common.{Appends, Appends-nil, Appends-trans, Covering
 use Rattle.std.proofs.Common.{◌++◌, ◌∙◌, ◌∷◌, ◌≡◌, ◌≢◌, List, Option, [], ap, append-nil, append_assoc, drop, false, inl, inr, refl, subst, sym, take, true, ℕ}
 use Rattle.std.specs.Prelude.{Bool, ◌||◌, Result, Ok, Err, IfOk}
 use Rattle.std.proofs.lemmas.List.{take-append-drop}
-use Rattle.aho_cover.proofs.Copied.{begins_behind, begins_with}
+use Rattle.aho_cover.proofs.Copied.{begins_with}
 use Rattle.secret_rules.specs.Visits.{BeginsVisiting, LeavesVisited, StopsWithin, VisitsEach, VisitsLines, taken_line}
 use Rattle.secret_rules.specs.declared.rule.Rule.{Rule}
 use Rattle.secret_rules.specs.declared.visitor.LineVisitor.{Ghosts as VisitorGhosts}
@@ -11,6 +11,7 @@ use Rattle.acredact.specs.Looks.{verdict_of}
 use Rattle.acredact.specs.RuledChecks.{BeginsGiven, IsAtFirst, LookedText, SeesText, StopsTelling, TellsGiven, TellsLine, SaysLines, findings_behind, findings_of, found_of, is_some_line, is_some_run, labels_of, lines_findings, look_of_lines}
 use Rattle.acredact.specs.declared.findings.Findings.{Findings}
 use Rattle.acredact.proofs.OneFile.{begun_writing, ended_text}
+use Rattle.acredact.proofs.RuledText.{begins_behind}
 
 -- what was found behind some lines, and what is told of them
 abbrev pub all_behind : Findings → List (List Occurrence) → Findings

@@ -52,13 +52,13 @@ fn read_rules<'a, F: Folder, I: Read>(
 {
     let mut rules = Vec::new(lists.alloc);
     let mut rest = items;
-    while let Some((item, more)) = rest.split_first() {
+    while !rest.is_empty() {
         // Not by `?`: this error holds names.
-        match add_rules(lists, &mut rules, *item, input) {
+        match add_rules(lists, &mut rules, rest[0], input) {
             Ok(()) => {}
             Err(failure) => return Err(failure),
         }
-        rest = more;
+        rest = &rest[1..];
     }
     Ok(rules)
 }

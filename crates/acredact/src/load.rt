@@ -144,14 +144,14 @@ fn read_rules<'a, F: Folder, I: Read>(
     let mut rules = Vec::new(lists.alloc);
     let mut number: usize = 0;
     let mut rest = items;
-    while let Some((item, more)) = rest.split_first() {
+    while !rest.is_empty() {
         // Not by `?`: this error holds names.
-        match add_item(lists, &mut rules, *item, number, input) {
+        match add_item(lists, &mut rules, rest[0], number, input) {
             Ok(()) => {}
             Err(failure) => return Err(failure),
         }
         number = number.saturating_add(1);
-        rest = more;
+        rest = &rest[1..];
     }
     Ok(rules)
 }
@@ -272,9 +272,9 @@ fn add_each<F>(
         (GiveEach lists.now.parts (pieces_of values.now)) rules.old rules.new) }
 {
     let mut rest = values;
-    while let Some((value, more)) = rest.split_first() {
-        add_value(lists, rules, *value, list)?;
-        rest = more;
+    while !rest.is_empty() {
+        add_value(lists, rules, rest[0], list)?;
+        rest = &rest[1..];
     }
     Ok(())
 }

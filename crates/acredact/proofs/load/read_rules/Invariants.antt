@@ -7,11 +7,11 @@ use Rattle.acredact.specs.Tables.{secrets_of}
 use Rattle.acredact.proofs.Loaded.{FailsAmong, GivenSoFar}
 use Rattle.acredact.proofs.load.read_rules.Given as goal
 
-abbrev pub invariant-loop-item : goal.invariant-loop-item
-invariant-loop-item g l =
+abbrev pub invariant-loop-rest : goal.invariant-loop-rest
+invariant-loop-rest g l =
     let reading = reading_of_lists g.F.Folder l.fn.lists in
     GivenSoFar (λ item. OptionGives reading item.word item.value) (all_given l.fn.items) (bytes_left l.initial.input) (all_given l.rest) (secrets_of l.rules.items) (bytes_left l.input)
     × FailsAmong reading (all_given l.fn.items) (all_given l.rest)
 
-abbrev pub decreases-loop-item : goal.decreases-loop-item
-decreases-loop-item g l = length l.rest
+abbrev pub decreases-loop-rest : goal.decreases-loop-rest
+decreases-loop-rest g l = length l.rest

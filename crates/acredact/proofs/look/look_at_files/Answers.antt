@@ -24,7 +24,7 @@ loop-rest-preserved g c = λ p of.
 pub returns-in_err-look : goal.returns-in_err-look
 returns-in_err-look g c =
     let is : c.from_residual.result ≡ Err c.in_err-look.field-0.0 = search rules in
-    record { sees = λ p of. rw is (turn_fails (c.loop-rest.invariant p of) refl (looks_failed g.E.Sink _)) }
+    record { sees = λ p of. rw is (turn_fails (c.loop-rest.invariant p of) refl (looks_failed g.E.Sink _ {error = c.in_err-look.field-0.0})) }
 
 pub returns : goal.returns
 returns g c =
