@@ -1,26 +1,28 @@
 -- What is seen of files, one after another.
-use Rattle.acredact.proofs.Common.{All, All-append, All-cons, All-nil, Consumes-nil, Errors, Failure, Keeps, Keeps-refl, Look, Reason, SinkGhosts, Strict, TellsBytes, Verdict, concat, is_input, or-false, or_assoc, tells-later, tells-nothing}
-use Rattle.std.proofs.Common.{◌≡◌, inl, inr, ℕ, List, [], ◌∷◌, ◌++◌, Option, true, false, refl, sym, ap, subst, ◌∙◌, append-nil, append_assoc, arith}
-use Rattle.std.specs.Prelude.{Bool, ◌⊎◌, ◌<◌, ◌||◌, ◌&&◌, not, Result, Ok, Err, IfErr}
-use Rattle.tool_parts.specs.Names.{IsOneOf}
+use Rattle.acredact.proofs.Common.{Consumes-nil, Errors, Failure, Keeps, Look, Reason, SinkGhosts, Strict, TellsBytes, Verdict, concat, is_input, tells-later, tells-nothing}
+use Rattle.std.proofs.Common.{◌≡◌, inl, inr, ℕ, List, [], ◌∷◌, ◌++◌, Option, true, false, refl, sym, subst, ◌∙◌, arith}
+use Rattle.std.specs.Prelude.{Bool, ◌⊎◌, ◌<◌, ◌||◌, ◌&&◌, Result, Ok, Err, IfErr}
 use Rattle.acredact.specs.Builds.{patterns_by_given}
 use Rattle.acredact.specs.Arguments.{has}
-use Rattle.acredact.specs.Calls.{Call, IsUnreadLine, gives_pattern, names_asked, reading_by}
+use Rattle.acredact.specs.Calls.{Call, IsUnreadLine, TellsOfFiles, gives_pattern, names_asked, reading_by}
 use Rattle.acredact.specs.Checks.{AreSeen, AreUnmatched, CheckFails, CheckOutcome, CheckSays, CheckStatus, IsBuildFailure, IsCheckLine, IsLookOf, IsUnmatchedCall, Quest, SeesCall, SeesFiles, look_lines, quest_by}
 use Rattle.acredact.specs.Doubts.{TellsDoubts}
 use Rattle.acredact.specs.Failures.{IsFailureLine}
 use Rattle.acredact.specs.Faults.{IsReadReason}
-use Rattle.acredact.specs.Files.{are_none, unread_line}
+use Rattle.acredact.specs.Files.{are_none}
 use Rattle.acredact.specs.Loading.{AreGiven, CannotLoadAll}
-use Rattle.acredact.specs.Looks.{IsLook, HoldsNoMatch, both_seen, is_found, is_unread_look, verdict_of}
+use Rattle.acredact.specs.Looks.{IsLook, HoldsNoMatch, is_found, verdict_of}
 use Rattle.acredact.specs.Reads.{OfName}
 use Rattle.acredact.specs.Secrets.{Redactor}
 use Rattle.acredact.specs.Statuses.{check_status}
 use Rattle.acredact.specs.Tables.{Secret, patterns_in}
 use Rattle.acredact.specs.declared.look.Look.TheVariants.{Clean, Found, Unread}
 use Rattle.acredact.proofs.Calls.{none_are, tells_both, tells_same, tells_weaker}
-use Rattle.acredact.proofs.Done.{concat_both}
-use Rattle.acredact.proofs.OneFile.{known_read, of_folder, of_input}
+use Rattle.acredact.proofs.Done.{both_so, concat_both, none_both}
+use Rattle.acredact.proofs.LookedFiles.{verdicts_joined}
+use Rattle.acredact.proofs.OneFile.{known_read, of_folder}
+use Rattle.acredact.proofs.RuledFiles.{IsFileRead, told_as, told_more}
+use Rattle.acredact.proofs.Turns.{also}
 use Rattle.acredact.proofs.Warned.{doubts_tell}
 
 -- a look at what is known of a file, for reasons that may be more
@@ -35,88 +37,50 @@ module _ (quest : Quest) (name : List ℕ) where
   abbrev MayBeTold : Reason → Type 0
   MayBeTold reason = IsReadReason reason ⊎ quest.refuses name reason
 
-  pub look_input : (look : Look) (left left' : Option (List ℕ)) → is_input name ≡ true → IsLook quest.redactor IsReadReason look left left' → IsLookOf quest name look left left'
-  look_input look left left' is looks = of_input quest.holds name (IsLook quest.redactor MayBeTold look) left left' is (known_look quest.redactor IsReadReason MayBeTold left left left' (Keeps-refl left) (λ reason why. inl why) look looks)
-
-  pub look_opened : (look : Look) (given left left' rest : Option (List ℕ)) → is_input name ≡ false → left' ≡ left → Keeps (quest.holds name) given → IsLook quest.redactor IsReadReason look given rest → IsLookOf quest name look left left'
-  look_opened look given left left' rest is same kept looks =
-      of_folder quest.holds name (IsLook quest.redactor MayBeTold look) left left' is same rest (known_look quest.redactor IsReadReason MayBeTold (quest.holds name) given rest kept (λ reason why. inl why) look looks)
+  pub look_file : {given rest left left' : Option (List ℕ)} (look : Look) → IsFileRead quest.holds name given rest left left' → IsLook quest.redactor IsReadReason look given rest → IsLookOf quest name look left left'
+  look_file {given} {rest} look file looks = file.of (IsLook quest.redactor MayBeTold look) (known_look quest.redactor IsReadReason MayBeTold file.known given rest file.kept (λ reason why. inl why) look looks)
 
   pub look_refused : (reason : Reason) (left left' : Option (List ℕ)) → is_input name ≡ false → left' ≡ left → quest.refuses name reason → IsLookOf quest name (Unread reason) left left'
   look_refused reason left left' is same why =
       of_folder quest.holds name (IsLook quest.redactor MayBeTold (Unread reason)) left left' is same (quest.holds name) (inr why, ([], Consumes-nil (quest.holds name)))
 
--- the lines of a look
-look_are : (name : List ℕ) (names : List (List ℕ)) (look : Look) → IsOneOf name names → All (IsUnreadLine names) (look_lines name look)
-look_are name names Clean among = All-nil (IsUnreadLine names)
-look_are name names Found among = All-nil (IsUnreadLine names)
-look_are name names (Unread reason) among = All-cons (IsUnreadLine names) (unread_line name reason) [] (name, among, inl (reason, refl)) (All-nil (IsUnreadLine names))
+-- a look tells nothing just where it comes to an end
+look_none : (name : List ℕ) (look : Look) → (verdict_of look).all ≡ are_none (look_lines name look)
+look_none name Clean = refl
+look_none name Found = refl
+look_none name (Unread reason) = refl
 
-none_more : (lines : List (List ℕ)) (name : List ℕ) (look : Look) (all : Bool) → all ≡ are_none lines → (all && not (is_unread_look look)) ≡ are_none (lines ++ look_lines name look)
-none_more [] name Clean all is = ap (λ (b : Bool). b && true) is
-none_more [] name Found all is = ap (λ (b : Bool). b && true) is
-none_more [] name (Unread reason) all is = ap (λ (b : Bool). b && false) is
-none_more (line ∷ lines) name look all is = ap (λ (b : Bool). b && not (is_unread_look look)) is
+module _ {E X : Type 0} (K : SinkGhosts E) (quest : Quest) where
+  -- by what the input has left, and what was told
+  abbrev pub ComesOfLooks : List (List ℕ) → Result Verdict X → (old new : Option (List ℕ) × Errors E) → Type 0
+  ComesOfLooks names result old new = SeesFiles K quest names result old.0 new.0 old.1 new.1
 
-both_all : (first : Bool) (look : Look) → (first && not (is_unread_look look)) ≡ true → (first ≡ true) × (is_unread_look look ≡ false)
-both_all true Clean is = (refl, refl)
-both_all true Found is = (refl, refl)
-both_all true (Unread reason) is = absurd (cc)
-both_all false look is = absurd (cc)
+  module _ {name : List ℕ} {names : List (List ℕ)} {look : Look} {old mid : Option (List ℕ) × Errors E} (looks : IsLookOf quest name look old.0 mid.0) (lines_told : TellsBytes K old.1 mid.1 (concat (look_lines name look)))
+      (told : TellsOfFiles {X = X} K (name ∷ []) (Ok (verdict_of look).all) old.1 mid.1) where
+    -- what comes of a file, and then of others
+    pub looks_more : (result : Result Verdict X) (end : Option (List ℕ) × Errors E) → ComesOfLooks names result mid end → ComesOfLooks (name ∷ names) (also verdicts_joined (verdict_of look) result) old end
+    looks_more (Ok verdict) end more =
+        let (lines, is_all, seen, later) = more.seen in
+        record {
+          seen = (
+            look_lines name look ++ lines,
+            none_both (look_lines name look) lines (verdict_of look).all verdict.all ((verdict_of look).all && verdict.all) (look_none name look) is_all refl,
+            (look, verdict.found, lines, refl, refl, mid.0, looks, seen),
+            subst (TellsBytes K old.1 end.1) (sym (concat_both (look_lines name look) lines)) (tells-later K lines_told later),
+          );
+          quiet = λ all.
+              let both = both_so (verdict_of look).all verdict.all ((verdict_of look).all && verdict.all) refl all in
+              more.quiet both.1 ∙ told_as X K (name ∷ []) (verdict_of look).all true old.1 mid.1 both.0 told;
+          told = tt;
+        }
+    looks_more (Err error) end more = record { seen = tt; quiet = tt; told = told_more K name names (verdict_of look).all (Err error) old.1 mid.1 end.1 told more.told }
 
-module _ {E : Type 0} (K : SinkGhosts E) (quest : Quest) (names : List (List ℕ)) (old : Errors E) (before : Option (List ℕ)) where
-  -- some first files were looked at: what is seen of the others is seen of all
-  pub record SeenSoFar (rest : List (List ℕ)) (verdict : Verdict) (left : Option (List ℕ)) (errors : Errors E) : Type 0 where
-    pub lines : List (List ℕ)
-    pub is_all : verdict.all ≡ are_none lines
-    pub are : All (IsUnreadLine names) lines
-    pub told : TellsBytes K old errors (concat lines)
-    pub quiet : verdict.all ≡ true → errors ≡ old
-    pub among : (name : List ℕ) → IsOneOf name rest → IsOneOf name names
-    pub seen : (found : Bool) (more : List (List ℕ)) (left' : Option (List ℕ)) → AreSeen quest rest found more left left' → AreSeen quest names (verdict.found || found) (lines ++ more) before left'
+  -- of none
+  pub looks_of_none : {old : Option (List ℕ) × Errors E} → ComesOfLooks [] (Ok verdicts_joined.none) old old
+  looks_of_none {old} = record { seen = ([], refl, (refl, refl, refl), tells-nothing K old.1); quiet = λ is. refl; told = tt }
 
-  -- one more
-  pub seen_more : (name : List ℕ) (rest : List (List ℕ)) (verdict : Verdict) (look : Look) (left left' : Option (List ℕ)) (mid new : Errors E) → SeenSoFar (name ∷ rest) verdict left mid → IsLookOf quest name look left left'
-      → TellsBytes K mid new (concat (look_lines name look)) → (is_unread_look look ≡ false → new ≡ mid) → SeenSoFar rest (both_seen verdict (verdict_of look)) left' new
-  seen_more name rest verdict look left left' mid new so looks told quiet = record {
-    lines = so.lines ++ look_lines name look;
-    is_all = none_more so.lines name look verdict.all so.is_all;
-    are = All-append (IsUnreadLine names) so.lines (look_lines name look) so.are (look_are name names look (so.among name (inl refl)));
-    told = subst (TellsBytes K old new) (sym (concat_both so.lines (look_lines name look))) (tells-later K so.told told);
-    quiet = λ is. let parts = both_all verdict.all look is in quiet parts.1 ∙ so.quiet parts.0;
-    among = λ other is. so.among other (inr is);
-    seen = λ found more last rests.
-        let here : AreSeen quest (name ∷ rest) (is_found look || found) (look_lines name look ++ more) left last = (look, found, more, refl, refl, left', looks, rests) in
-        subst (λ (l : List (List ℕ)). AreSeen quest names ((verdict.found || is_found look) || found) l before last) (sym (append_assoc so.lines (look_lines name look) more))
-        (subst (λ (b : Bool). AreSeen quest names b (so.lines ++ (look_lines name look ++ more)) before last) (sym (or_assoc verdict.found (is_found look) found))
-        (so.seen (is_found look || found) (look_lines name look ++ more) last here));
-  }
-
-  -- all
-  pub seen_all : {X : Type 0} (verdict : Verdict) (left : Option (List ℕ)) (errors : Errors E) → SeenSoFar [] verdict left errors → SeesFiles K {X = X} quest names (Ok verdict) before left old errors
-  seen_all verdict left errors so = record {
-    seen = (
-      so.lines,
-      so.is_all,
-      subst (λ (b : Bool). AreSeen quest names b so.lines before left) (or-false verdict.found)
-          (subst (λ (l : List (List ℕ)). AreSeen quest names (verdict.found || false) l before left) (append-nil so.lines) (so.seen false [] left (refl, refl, refl))),
-      so.told,
-    );
-    quiet = so.quiet;
-    told = tt;
-  }
-
--- before the first
-pub seen_none : {E : Type 0} (K : SinkGhosts E) (quest : Quest) (names : List (List ℕ)) (errors : Errors E) (left : Option (List ℕ)) → SeenSoFar K quest names errors left names (record { found = false; all = true }) left errors
-seen_none K quest names errors left = record {
-  lines = [];
-  is_all = refl;
-  are = All-nil (IsUnreadLine names);
-  told = tells-nothing K errors;
-  quiet = λ is. refl;
-  among = λ name is. is;
-  seen = λ found more left' seen. seen;
-}
+  pub looks_failed : {names : List (List ℕ)} {error : X} {old : Option (List ℕ) × Errors E} {left : Option (List ℕ)} → ComesOfLooks names (Err error) old (left, old.1)
+  looks_failed {names} {error} {old} = record { seen = tt; quiet = tt; told = tells_same K (IsUnreadLine names) old.1 old.1 refl }
 
 -- where nothing was found and nothing told, each file was read to its end and has no match
 none_found : (a b : Bool) → false ≡ (a || b) → (a ≡ false) × (b ≡ false)

@@ -1,57 +1,40 @@
 -- The forms of rules, one after another.
-use Rattle.acredact.proofs.Common.{All-cons, All-head, All-nil, Nested, Rule, map-append, take_rest}
-use Rattle.std.proofs.Common.{◌≡◌, ◌≤◌, ℕ, ◌+◌, ◌-◌, List, [], ◌∷◌, ◌++◌, length, map, take, drop, get_or, refl, sym, ap, subst, ◌∙◌, append-nil, append_assoc, arith}
+use Rattle.acredact.proofs.Common.{All, All-cons, All-nil, Nested, Rule, map-append}
+use Rattle.std.proofs.Common.{◌≡◌, ℕ, ◌+◌, ◌-◌, List, [], ◌∷◌, ◌++◌, length, map, refl, sym, ap, subst, ◌∙◌, append-nil, append_assoc, ◌≤◌, take, drop, get_or}
 use Rattle.std.specs.Prelude.{Bool, true, false, nat_lt, None, Some, Result, Ok, Err, OnOk, flat_map, is_ok, if◌then◌else◌}
 use Rattle.std.proofs.lemmas.List.Elements.{filter-append}
+use Rattle.std.proofs.lemmas.Slice.{first_rest}
 use Rattle.secret_forms.specs.Forms.{HidesForm}
 use Rattle.secret_forms.specs.declared.form.Form.{Form as SecretForm}
-use Rattle.acredact.specs.Forms.{AskedForms, HaveForms, HideSecrets, HidesNestedForm, HidesSecret, HidesTwice, asked_forms, filled, forms_asked, forms_from, forms_named, nested_named, once_patterns}
+use Rattle.acredact.specs.Forms.{AskedForms, HaveForms, HideSecrets, HidesNestedForm, HidesSecret, asked_forms, filled, forms_asked, forms_from, forms_named, nested_named, once_patterns}
 use Rattle.acredact.specs.Tables.{Secret, secret_of, secrets_of}
 use Rattle.acredact.specs.declared.forms.Asked.{Asked}
 
+-- what is so of the first and of the others is so of all
+pub all_next : {X : Type 0} (P : X → Type 0) (rest others : List X) (x : X) → rest ≡ x ∷ others → P x → All P others → All P rest
+all_next P rest others x cut one are = subst (All P) (sym cut) (All-cons P x others one are)
+
 -- what is made of one rule more is added
+pub rules_more : (made later : List Secret → List Secret) (one : Secret → List Secret) → ((secret : Secret) (secrets : List Secret) → made (secret ∷ secrets) ≡ one secret ++ later secrets)
+    → (rest others : List Rule) (rule : Rule) (all old new more : List Secret) → rest ≡ rule ∷ others → all ≡ old ++ made (secrets_of rest) → new ≡ old ++ more → more ≡ one (secret_of rule) → all ≡ new ++ later (secrets_of others)
+rules_more made later one each rest others rule all old new more cut is grown are =
+    let behind = later (secrets_of others) in
+    is ∙ ap (λ l. old ++ l) (ap (λ l. made (secrets_of l)) cut ∙ each (secret_of rule) (secrets_of others) ∙ ap (λ l. l ++ behind) (sym are)) ∙ sym (append_assoc old more behind) ∙ ap (λ l. l ++ behind) (sym grown)
+
 pub rules_next : (made later : List Secret → List Secret) (one : Secret → List Secret) → ((secret : Secret) (secrets : List Secret) → made (secret ∷ secrets) ≡ one secret ++ later secrets)
     → (rest : List Rule) (other : Rule) (all old new more : List Secret) → 1 ≤ length rest → all ≡ old ++ made (secrets_of rest) → new ≡ old ++ more → more ≡ one (secret_of (get_or rest 0 other))
     → all ≡ new ++ later (secrets_of (take (length rest - 1) (drop 1 rest)))
-rules_next made later one each [] other all old new more some is grown are = absurd (omega (arith, some))
-rules_next made later one each (rule ∷ rest) other all old new more some is grown are =
-    is ∙ ap (λ l. old ++ l) (each (secret_of rule) (secrets_of rest) ∙ ap (λ l. l ++ later (secrets_of rest)) (sym are)) ∙ sym (append_assoc old more (later (secrets_of rest)))
-    ∙ ap (λ l. l ++ later (secrets_of rest)) (sym grown) ∙ ap (λ l. new ++ later (secrets_of l)) (sym (take_rest (rule ∷ rest) 1))
-
--- the forms hide the rule
-pub hidden_next : (wanted : AskedForms) (rest all : List Rule) (other : Rule) → 1 ≤ length rest → (HideSecrets wanted (secrets_of rest) → HideSecrets wanted (secrets_of all)) → HidesSecret wanted (secret_of (get_or rest 0 other))
-    → HideSecrets wanted (secrets_of (take (length rest - 1) (drop 1 rest))) → HideSecrets wanted (secrets_of all)
-hidden_next wanted [] all other some known one others = absurd (omega (arith, some))
-hidden_next wanted (rule ∷ rest) all other some known one others =
-    known (All-cons (HidesSecret wanted) (secret_of rule) (secrets_of rest) one (subst (λ (l : List Rule). HideSecrets wanted (secrets_of l)) (take_rest (rule ∷ rest) 1) others))
+rules_next made later one each rest other all old new more some = rules_more made later one each rest _ _ all old new more (first_rest rest other some)
 
 -- those of one form of a form more are added
-pub nested_next : (patterns : Nested → List (List ℕ)) (make : List ℕ → Secret) (rest : List Nested) (other : Nested) (all old new more : List Secret) → 1 ≤ length rest
-    → old ++ map make (filled (flat_map patterns rest)) ≡ all → new ≡ old ++ more → more ≡ map make (filled (patterns (get_or rest 0 other)))
-    → new ++ map make (filled (flat_map patterns (take (length rest - 1) (drop 1 rest)))) ≡ all
-nested_next patterns make [] other all old new more some is grown are = absurd (omega (arith, some))
-nested_next patterns make (one ∷ rest) other all old new more some is grown are =
-    let both : map make (filled (patterns one ++ flat_map patterns rest)) ≡ map make (filled (patterns one)) ++ map make (filled (flat_map patterns rest)) =
-    ap (map make) (filter-append (λ pattern. nat_lt 0 (length pattern)) (patterns one) (flat_map patterns rest)) ∙ map-append make (filled (patterns one)) (filled (flat_map patterns rest)) in
-    ap (λ l. new ++ map make (filled (flat_map patterns l))) (take_rest (one ∷ rest) 1)
-    ∙ ap (λ l. l ++ map make (filled (flat_map patterns rest))) (grown ∙ ap (λ l. old ++ l) are)
-    ∙ append_assoc old (map make (filled (patterns one))) (map make (filled (flat_map patterns rest)))
-    ∙ ap (λ l. old ++ l) (sym both) ∙ is
-
-pub twice_next : (pattern : List ℕ) (rest all : List Nested) (other : Nested) → 1 ≤ length rest → (HidesTwice rest pattern → HidesTwice all pattern)
-    → HidesTwice (get_or rest 0 other ∷ []) pattern → HidesTwice (take (length rest - 1) (drop 1 rest)) pattern → HidesTwice all pattern
-twice_next pattern [] all other some known one others = absurd (omega (arith, some))
-twice_next pattern (first ∷ rest) all other some known one others =
-    known (All-cons (HidesNestedForm pattern) first rest (All-head (HidesNestedForm pattern) first [] one) (subst (λ (l : List Nested). HidesTwice l pattern) (take_rest (first ∷ rest) 1) others))
-
--- behind the last one nothing is left to hide
-pub twice_end : (pattern : List ℕ) (rest all : List Nested) → length rest ≡ 0 → (HidesTwice rest pattern → HidesTwice all pattern) → HidesTwice all pattern
-twice_end pattern [] all none known = known (All-nil (HidesNestedForm pattern))
-twice_end pattern (one ∷ rest) all none known = absurd (omega (arith, none))
-
-pub hidden_end : (wanted : AskedForms) (rest all : List Rule) → length rest ≡ 0 → (HideSecrets wanted (secrets_of rest) → HideSecrets wanted (secrets_of all)) → HideSecrets wanted (secrets_of all)
-hidden_end wanted [] all none known = known (All-nil (HidesSecret wanted))
-hidden_end wanted (rule ∷ rest) all none known = absurd (omega (arith, none))
+pub nested_next : (patterns : Nested → List (List ℕ)) (make : List ℕ → Secret) (rest others : List Nested) (one : Nested) (all old new more : List Secret) → rest ≡ one ∷ others
+    → old ++ map make (filled (flat_map patterns rest)) ≡ all → new ≡ old ++ more → more ≡ map make (filled (patterns one)) → new ++ map make (filled (flat_map patterns others)) ≡ all
+nested_next patterns make rest others one all old new more cut is grown are =
+    let both : map make (filled (patterns one ++ flat_map patterns others)) ≡ map make (filled (patterns one)) ++ map make (filled (flat_map patterns others)) =
+    ap (map make) (filter-append (λ pattern. nat_lt 0 (length pattern)) (patterns one) (flat_map patterns others)) ∙ map-append make (filled (patterns one)) (filled (flat_map patterns others)) in
+    ap (λ l. l ++ map make (filled (flat_map patterns others))) (grown ∙ ap (λ l. old ++ l) are)
+    ∙ append_assoc old (map make (filled (patterns one))) (map make (filled (flat_map patterns others)))
+    ∙ ap (λ l. old ++ l) (sym both) ∙ ap (λ l. old ++ map make (filled (flat_map patterns l))) (sym cut) ∙ is
 
 -- the forms that a value names, of both kinds
 pub asked_both : (asked : Asked) (value : List ℕ) → asked.forms.now ≡ forms_named value → asked.nested.now ≡ nested_named value → asked_forms asked ≡ forms_asked (Some value)

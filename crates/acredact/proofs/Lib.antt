@@ -21,6 +21,7 @@ mod Counted
 -- what comes of files
 mod OneFile
 mod Done
+mod Turns
 -- how often the text of each pattern was written
 mod Totals
 -- how an automaton redacts streams

@@ -1,6 +1,6 @@
 -- The patterns that options give, one after another.
-use Rattle.acredact.proofs.Common.{Failure, Keeps, is_input, take_rest}
-use Rattle.std.proofs.Common.{◌≡◌, inl, inr, ℕ, ◌≤◌, ◌-◌, List, [], ◌∷◌, ◌++◌, Option, length, take, drop, get_or, refl, sym, ap, subst, ◌∙◌, append-nil, append_assoc, arith}
+use Rattle.acredact.proofs.Common.{Failure, Keeps, is_input}
+use Rattle.std.proofs.Common.{◌≡◌, inl, inr, ℕ, ◌-◌, List, [], ◌∷◌, ◌++◌, Option, refl, sym, ap, subst, ◌∙◌, append-nil, append_assoc}
 use Rattle.std.specs.Prelude.{Bool, MatchBool, IfSome, false}
 use Rattle.std.proofs.KnownBytes.{Consumes-all}
 use Rattle.acredact.specs.declared.options.Item.{Item}
@@ -16,24 +16,18 @@ module _ {X : Type 0} (Gives : Given → List X → (left left' : Option (List �
   pub record GivenSoFar (rest : List Given) (some : List X) (between : Option (List ℕ)) : Type 0 where
     pub given : (more : List X) (left : Option (List ℕ)) → EachGives Gives rest more between left → EachGives Gives all (some ++ more) before left
 
-  given_more : (item : Given) (rest : List Given) (old new : List X) (between left : Option (List ℕ)) → GivenSoFar (item ∷ rest) old between
-      → IsAddedSome (λ more. Gives item more between left) old new → GivenSoFar rest new left
-  given_more item rest old new between left so added = record {
+  -- the first of what is left gives some more
+  pub given_next : (rest items : List Item) (item : Item) (old new : List X) (between left : Option (List ℕ)) → rest ≡ item ∷ items → GivenSoFar (all_given rest) old between
+      → IsAddedSome (λ more. Gives (given_of item) more between left) old new → GivenSoFar (all_given items) new left
+  given_next rest items item old new between left cut so added = record {
     given = λ more last given.
-        subst (λ (l : List X). EachGives Gives all l before last) (sym (append_assoc old added.more more) ∙ ap (λ l. l ++ more) (sym added.grown))
-        (so.given (added.more ++ more) last (added.more, more, refl, left, added.of, given));
+        let rests = subst (λ (l : List Item). EachGives Gives (all_given l) (added.more ++ more) between last) (sym cut) (added.more, more, refl, left, added.of, given) in
+        subst (λ (l : List X). EachGives Gives all l before last) (sym (append_assoc old added.more more) ∙ ap (λ l. l ++ more) (sym added.grown)) (so.given (added.more ++ more) last rests);
   }
 
-  pub given_end : (items : List Item) (some : List X) (left : Option (List ℕ)) → length items ≡ 0 → GivenSoFar (all_given items) some left → EachGives Gives all some before left
-  given_end [] some left none so = subst (λ (l : List X). EachGives Gives all l before left) (append-nil some) (so.given [] left (refl, refl))
-  given_end (item ∷ items) some left none so = absurd (omega (arith, none))
-
-  -- the first of some items, and then the others
-  pub given_next : (items : List Item) (other : Item) (old new : List X) (between left : Option (List ℕ)) → 1 ≤ length items → GivenSoFar (all_given items) old between
-      → IsAddedSome (λ more. Gives (given_of (get_or items 0 other)) more between left) old new → GivenSoFar (all_given (take (length items - 1) (drop 1 items))) new left
-  given_next [] other old new between left some so added = absurd (omega (arith, some))
-  given_next (item ∷ items) other old new between left some so added =
-      subst (λ (items : List Item). GivenSoFar (all_given items) new left) (sym (take_rest (item ∷ items) 1)) (given_more (given_of item) (all_given items) old new between left so added)
+  pub given_end : (rest : List Item) (some : List X) (left : Option (List ℕ)) → rest ≡ [] → GivenSoFar (all_given rest) some left → EachGives Gives all some before left
+  given_end rest some left none so =
+      subst (λ (l : List X). EachGives Gives all l before left) (append-nil some) (so.given [] left (subst (λ (l : List Item). EachGives Gives (all_given l) [] left left) (sym none) (refl, refl)))
 
   pub given_none : GivenSoFar all [] before
   given_none = record { given = λ more left given. given }
@@ -43,13 +37,11 @@ abbrev pub FailsAmong : Reading → (all rest : List Given) → Type 0
 FailsAmong reading all rest = (failure : Failure) → CannotLoadOne reading rest failure → CannotLoadOne reading all failure
 
 module _ (reading : Reading) (all : List Given) where
-  pub fails_next : (items : List Item) → 1 ≤ length items → FailsAmong reading all (all_given items) → FailsAmong reading all (all_given (take (length items - 1) (drop 1 items)))
-  fails_next [] some so = absurd (omega (arith, some))
-  fails_next (item ∷ items) some so = subst (λ (items : List Item). FailsAmong reading all (all_given items)) (sym (take_rest (item ∷ items) 1)) (λ failure one. so failure (inr one))
+  pub fails_next : (rest items : List Item) (item : Item) → rest ≡ item ∷ items → FailsAmong reading all (all_given rest) → FailsAmong reading all (all_given items)
+  fails_next rest items item cut so = λ failure one. so failure (subst (λ (l : List Item). CannotLoadOne reading (all_given l) failure) (sym cut) (inr one))
 
-  pub fails_here : (items : List Item) (other : Item) (failure : Failure) → 1 ≤ length items → FailsAmong reading all (all_given items) → CannotLoad reading (given_of (get_or items 0 other)) failure → CannotLoadOne reading all failure
-  fails_here [] other failure some so fails = absurd (omega (arith, some))
-  fails_here (item ∷ items) other failure some so fails = so failure (inl fails)
+  pub fails_here : (rest items : List Item) (item : Item) (failure : Failure) → rest ≡ item ∷ items → FailsAmong reading all (all_given rest) → CannotLoad reading (given_of item) failure → CannotLoadOne reading all failure
+  fails_here rest items item failure cut so fails = so failure (subst (λ (l : List Item). CannotLoadOne reading (all_given l) failure) (sym cut) (inl fails))
 
 -- a text that is read of an opened file is that of the file
 known_text : (told left left' : Option (List ℕ)) (text : List ℕ) → Keeps told left → ReadsText text left left' → ReadsText text told left'

@@ -1,5 +1,5 @@
 -- What comes of a call with rules, and its status.
-use Rattle.acredact.proofs.Common.{All-nil, AsWord, Bor, CountsThese, Errors, IfOk-weaker, Keeps-refl, LineError, Occurrence, PieceRule, SinkGhosts, Tells, TellsBytes, Volume, get_or-replicate, length-map, length-replicate, runs_named}
+use Rattle.acredact.proofs.Common.{All-nil, AsWord, Bor, CountsThese, Errors, IfOk-weaker, LineError, Occurrence, PieceRule, SinkGhosts, Tells, TellsBytes, Volume, get_or-replicate, length-map, length-replicate, runs_named}
 use Rattle.std.proofs.Common.{◌≡◌, ◌<◌, inl, inr, ℕ, ◌-◌, List, [], ◌∷◌, Option, true, false, refl, sym, ap, subst, ◌+◌, ◌++◌, ◌∙◌, length, length-append, map, arith}
 use Rattle.std.specs.Prelude.{Bool, MatchBool, Result, Ok, Err, IfOk, IsErr, OnOk, min, replicate, slice_index, ◌^◌, ◌==◌, if◌then◌else◌}
 use Rattle.secret_rules.specs.declared.rule.Rule.{Rule}
@@ -11,7 +11,7 @@ use Rattle.acredact.specs.RuleLines.{IsRuledLine, too_long_line}
 use Rattle.acredact.specs.Loading.{key_lent}
 use Rattle.acredact.specs.LongLines.{long_told, whole_number}
 use Rattle.acredact.specs.RunCounts.{CountsAllRuns, IsRunsLine, TellsAnyTotals, TellsRunCounts, TellsRunTotals, run_totals_text}
-use Rattle.acredact.specs.Ruled.{AreRuledLoaded, CountsByRules, IsRuledTold, LinedFiles, NotesByRules, NumbersOf, RuledCall, RuledLoad, RuledOutcome, RuledStatus, own_text, patterns_by_case, rule_asked, ruled_by, ruled_load, ruling_as, ruling_by, texts_asked}
+use Rattle.acredact.specs.Ruled.{AreRuledLoaded, CountsByRules, IsRuledTold, LinedFiles, NotesByRules, NumbersOf, OutcomeOf, RuledCall, RuledLoad, RuledOutcome, RuledStatus, own_text, patterns_by_case, rule_asked, ruled_by, ruled_load, ruling_as, ruling_by, texts_asked}
 use Rattle.acredact.specs.Summaries.{no_volume}
 use Rattle.acredact.specs.Tables.{Secret, patterns_in, piece_by, secret_of, secrets_of}
 use Rattle.acredact.specs.Totals.{AreTotals}
@@ -20,7 +20,7 @@ use Rattle.acredact.specs.declared.patterns.Rule.{Rule as PatternRule}
 use Rattle.acredact.specs.declared.ruled_failure.RuledFailure.{RuledFailure}
 use Rattle.acredact.proofs.Calls.{some_behind, some_then, some_weaker, tells_both, tells_last, tells_line, tells_same, tells_weaker}
 use Rattle.acredact.proofs.LongLines.{long_of_runs}
-use Rattle.acredact.proofs.RuledFiles.{none_begun, told_any, told_as}
+use Rattle.acredact.proofs.RuledFiles.{told_any, told_as}
 use Rattle.acredact.proofs.Warned.{doubts_tell}
 
 -- counts that were zero are those of all runs
@@ -74,21 +74,28 @@ pub ruling_same : (given : List Given) (secrets : List PatternRule) (rules : Lis
 ruling_same given secrets rules key words most texts rule is_words is_most are is_rule =
     rw (is_words, is_most, is_rule, are, length-map secrets secret_of) refl
 
-module _ {E : Type 0} (K : SinkGhosts E) (call : Call) where
-  -- it ended before a file was read
-  pub ruled_early : (failure : RuledFailure) (left left' held : Option (List ℕ)) (errors errors' : Errors E) → Tells K (IsRuledTold call) errors errors' → RuledCall K call (Err failure) left left' held held errors errors'
-  ruled_early failure left left' held errors errors' told = record { whole = tt; begun = inl (Keeps-refl held); tells = record { told = told; partly = tt }; notes = tt }
+module _ {E : Type 0} (K : SinkGhosts E) (call : Call) {V : Type 0} {all : V → Bool} {Whole : V → Type 0} {Begun Notes : Type 0} where
+  -- a call ended early, and what was told may be
+  pub outcome_early : {failure : RuledFailure} {errors errors' : Errors E} → Begun → Tells K (IsRuledTold call) errors errors' → OutcomeOf K call all Whole Begun Notes (Err failure) errors errors'
+  outcome_early begun told = record { whole = tt; begun = begun; told = told; partly = tt; notes = tt }
 
-  -- the same of what was loaded
-  pub ruled_none : (load : RuledLoad) (result : Result Bool RuledFailure) (left held : Option (List ℕ)) (errors : Errors E) → IsErr result → RuledOutcome K call load result left left held held errors errors
-  ruled_none load (Ok all) left held errors is = absurd (cc)
-  ruled_none load (Err failure) left held errors is = record {
-    whole = tt;
-    begun = none_begun (ruled_by call load) (names_asked call.given) left held;
-    tells = record { told = tells_same K (IsRuledTold call) errors errors refl; partly = tt };
-    notes = tt;
+  -- or nothing was
+  pub outcome_none : {errors : Errors E} (result : Result V RuledFailure) → IsErr result → Begun → OutcomeOf K call all Whole Begun Notes result errors errors
+  outcome_none {errors} (Ok done) is begun = absurd (cc)
+  outcome_none {errors} (Err failure) is begun = outcome_early begun (tells_same K (IsRuledTold call) errors errors refl)
+
+  -- behind what was told before
+  pub outcome_behind : {Wholly : V → Type 0} {Begins Noted : Type 0} (result : Result V RuledFailure) (errors meanwhile errors' : Errors E) → Tells K (IsRuledTold call) errors meanwhile
+      → ((done : V) → Whole done → Wholly done) → (Begun → Begins) → (Notes → Noted) → OutcomeOf K call all Whole Begun Notes result meanwhile errors' → OutcomeOf K call all Wholly Begins Noted result errors errors'
+  outcome_behind result errors meanwhile errors' before wholly begins noted of = record {
+    whole = IfOk-weaker result _ _ (λ done whole is. wholly done (whole is)) of.whole;
+    begun = begins of.begun;
+    told = tells_both K (IsRuledTold call) errors meanwhile errors' before of.told;
+    partly = IfOk-weaker result _ _ (λ done partly is. some_behind K (IsRuledTold call) errors meanwhile errors' before (partly is)) of.partly;
+    notes = IfOk-weaker result _ _ (λ done notes is. noted (notes is)) of.notes;
   }
 
+module _ {E : Type 0} (K : SinkGhosts E) (call : Call) where
   -- doubtful patterns of lists may be told
   pub all_doubts_told : (secrets : List Secret) (errors errors' : Errors E) → TellsDoubts K false call.given secrets errors errors' → Tells K (IsRuledTold call) errors errors'
   all_doubts_told secrets errors errors' told = doubts_tell K (IsRuledTold call) false call.given secrets errors errors' (λ lax line member. inr (inr (inl (secrets, member)))) told
@@ -97,17 +104,11 @@ module _ {E : Type 0} (K : SinkGhosts E) (call : Call) where
   pub ruled_behind : (load : RuledLoad) (result : Result Bool RuledFailure) (left between left' held held' : Option (List ℕ)) (errors meanwhile errors' : Errors E)
       → AreRuledLoaded (reading_by call) call.given load left between → TellsDoubts K false call.given load.secrets errors meanwhile
       → RuledOutcome K call load result between left' held held' meanwhile errors' → RuledCall K call result left left' held held' errors errors'
-  ruled_behind load result left between left' held held' errors meanwhile errors' loaded doubted of =
-      let before = all_doubts_told load.secrets errors meanwhile doubted in
-      record {
-        whole = IfOk-weaker result _ _ (λ all whole is. record { load = load; between = between; loaded = loaded; is = whole is }) of.whole;
-        begun = inr (record { load = load; between = between; loaded = loaded; is = of.begun });
-        tells = record {
-          told = tells_both K (IsRuledTold call) errors meanwhile errors' before of.tells.told;
-          partly = IfOk-weaker result _ _ (λ all partly is. some_behind K (IsRuledTold call) errors meanwhile errors' before (partly is)) of.tells.partly;
-        };
-        notes = IfOk-weaker result _ _ (λ all notes is. record { load = load; between = between; loaded = loaded; is = record { meanwhile = meanwhile; doubted = doubted; numbers = notes is } }) of.notes;
-      }
+  ruled_behind load result left between left' held held' errors meanwhile errors' loaded doubted =
+      outcome_behind K call result errors meanwhile errors' (all_doubts_told load.secrets errors meanwhile doubted)
+      (λ all whole. record { load = load; between = between; loaded = loaded; is = whole })
+      (λ begun. inr (record { load = load; between = between; loaded = loaded; is = begun }))
+      (λ numbers. record { load = load; between = between; loaded = loaded; is = record { meanwhile = meanwhile; doubted = doubted; numbers = numbers } })
 
   -- how many lines were too long may be told
   long_lines : (count : ℕ) (errors errors' : Errors E) → TellsBytes K errors errors' (long_told (most_asked call.given) count) → Tells K (IsRuledTold call) errors errors'
@@ -194,27 +195,21 @@ module _ {E : Type 0} (K : SinkGhosts E) (call : Call) where
       by (Ok done) same told = record {
         whole = λ is. (files.whole (sym same ∙ is)).0;
         begun = files.begun;
-        tells = record {
-          told = all_told;
-          partly = λ is. some_then K (IsRuledTold call) errors first errors'
-              (some_weaker K (IsUnreadLine (names_asked call.given)) (IsRuledTold call) errors first (λ line unread. inl unread) (told_as LineError K (names_asked call.given) all false errors first (sym same ∙ is) files.told)) later;
-        };
+        told = all_told;
+        partly = λ is. some_then K (IsRuledTold call) errors first errors'
+            (some_weaker K (IsUnreadLine (names_asked call.given)) (IsRuledTold call) errors first (λ line unread. inl unread) (told_as LineError K (names_asked call.given) all false errors first (sym same ∙ is) files.told)) later;
         notes = λ is.
             let whole = sym same ∙ is in
             numbers_of load size zeros counts' volume left left' errors second errors' are sized (files.whole whole).1 (read whole)
             (subst (λ (e : Errors E). TellsBytes K e second (long_told (most_asked call.given) (last_of counts'))) (told_as LineError K (names_asked call.given) all true errors first whole files.told) long) told;
       }
-      by (Err failure) same told = record { whole = tt; begun = files.begun; tells = record { told = all_told; partly = tt }; notes = tt }
+      by (Err failure) same told = outcome_early K call files.begun all_told
 
   -- or not all of them
   pub files_failed : (load : RuledLoad) (error : LineError) (failure : RuledFailure) (counts counts' : List ℕ) (left left' held held' : Option (List ℕ)) (errors errors' : Errors E)
       → LinedFiles K (ruled_by call load) (names_asked call.given) (Err error) counts counts' left left' held held' errors errors' → RuledOutcome K call load (Err failure) left left' held held' errors errors'
-  files_failed load error failure counts counts' left left' held held' errors errors' files = record {
-    whole = tt;
-    begun = files.begun;
-    tells = record { told = told_any {X = LineError} K (names_asked call.given) (IsRuledTold call) (Err error) errors errors' (λ line is. inl is) files.told; partly = tt };
-    notes = tt;
-  }
+  files_failed load error failure counts counts' left left' held held' errors errors' files =
+      outcome_early K call files.begun (told_any {X = LineError} K (names_asked call.given) (IsRuledTold call) (Err error) errors errors' (λ line is. inl is) files.told)
 
   -- all was done
   pub ruled_done : (left left' held held' : Option (List ℕ)) (errors errors' : Errors E) → RuledCall K call (Ok true) left left' held held' errors errors' → RuledStatus K call 0 left left' held held' errors errors'
@@ -230,7 +225,7 @@ module _ {E : Type 0} (K : SinkGhosts E) (call : Call) where
   ruled_partly left left' held held' errors errors' of = record {
     redacts = λ (is : 2 ≡ 0). absurd (omega (arith, is));
     begins = of.begun;
-    tells = λ is. of.tells.partly refl;
+    tells = λ is. of.partly refl;
     notes = λ (is : 2 ≡ 0). absurd (omega (arith, is));
   }
 
@@ -240,6 +235,6 @@ module _ {E : Type 0} (K : SinkGhosts E) (call : Call) where
   ruled_failed failure line left left' held held' errors meanwhile errors' of is told = record {
     redacts = λ (none : 2 ≡ 0). absurd (omega (arith, none));
     begins = of.begun;
-    tells = λ two. tells_last K (IsRuledTold call) errors meanwhile errors' line of.tells.told (inr (inl (failure, is))) told;
+    tells = λ two. tells_last K (IsRuledTold call) errors meanwhile errors' line of.told (inr (inl (failure, is))) told;
     notes = λ (none : 2 ≡ 0). absurd (omega (arith, none));
   }

@@ -1,7 +1,7 @@
 -- What comes of a check by rules, from what is seen of its files up to its status.
-use Rattle.acredact.proofs.Common.{AsWord, Errors, FromWrite, Keeps, Keeps-refl, LineError, SinkGhosts, Tells, Verdict, Writers, covering_by, output_bytes}
+use Rattle.acredact.proofs.Common.{AsWord, Errors, FromWrite, Keeps, Keeps-refl, LineError, SinkGhosts, Verdict, Writers, covering_by, output_bytes}
 use Rattle.std.proofs.Common.{◌≡◌, inl, inr, ℕ, List, Option, true, false, refl, sym, subst, arith}
-use Rattle.std.specs.Prelude.{Bool, ◌≤◌, Result, Ok, Err, IsErr}
+use Rattle.std.specs.Prelude.{Bool, ◌≤◌, Result, Ok, Err}
 use Rattle.secret_rules.specs.declared.rule.Rule.{Rule}
 use Rattle.acredact.specs.Arguments.{has}
 use Rattle.acredact.specs.Calls.{Call, IsUnreadLine, names_asked, reading_by}
@@ -13,9 +13,9 @@ use Rattle.acredact.specs.Statuses.{check_status}
 use Rattle.acredact.specs.Tables.{patterns_in}
 use Rattle.acredact.specs.declared.options.Word.TheVariants.{Summary}
 use Rattle.acredact.specs.declared.ruled_failure.RuledFailure.{RuledFailure}
-use Rattle.acredact.proofs.Calls.{some_behind, some_weaker, tells_both, tells_same}
+use Rattle.acredact.proofs.Calls.{some_weaker}
 use Rattle.acredact.proofs.Checks.{says_seen}
-use Rattle.acredact.proofs.RuledCalls.{all_doubts_told}
+use Rattle.acredact.proofs.RuledCalls.{all_doubts_told, outcome_behind, outcome_early}
 use Rattle.acredact.proofs.RuledFiles.{told_any, told_as}
 
 -- what is looked for by such parts is that of the call
@@ -42,15 +42,6 @@ check_within false true status is = omega (arith, is)
 check_within found false status is = omega (arith, is)
 
 module _ {E : Type 0} (K : SinkGhosts E) (call : Call) where
-  -- it ended before a file was read
-  pub check_early : (failure : RuledFailure) (left left' held : Option (List ℕ)) (errors errors' : Errors E) → Tells K (IsRuledTold call) errors errors' → RuledCheck K call (Err failure) left left' held held errors errors'
-  check_early failure left left' held errors errors' told = record { whole = tt; begun = inl (Keeps-refl held); tells = record { told = told; partly = tt }; quiet = tt }
-
-  -- the same of what was loaded
-  pub check_none : (load : CheckLoad) (result : Result Verdict RuledFailure) (left held : Option (List ℕ)) (errors : Errors E) → IsErr result → CheckedLines K call load result left left held held errors errors
-  check_none load (Ok verdict) left held errors is = absurd (cc)
-  check_none load (Err failure) left held errors is = record { whole = tt; begun = inl (Keeps-refl held); tells = record { told = tells_same K (IsRuledTold call) errors errors refl; partly = tt }; quiet = tt }
-
   module _ (load : CheckLoad) (left left' held held' seen seen' : Option (List ℕ)) (errors errors' : Errors E)
       (told : has Summary call.given ≡ true → (seen ≡ held) × (seen' ≡ held')) (untold : has Summary call.given ≡ false → Keeps held held') where
     -- where that is asked for it was told what was found
@@ -71,57 +62,34 @@ module _ {E : Type 0} (K : SinkGhosts E) (call : Call) where
         told = λ summary. let same = told summary in rw same.1 at (rw same.0 at sees.told);
       };
       begun = begun_told files.begun;
-      tells = record {
-        told = told_any {X = LineError} K (names_asked call.given) (IsRuledTold call) (Ok verdict.all) errors errors' (λ line is. inl is) files.told;
-        partly = λ none. some_weaker K (IsUnreadLine (names_asked call.given)) (IsRuledTold call) errors errors' (λ line is. inl is)
-            (told_as LineError K (names_asked call.given) verdict.all false errors errors' none files.told);
-      };
-      quiet = λ all. told_as LineError K (names_asked call.given) verdict.all true errors errors' all files.told;
+      told = told_any {X = LineError} K (names_asked call.given) (IsRuledTold call) (Ok verdict.all) errors errors' (λ line is. inl is) files.told;
+      partly = λ none. some_weaker K (IsUnreadLine (names_asked call.given)) (IsRuledTold call) errors errors' (λ line is. inl is)
+          (told_as LineError K (names_asked call.given) verdict.all false errors errors' none files.told);
+      notes = λ all. told_as LineError K (names_asked call.given) verdict.all true errors errors' all files.told;
     }
 
     -- or not all of them
     pub files_unlooked : (error : LineError) (failure : RuledFailure) → SeenFiles K (line_quest_by call load) (names_asked call.given) (Err error) left left' seen seen' errors errors'
         → CheckedLines K call load (Err failure) left left' held held' errors errors'
-    files_unlooked error failure files = record {
-      whole = tt;
-      begun = begun_told files.begun;
-      tells = record { told = told_any {X = LineError} K (names_asked call.given) (IsRuledTold call) (Err error) errors errors' (λ line is. inl is) files.told; partly = tt };
-      quiet = tt;
-    }
+    files_unlooked error failure files =
+        outcome_early K call (begun_told files.begun) (told_any {X = LineError} K (names_asked call.given) (IsRuledTold call) (Err error) errors errors' (λ line is. inl is) files.told)
 
   -- behind what is told of doubtful patterns what was loaded decides what comes of the call
   pub check_behind : (load : CheckLoad) (result : Result Verdict RuledFailure) (left between left' held held' : Option (List ℕ)) (errors meanwhile errors' : Errors E)
       → AreRulesGiven (reading_by call) call.given load.secrets load.rules left between → TellsDoubts K false call.given load.secrets errors meanwhile
       → CheckedLines K call load result between left' held held' meanwhile errors' → RuledCheck K call result left left' held held' errors errors'
-  check_behind load result left between left' held held' errors meanwhile errors' loaded doubted of = by result of
+  check_behind load result left between left' held held' errors meanwhile errors' loaded doubted =
+      outcome_behind K call result errors meanwhile errors' (all_doubts_told K call load.secrets errors meanwhile doubted)
+      (λ verdict whole. record { load = load; between = between; loaded = loaded; is = whole }) begins
+      (λ same. record { load = load; between = between; loaded = loaded; is = subst (TellsDoubts K false call.given load.secrets errors) (sym same) doubted })
     where
-      before : Tells K (IsRuledTold call) errors meanwhile
-      before = all_doubts_told K call load.secrets errors meanwhile doubted
-
-      begun : BeginsLoadedCheck call between left' held held' load → BeginsRuledCheck call left left' held held'
-      begun (inl none) = inl none
-      begun (inr begins) = inr (record { load = load; between = between; loaded = loaded; is = begins })
-
-      by : (result : Result Verdict RuledFailure) → CheckedLines K call load result between left' held held' meanwhile errors' → RuledCheck K call result left left' held held' errors errors'
-      by (Ok verdict) of = record {
-        whole = λ all. record { load = load; between = between; loaded = loaded; is = of.whole all };
-        begun = begun of.begun;
-        tells = record {
-          told = tells_both K (IsRuledTold call) errors meanwhile errors' before of.tells.told;
-          partly = λ none. some_behind K (IsRuledTold call) errors meanwhile errors' before (of.tells.partly none);
-        };
-        quiet = λ all. record { load = load; between = between; loaded = loaded; is = subst (TellsDoubts K false call.given load.secrets errors) (sym (of.quiet all)) doubted };
-      }
-      by (Err failure) of = record {
-        whole = tt;
-        begun = begun of.begun;
-        tells = record { told = tells_both K (IsRuledTold call) errors meanwhile errors' before of.tells.told; partly = tt };
-        quiet = tt;
-      }
+      begins : BeginsLoadedCheck call between left' held held' load → BeginsRuledCheck call left left' held held'
+      begins (inl none) = inl none
+      begins (inr begun) = inr (record { load = load; between = between; loaded = loaded; is = begun })
 
   -- the status tells what was seen
   pub check_done : (verdict : Verdict) (left left' held held' : Option (List ℕ)) (errors errors' : Errors E) → RuledCheck K call (Ok verdict) left left' held held' errors errors'
       → RuledCheckStatus K call (check_status verdict) left left' held held' errors errors'
   check_done verdict left left' held held' errors errors' of =
       let sees = λ (all : verdict.all ≡ true) (found : Bool) (is : verdict.found ≡ found). subst (λ (b : Bool). SeesByRules call b left left' held held') is (of.whole all) in
-      says_seen _ _ _ _ verdict (λ all. (sees all false, sees all true, of.quiet all)) of.tells.partly
+      says_seen _ _ _ _ verdict (λ all. (sees all false, sees all true, of.notes all)) of.partly

@@ -11,7 +11,7 @@ use Rattle.secret_rules.specs.Writing.{line_cover}
 use Rattle.secret_rules.specs.declared.rule.Rule.{Rule}
 use Rattle.secret_rules.proofs.LineRuns.{lines_cover-append}
 use Rattle.acredact.specs.Ruled.{BeginsLinesText, IsLined, LeavesLined, LinesOutcome, RedactsLines, Ruling, WritesLines, ruling_as, unread_of}
-use Rattle.acredact.specs.RunCounts.{CountsTextRuns, HasRuns}
+use Rattle.acredact.specs.RunCounts.{CountsTextRuns, HasLineRuns, HasRuns}
 use Rattle.acredact.specs.declared.ruled_files.Lined.{Lined}
 use Rattle.acredact.proofs.OneFile.{begun_writing, ended_text, known_read}
 
@@ -61,13 +61,7 @@ module _ {R W : Type 0} (S : SourceGhosts R) (K : SinkGhosts W) (Searched : Patt
   runs_text : CoversLines S K Searched words rules most rule source source' sink sink' counts counts' → CountsTextRuns (covering_by words rules most p) before (S.remaining source') counts counts'
   runs_text whole = (
     all_of whole.runs,
-    record {
-      text = whole.given;
-      reads = ended_text S source source' before left none ends whole.given whole.gives;
-      by_line = whole.runs;
-      found = whole.runs_are p sought;
-      are = refl;
-    },
+    (whole.runs, record { text = whole.given; reads = ended_text S source source' before left none ends whole.given whole.gives; are = whole.runs_are p sought }, refl),
     whole.counted,
   )
 
@@ -166,11 +160,12 @@ no_words p lengths are none = by p.words (ap length (sym are) ∙ none)
     by (word ∷ words) is = absurd (omega (arith, is))
 
 -- the runs of a text that is known
-pub known_runs : (covering : Covering) (runs : List Occurrence) (told left left' : Option (List ℕ)) → Keeps told left → HasRuns covering runs left left' → HasRuns covering runs told left'
-known_runs covering runs told left left' kept has = record {
+pub known_line_runs : (covering : Covering) (runs : List (List Occurrence)) (told left left' : Option (List ℕ)) → Keeps told left → HasLineRuns covering runs left left' → HasLineRuns covering runs told left'
+known_line_runs covering runs told left left' kept has = record {
   text = has.text;
   reads = record { read = known_read told left left' has.text kept has.reads.read; ended = has.reads.ended };
-  by_line = has.by_line;
-  found = has.found;
   are = has.are;
 }
+
+pub known_runs : (covering : Covering) (runs : List Occurrence) (told left left' : Option (List ℕ)) → Keeps told left → HasRuns covering runs left left' → HasRuns covering runs told left'
+known_runs covering runs told left left' kept (by_line, has, are) = (by_line, known_line_runs covering by_line told left left' kept has, are)

@@ -1,45 +1,12 @@
 -- Values of variables, one after another.
-use Rattle.acredact.proofs.Common.{All-head, All-tail, Bor, Form, Rule, common_steps, get_or-map, length-map, pieces_of, take_rest}
-use Rattle.std.proofs.Common.{◌≡◌, ℕ, ◌+◌, ◌-◌, ◌^◌, ◌<◌, ◌≤◌, Bool, true, false, List, [], ◌∷◌, ◌++◌, Option, length, take, drop, get_or, refl, sym, ap, subst, ◌∙◌, append-nil, append_assoc, arith}
-use Rattle.std.specs.Prelude.{Some, None, if◌then◌else◌, min, nat_eq, nat_lt, slice_index_or}
+use Rattle.acredact.proofs.Common.{Bor, Form, Rule, common_steps, get_or-map, length-map, pieces_of}
+use Rattle.std.proofs.Common.{◌≡◌, ℕ, ◌+◌, ◌-◌, ◌^◌, ◌<◌, Bool, true, List, [], ◌∷◌, ◌++◌, Option, length, get_or, refl, sym, ap, subst, ◌∙◌, append-nil, append_assoc, arith}
+use Rattle.std.specs.Prelude.{Some, None, min, nat_lt, slice_index_or}
 use Rattle.std.specs.List.{cons_option}
 use Rattle.acredact.specs.Parts.{IsAddedSome}
-use Rattle.acredact.specs.Tables.{IsWithout, Secret, patterns_in, secret_of, secrets_of, stripped_by}
-use Rattle.acredact.specs.Values.{GiveEach, GivesValue, bad_or, before_equals, behind_equals, fault_of_line, first_fault, is_named, value_of_entry, values_with}
+use Rattle.acredact.specs.Tables.{Secret, patterns_in, secret_of, secrets_of, stripped_by}
+use Rattle.acredact.specs.Values.{GiveEach, GivesValue, bad_or, fault_of_line, first_fault, values_with}
 use Rattle.acredact.specs.declared.patterns.LineFault.{LineFault}
-
--- the first equals sign parts a text
-pub behind_at : (front rest : List ℕ) → IsWithout 61 front → behind_equals (front ++ (61 ∷ rest)) ≡ Some rest
-behind_at [] rest without = refl
-behind_at (byte ∷ front) rest without =
-    ap (λ (b : Bool). if b then Some (front ++ (61 ∷ rest)) else behind_equals (front ++ (61 ∷ rest))) (All-head (λ b. nat_eq b 61 ≡ false) byte front without)
-    ∙ behind_at front rest (All-tail (λ b. nat_eq b 61 ≡ false) byte front without)
-
-pub before_at : (front rest : List ℕ) → IsWithout 61 front → before_equals (front ++ (61 ∷ rest)) ≡ front
-before_at [] rest without = refl
-before_at (byte ∷ front) rest without =
-    ap (λ (b : Bool). if b then [] else byte ∷ before_equals (front ++ (61 ∷ rest))) (All-head (λ b. nat_eq b 61 ≡ false) byte front without)
-    ∙ ap (λ l. byte ∷ l) (before_at front rest (All-tail (λ b. nat_eq b 61 ≡ false) byte front without))
-
-pub behind_none : (text : List ℕ) → IsWithout 61 text → behind_equals text ≡ None
-behind_none [] without = refl
-behind_none (byte ∷ text) without =
-    ap (λ (b : Bool). if b then Some text else behind_equals text) (All-head (λ b. nat_eq b 61 ≡ false) byte text without)
-    ∙ behind_none text (All-tail (λ b. nat_eq b 61 ≡ false) byte text without)
-
--- so an entry of this name has a value, and one without such a sign has none
-pub entry_at : (name entry front rest : List ℕ) → entry ≡ front ++ (61 ∷ rest) → IsWithout 61 front → value_of_entry name entry ≡ (if is_named name front then Some rest else None)
-entry_at name entry front rest is without =
-    ap (value_of_entry name) is
-    ∙ ap (λ (l : List ℕ). if is_named name l then behind_equals (front ++ (61 ∷ rest)) else None) (before_at front rest without)
-    ∙ ap (λ (o : Option (List ℕ)). if is_named name front then o else None) (behind_at front rest without)
-
-pub entry_none : (name entry : List ℕ) → IsWithout 61 entry → value_of_entry name entry ≡ None
-entry_none name entry without = by (is_named name (before_equals entry)) (behind_equals entry) (behind_none entry without)
-  where
-    by : (b : Bool) (o : Option (List ℕ)) → o ≡ None → (if b then o else None) ≡ None
-    by true o is = is
-    by false o is = refl
 
 -- a value more
 pub values_more : (values rest all : List (List ℕ)) (value : Option (List ℕ)) → values ++ cons_option value rest ≡ all → values_with values value ++ rest ≡ all
@@ -65,26 +32,19 @@ pub record ValuedSoFar (parts : Bool) (all rest : List (List ℕ)) (old new : Li
 pub valued_none : (parts : Bool) (all : List (List ℕ)) (old : List Secret) → ValuedSoFar parts all all old old
 valued_none parts all old = record { so = []; grown = sym (append-nil old); given = λ more given. given }
 
-pub valued_more : (parts : Bool) (all rest : List (List ℕ)) (value : List ℕ) (old mid new : List Secret) → ValuedSoFar parts all (value ∷ rest) old mid → IsAddedSome (GivesValue parts value) mid new → ValuedSoFar parts all rest old new
-valued_more parts all rest value old mid new far added = record {
+pub valued_next : (parts : Bool) (all : List (List ℕ)) (rest values : List (Bor (List ℕ))) (value : Bor (List ℕ)) (old mid new : List Secret) → rest ≡ value ∷ values → ValuedSoFar parts all (pieces_of rest) old mid
+    → IsAddedSome (GivesValue parts value.now) mid new → ValuedSoFar parts all (pieces_of values) old new
+valued_next parts all rest values value old mid new cut far added = record {
   so = far.so ++ added.more;
   grown = added.grown ∙ ap (λ l. l ++ added.more) far.grown ∙ append_assoc old far.so added.more;
-  given = λ more given. subst (GiveEach parts all) (sym (append_assoc far.so added.more more)) (far.given (added.more ++ more) (added.more, more, refl, added.of, given));
+  given = λ more given. subst (GiveEach parts all) (sym (append_assoc far.so added.more more))
+      (far.given (added.more ++ more) (subst (λ l. GiveEach parts (pieces_of l) (added.more ++ more)) (sym cut) (added.more, more, refl, added.of, given)));
 }
 
--- the first of what is left, and at the end nothing
-pub valued_next : (parts : Bool) (all : List (List ℕ)) (rest : List (Bor (List ℕ))) (other : Bor (List ℕ)) (old mid new : List Secret) → 1 ≤ length rest → ValuedSoFar parts all (pieces_of rest) old mid
-    → IsAddedSome (GivesValue parts (get_or rest 0 other).now) mid new → ValuedSoFar parts all (pieces_of (take (length rest - 1) (drop 1 rest))) old new
-valued_next parts all [] other old mid new some far added = absurd (omega (arith, some))
-valued_next parts all (value ∷ rest) other old mid new some far added =
-    subst (λ (l : List (Bor (List ℕ))). ValuedSoFar parts all (pieces_of l) old new) (sym (take_rest (value ∷ rest) 1)) (valued_more parts all (pieces_of rest) value.now old mid new far added)
-
-valued_all : (parts : Bool) (all : List (List ℕ)) (old new : List Secret) → ValuedSoFar parts all [] old new → IsAddedSome (GiveEach parts all) old new
-valued_all parts all old new far = record { more = far.so; grown = far.grown; of = subst (GiveEach parts all) (append-nil far.so) (far.given [] refl) }
-
-pub valued_end : (parts : Bool) (all : List (List ℕ)) (rest : List (Bor (List ℕ))) (old new : List Secret) → length rest ≡ 0 → ValuedSoFar parts all (pieces_of rest) old new → IsAddedSome (GiveEach parts all) old new
-valued_end parts all [] old new none far = valued_all parts all old new far
-valued_end parts all (value ∷ rest) old new none far = absurd (omega (arith, none))
+-- at the end nothing is left
+pub valued_end : (parts : Bool) (all : List (List ℕ)) (rest : List (Bor (List ℕ))) (old new : List Secret) → rest ≡ [] → ValuedSoFar parts all (pieces_of rest) old new → IsAddedSome (GiveEach parts all) old new
+valued_end parts all rest old new none far =
+    record { more = far.so; grown = far.grown; of = subst (GiveEach parts all) (append-nil far.so) (far.given [] (subst (λ l. GiveEach parts (pieces_of l) []) (sym none) refl)) }
 
 -- the pattern of the rule of a number is that of the secret
 pub pattern_there : (rules : List Rule) (number : ℕ) (rule d : Rule) (other : List ℕ) → true ≡ nat_lt number (length rules) → rule ≡ slice_index_or rules number d

@@ -174,9 +174,9 @@ module _ {E : Type 0} (K : SinkGhosts E) where
 -- the same of the input, by what the folder and the options say
 module _ {E F Y R : Type 0} {Reads : Readers R} (K : SinkGhosts E) (D : Folders F Y) where
   -- what comes of looking for patterns in some files
-  abbrev pub SeesSearched : {X : Type 0} → Searched F → Patterns → Result Verdict X
-      → (input input' : FromRead R Reads) → (errors errors' : Errors E) → Type 0
-  SeesSearched files p result input input' errors errors' =
+  abbrev pub SeesSearched : {X : Type 0} → Searched F → Result Verdict X
+      → (input input' : FromRead R Reads) → (errors errors' : Errors E) → Patterns → Type 0
+  SeesSearched files result input input' errors errors' p =
       SeesFiles K (quest_of D files.folder.now files.words p) (name_bytes files.names.now) result (bytes_left input) (bytes_left input') errors errors'
 
   -- and for those of some rules in the files that are asked for
@@ -185,13 +185,7 @@ module _ {E F Y R : Type 0} {Reads : Readers R} (K : SinkGhosts E) (D : Folders 
   SeesRules folder given rules result input input' errors errors' =
       SeesFiles K (quest_by (call_of D folder given) (secrets_of rules)) (names_asked given) result (bytes_left input) (bytes_left input') errors errors'
 
-  -- and for those that were loaded as these rules, with the bytes that the input has left since
-  abbrev pub ChecksLoaded : F → List Given → List Rule → Result Verdict Failure
-      → (input input' : FromRead R Reads) → (errors errors' : Errors E) → Type 0
-  ChecksLoaded folder given rules result input input' errors errors' = (left : Option (List ℕ))
-      → gives_pattern given ≡ true → AreGiven (reading_by (call_of D folder given)) given (secrets_of rules) left (bytes_left input)
-      → CheckOutcome K (call_of D folder given) result left (bytes_left input') errors errors'
-
+  -- and for those that are given
   abbrev pub ChecksGiven : F → List Given → Result Verdict Failure
       → (input input' : FromRead R Reads) → (errors errors' : Errors E) → Type 0
   ChecksGiven folder given result input input' errors errors' =

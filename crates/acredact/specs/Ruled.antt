@@ -253,10 +253,14 @@ module _ (call : Call) (left left' held held' : Option (List ℕ)) where
   BeginsByRules = Keeps held held' ⊎ LoadsRules call left (λ load between. AreBegun (ruled_by call load) (names_asked call.given) between left' held held')
 
 module _ {E : Type 0} (K : SinkGhosts E) where
-  -- what a call tells that does not redact all
-  pub record TellsRuled {X : Type 0} (call : Call) (result : Result Bool X) (errors errors' : Errors E) : Type 0 where
+  -- what comes of a call, or of its files: by whether all were read, much was done and noted, or some of it, and it was told why not all
+  pub record OutcomeOf {V : Type 0} (call : Call) (all : V → Bool) (Whole : V → Type 0) (Begun Notes : Type 0)
+      (result : Result V RuledFailure) (errors errors' : Errors E) : Type 0 where
+    pub whole : IfOk result (λ done. all done ≡ true → Whole done)
+    pub begun : Begun
     pub told : Tells K (IsRuledTold call) errors errors'
-    pub partly : IfOk result (λ all. all ≡ false → TellsSome K (IsRuledTold call) errors errors')
+    pub partly : IfOk result (λ done. all done ≡ false → TellsSome K (IsRuledTold call) errors errors')
+    pub notes : IfOk result (λ done. all done ≡ true → Notes)
 
   -- where all was redacted it is told how many lines were too long, and then, where that is asked for, how many runs have each number and
   -- how much was read
@@ -305,18 +309,18 @@ module _ {E : Type 0} (K : SinkGhosts E) where
     pub told : TellsOfFiles K names result errors errors'
 
   -- of the files of a call whose patterns and rules were loaded
-  pub record RuledOutcome (call : Call) (load : RuledLoad) (result : Result Bool RuledFailure) (left left' held held' : Option (List ℕ)) (errors errors' : Errors E) : Type 0 where
-    pub whole : IfOk result (λ all. all ≡ true → AreRuled (ruled_by call load) (names_asked call.given) left left' held held')
-    pub begun : AreBegun (ruled_by call load) (names_asked call.given) left left' held held'
-    pub tells : TellsRuled call result errors errors'
-    pub notes : IfOk result (λ all. all ≡ true → NumbersOf call load left left' errors errors')
+  abbrev pub RuledOutcome : Call → RuledLoad → Result Bool RuledFailure → (left left' held held' : Option (List ℕ))
+      → (errors errors' : Errors E) → Type 0
+  RuledOutcome call load result left left' held held' errors errors' =
+      OutcomeOf call (λ all. all) (λ all. AreRuled (ruled_by call load) (names_asked call.given) left left' held held')
+      (AreBegun (ruled_by call load) (names_asked call.given) left left' held held')
+      (NumbersOf call load left left' errors errors') result errors errors'
 
   -- and of the whole call
-  pub record RuledCall (call : Call) (result : Result Bool RuledFailure) (left left' held held' : Option (List ℕ)) (errors errors' : Errors E) : Type 0 where
-    pub whole : IfOk result (λ all. all ≡ true → RedactsByRules call left left' held held')
-    pub begun : BeginsByRules call left left' held held'
-    pub tells : TellsRuled call result errors errors'
-    pub notes : IfOk result (λ all. all ≡ true → NotesByRules call left left' errors errors')
+  abbrev pub RuledCall : Call → Result Bool RuledFailure → (left left' held held' : Option (List ℕ)) → (errors errors' : Errors E) → Type 0
+  RuledCall call result left left' held held' errors errors' =
+      OutcomeOf call (λ all. all) (λ all. RedactsByRules call left left' held held')
+      (BeginsByRules call left left' held held') (NotesByRules call left left' errors errors') result errors errors'
 
   -- what its status says
   pub record RuledStatus (call : Call) (status : ℕ) (left left' held held' : Option (List ℕ)) (errors errors' : Errors E) : Type 0 where
@@ -359,13 +363,6 @@ module _ {R : Type 0} {Reads : Readers R} {W E : Type 0} (Writes : Writers W) wh
         → Option (Bor (List ℕ)) → Result Bool RuledFailure → (streams streams' : Streams R W E Reads) → Type 0
     LoadedRuled D folder items secrets rules key result streams streams' =
         Between (RuledOutcome K (call_of D folder (all_given items)) (ruled_load secrets rules key) result) streams streams'
-
-    -- and before that, where doubtful ones are to be told
-    abbrev pub KeyedRuled : {F X : Type 0} → Folders F X → F → List Item → KeyedRules
-        → Result Bool RuledFailure → (streams streams' : Streams R W E Reads) → Type 0
-    KeyedRuled D folder items made result streams streams' = (left : Option (List ℕ))
-        → AreRulesKeyedBy D folder items left (bytes_left streams.input) made
-        → RuledCall K (call_of D folder (all_given items)) result left (bytes_left streams'.input) (output_bytes Writes streams.output) (output_bytes Writes streams'.output) streams.errors streams'.errors
 
     -- and of what these options ask for
     abbrev pub AskedRuled : {F X : Type 0} → Folders F X → F → List Given

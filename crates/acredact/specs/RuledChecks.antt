@@ -20,9 +20,10 @@ use Rattle.acredact.specs.Doubts.{TellsDoubts}
 use Rattle.acredact.specs.Files.{BeginsWriting}
 use Rattle.acredact.specs.LineRules.{most_asked}
 use Rattle.acredact.specs.Looks.{all_seen, verdict_of}
-use Rattle.acredact.specs.Reads.{EachName, OfName, ReadsText}
+use Rattle.acredact.specs.Reads.{EachName, OfName}
 use Rattle.rule_files.specs.Flaws.{name_or_number}
-use Rattle.acredact.specs.Ruled.{AreRulesGiven, AreRulesGivenBy, Between, IsRuledTold, TellsRuled, ruling_by}
+use Rattle.acredact.specs.Ruled.{AreRulesGiven, Between, IsRuledTold, OutcomeOf, ruling_by}
+use Rattle.acredact.specs.RunCounts.{HasLineRuns}
 use Rattle.acredact.specs.Sums.{counts_for}
 use Rattle.acredact.specs.Tables.{Secret, secrets_of}
 use Rattle.acredact.specs.declared.options.Word.TheVariants.{Summary}
@@ -36,7 +37,6 @@ use Rattle.acredact.specs.declared.look.Look.TheVariants.{Clean, Found, Unread}
 use Rattle.acredact.specs.declared.look.Verdict.{Verdict}
 use Rattle.acredact.specs.declared.patterns.Rule.{Rule as PatternRule}
 use Rattle.acredact.specs.declared.ruled_failure.RuledFailure.{RuledFailure}
-use Rattle.acredact.specs.declared.ruled_load.GivenRules.{GivenRules}
 use Rattle.acredact.specs.declared.streams.Streams.{Streams}
 
 -- what the numbers of runs stand for: patterns, rules behind them, and behind these lines with more bytes
@@ -159,13 +159,7 @@ module _ {W : Type 0} (K : SinkGhosts W) where
     pub same : output'.ghost_name ≡ output.ghost_name
     pub begun : AppendsBeginning (K.taken output.now) (K.taken output'.now) (findings_of findings runs)
 
--- a text was read to its end, and these are the runs of its lines
-pub record HasLineRuns (covering : Covering) (runs : List (List Occurrence)) (left left' : Option (List ℕ)) : Type 0 where
-  pub text : List ℕ
-  pub reads : ReadsText text left left'
-  pub are : AreLineRuns covering [] (stream_lines text) runs
-
--- those of all files, one after another
+-- the runs of the lines of all files, one after another
 abbrev pub HaveLineRuns : (holds : List ℕ → Option (List ℕ)) → Covering → List (List ℕ)
     → List (List (List Occurrence)) → (left left' : Option (List ℕ)) → Type 0
 HaveLineRuns holds covering [] [] left left' = left' ≡ left
@@ -304,11 +298,11 @@ module _ (call : Call) (left left' held held' : Option (List ℕ)) where
 
 module _ {E : Type 0} (K : SinkGhosts E) where
   -- what comes of the files of a call whose patterns and rules were loaded
-  pub record CheckedLines (call : Call) (load : CheckLoad) (result : Result Verdict RuledFailure) (left left' held held' : Option (List ℕ)) (errors errors' : Errors E) : Type 0 where
-    pub whole : IfOk result (λ verdict. verdict.all ≡ true → SeesLoaded call verdict.found left left' held held' load)
-    pub begun : BeginsLoadedCheck call left left' held held' load
-    pub tells : TellsRuled K call (all_seen result) errors errors'
-    pub quiet : IfOk result (λ verdict. verdict.all ≡ true → errors' ≡ errors)
+  abbrev pub CheckedLines : Call → CheckLoad → Result Verdict RuledFailure → (left left' held held' : Option (List ℕ))
+      → (errors errors' : Errors E) → Type 0
+  CheckedLines call load result left left' held held' errors errors' =
+      OutcomeOf K call (λ verdict. verdict.all) (λ verdict. SeesLoaded call verdict.found left left' held held' load)
+      (BeginsLoadedCheck call left left' held held' load) (errors' ≡ errors) result errors errors'
 
   -- nothing was told but of the patterns of the lists that were loaded
   abbrev pub TellsListsBeside : Call → (left : Option (List ℕ)) → (errors errors' : Errors E) → Type 0
@@ -316,11 +310,10 @@ module _ {E : Type 0} (K : SinkGhosts E) where
       LoadsToCheck call left (λ load between. TellsDoubts K false call.given load.secrets errors errors')
 
   -- and of the whole call
-  pub record RuledCheck (call : Call) (result : Result Verdict RuledFailure) (left left' held held' : Option (List ℕ)) (errors errors' : Errors E) : Type 0 where
-    pub whole : IfOk result (λ verdict. verdict.all ≡ true → SeesByRules call verdict.found left left' held held')
-    pub begun : BeginsRuledCheck call left left' held held'
-    pub tells : TellsRuled K call (all_seen result) errors errors'
-    pub quiet : IfOk result (λ verdict. verdict.all ≡ true → TellsListsBeside call left errors errors')
+  abbrev pub RuledCheck : Call → Result Verdict RuledFailure → (left left' held held' : Option (List ℕ)) → (errors errors' : Errors E) → Type 0
+  RuledCheck call result left left' held held' errors errors' =
+      OutcomeOf K call (λ verdict. verdict.all) (λ verdict. SeesByRules call verdict.found left left' held held')
+      (BeginsRuledCheck call left left' held held') (TellsListsBeside call left errors errors') result errors errors'
 
   -- what its status says
   abbrev pub RuledCheckStatus : Call → (status : ℕ) → (left left' held held' : Option (List ℕ)) → (errors errors' : Errors E) → Type 0
@@ -411,13 +404,6 @@ module _ {R : Type 0} {Reads : Readers R} {W E : Type 0} (Writes : Writers W) (K
       → List Rule → Result Verdict RuledFailure → (streams streams' : Streams R W E Reads) → Type 0
   LoadedCheck D folder items secrets rules result streams streams' =
       Between Writes (CheckedLines K (call_of D folder (all_given items)) (check_load secrets rules) result) streams streams'
-
-  -- and before that, where doubtful ones are to be told
-  abbrev pub GivenCheck : {F X : Type 0} → Folders F X → F → List Item → GivenRules
-      → Result Verdict RuledFailure → (streams streams' : Streams R W E Reads) → Type 0
-  GivenCheck D folder items made result streams streams' = (left : Option (List ℕ))
-      → AreRulesGivenBy D folder items left (bytes_left streams.input) made
-      → RuledCheck K (call_of D folder (all_given items)) result left (bytes_left streams'.input) (output_bytes Writes streams.output) (output_bytes Writes streams'.output) streams.errors streams'.errors
 
   -- and of what these options ask for
   abbrev pub AskedCheck : {F X : Type 0} → Folders F X → F → List Given

@@ -15,13 +15,15 @@ use Rattle.acredact.specs.declared.options.Word.TheVariants.{Count, Summary}
 use Rattle.acredact.specs.declared.patterns.Rule.{Rule as PatternRule}
 use Rattle.acredact.specs.declared.summary.Volume.{Volume}
 
--- a text was read to its end, and these are the runs of all its lines
-pub record HasRuns (covering : Covering) (runs : List Occurrence) (left left' : Option (List ℕ)) : Type 0 where
+-- a text was read to its end, and these are the runs of its lines
+pub record HasLineRuns (covering : Covering) (runs : List (List Occurrence)) (left left' : Option (List ℕ)) : Type 0 where
   pub text : List ℕ
   pub reads : ReadsText text left left'
-  pub by_line : List (List Occurrence)
-  pub found : AreLineRuns covering [] (stream_lines text) by_line
-  pub are : runs ≡ all_of by_line
+  pub are : AreLineRuns covering [] (stream_lines text) runs
+
+-- and these are all of them
+abbrev pub HasRuns : Covering → List Occurrence → (left left' : Option (List ℕ)) → Type 0
+HasRuns covering runs left left' = (by_line : List (List Occurrence)) × HasLineRuns covering by_line left left' × (runs ≡ all_of by_line)
 
 -- and these are those of all files, one after another
 abbrev pub HaveRuns : (holds : List ℕ → Option (List ℕ)) → Covering

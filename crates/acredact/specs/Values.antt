@@ -1,8 +1,9 @@
 -- Values that are patterns: of variables, of the environment or of a file, and of whole files.
 use Rattle.acredact.specs.Common.{Bor, bytes_eq, ends_with_byte, strip_last}
-use Rattle.std.specs.Prelude.{◌≡◌, ℕ, ◌+◌, ◌-◌, ◌^◌, ◌||◌, ◌&&◌, not, min, Bool, MatchBool, true, List, [], ◌∷◌, ◌++◌, Option, Some, None, if◌then◌else◌, length, nat_eq, option_map}
+use Rattle.std.specs.Prelude.{◌≡◌, ℕ, ◌+◌, ◌-◌, ◌^◌, ◌||◌, ◌&&◌, not, min, Bool, MatchBool, true, List, [], ◌∷◌, ◌++◌, Option, Some, None, if◌then◌else◌, length, nat_eq, option_and_then, option_map}
 use Rattle.std.specs.List.{list_all, list_any, starts_with}
 use Rattle.aho_cover.specs.Words.{is_word_part}
+use Rattle.acredact.specs.Forms.{split_first}
 use Rattle.acredact.specs.Parts.{GivesPattern}
 use Rattle.acredact.specs.Tables.{Secret, stripped_by}
 use Rattle.acredact.specs.declared.patterns.BadLine.{BadLine}
@@ -22,22 +23,17 @@ is_variable_name name = list_all is_word_part (strip_last 42 name)
 abbrev pub is_named : (name found : List ℕ) → Bool
 is_named name found = if ends_with_byte 42 name then starts_with nat_eq found (strip_last 42 name) else bytes_eq found name
 
--- what stands before the first equals sign, and behind it, where there is one
-abbrev pub before_equals : List ℕ → List ℕ
-before_equals [] = []
-before_equals (byte ∷ bytes) = if nat_eq byte 61 then [] else byte ∷ before_equals bytes
-
-abbrev pub behind_equals : List ℕ → Option (List ℕ)
-behind_equals [] = None
-behind_equals (byte ∷ bytes) = if nat_eq byte 61 then Some bytes else behind_equals bytes
-
--- the value of an entry of the environment, where it has this name
-abbrev pub value_of_entry : (name entry : List ℕ) → Option (List ℕ)
-value_of_entry name entry = if is_named name (before_equals entry) then behind_equals entry else None
-
 -- a value, where it is asked for
 abbrev pub value_if : Bool → List ℕ → Option (List ℕ)
 value_if asked value = if asked then Some value else None
+
+-- what stands behind the first equals sign, where there is one
+abbrev pub behind_equals : List ℕ → Option (List ℕ)
+behind_equals text = option_map (λ (parts : List ℕ × List ℕ). parts.1) (split_first 61 text)
+
+-- the value of an entry of the environment, where it has this name
+abbrev pub value_of_entry : (name entry : List ℕ) → Option (List ℕ)
+value_of_entry name entry = option_and_then (λ (parts : List ℕ × List ℕ). value_if (is_named name parts.0) parts.1) (split_first 61 entry)
 
 -- a value more, if there is one
 abbrev pub values_with : List (List ℕ) → Option (List ℕ) → List (List ℕ)

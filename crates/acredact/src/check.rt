@@ -4,7 +4,7 @@ ghost use Rattle.std.specs.Prelude.{◌≡◌, IfErr, OnOk};
 ghost use Rattle.chromesquid.specs.Searcher.{ForItsPatterns};
 ghost use Rattle.acredact.specs.Arguments.{GivesNoPattern, all_given};
 ghost use Rattle.acredact.specs.Builds.{patterns_by_given};
-ghost use Rattle.acredact.specs.Checks.{ChecksGiven, ChecksLoaded, EndsCheck, IsBuildFailure, SeesRules, SeesSearched};
+ghost use Rattle.acredact.specs.Checks.{ChecksGiven, EndsCheck, IsBuildFailure, SeesRules, SeesSearched};
 ghost use Rattle.acredact.specs.Looks.{CanLook};
 ghost use Rattle.acredact.specs.Statuses.{check_status};
 ghost use Rattle.acredact.specs.Tables.{HaveNoEmpty, patterns_in, secrets_of};
@@ -56,7 +56,7 @@ pub fn status_of(verdict: Verdict) -> u8
     if verdict.found { FOUND } else { 0 }
 }
 
-/// Loads all patterns, and looks for them in each file.
+/// Loads all patterns, tells of doubtful ones of lists, or refuses the first, and looks for them in each file.
 fn check_given<'a, F: Folder, I: Read, E: Sink>(
     alloc: Global,
     given: &[Item<'a>],
@@ -73,25 +73,11 @@ fn check_given<'a, F: Folder, I: Read, E: Sink>(
         return Err(Failure::Arguments(Mistake::NoPattern));
     }
     let lists = lists_of(alloc, given, folder);
-    match rules(&lists, given, input) {
-        Ok(rules) => check_loaded(alloc, given, rules.as_slice(), folder, input, errors),
-        Err(failure) => Err(failure),
-    }
-}
-
-/// Tells of doubtful patterns of lists, or refuses the first, and looks for the patterns of these rules in each file.
-fn check_loaded<'a, F: Folder, I: Read, E: Sink>(
-    alloc: Global,
-    given: &[Item<'a>],
-    rules: &[Rule],
-    folder: &F,
-    input: &mut FromRead<I>,
-    errors: &mut Errors<'_, E>,
-) -> Result<Verdict, Failure<'a>>
-    requires some { HaveNoEmpty (secrets_of rules.now) }
-    ensures outcome { ChecksLoaded E.Sink F.Folder folder.now (all_given given.now) rules.now result
-        input.old input.new errors.old errors.new }
-{
+    let loaded = match rules(&lists, given, input) {
+        Ok(rules) => rules,
+        Err(failure) => return Err(failure),
+    };
+    let rules = loaded.as_slice();
     let strict = has(given, Word::Strict);
     match warn_of_lists(errors, given, rules, strict) {
         Ok(()) => check_rules(alloc, given, rules, folder, input, errors),
@@ -136,7 +122,7 @@ fn look_by<F: Folder, I: Read, E: Sink>(
     errors: &mut Errors<'_, E>,
 ) -> Result<Verdict, AllocError>
     requires ready { CanLook ⟦<AhoCorasick as Automaton>⟧ searcher.now files.now.words }
-    ensures sees { ForItsPatterns searcher.now (λ p. SeesSearched E.Sink F.Folder files.now p
+    ensures sees { ForItsPatterns searcher.now (SeesSearched E.Sink F.Folder files.now
         result input.old input.new errors.old errors.new) }
 {
     if let Some(rows) = searcher.rows() {

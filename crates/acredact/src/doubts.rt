@@ -4,7 +4,7 @@
 ghost use Rattle.std.specs.Prelude.{◌≡◌, IfErr, None, OnErr, OnOk, false, true};
 ghost use Rattle.std.specs.List.{concat};
 ghost use Rattle.tool_parts.specs.Telling.{TellsBytes};
-ghost use Rattle.acredact.specs.Doubts.{AreUndoubted, IsDoubtFailure, RefusesDoubt, RefusesFirstDoubt, TellsDoubts, list_doubt_lines, doubt_in, doubt_lines, doubt_of, is_blank, is_quote, list_name};
+ghost use Rattle.acredact.specs.Doubts.{AreUndoubted, IsDoubtFailure, RefusesDoubt, RefusesFirstDoubt, TellsDoubts, list_doubt_lines, doubt_in, doubt_lines, doubt_of, is_blank, list_name};
 ghost use Rattle.acredact.specs.Arguments.{all_given};
 ghost use Rattle.acredact.specs.Short.{AreLongAsked};
 ghost use Rattle.acredact.specs.Tables.{secret_of, secrets_of};
@@ -61,9 +61,9 @@ fn refuse_doubtful<'a>(given: &[Item<'a>], rules: &[Rule]) -> Result<(), Failure
     ensures refused { IfErr result (RefusesFirstDoubt (all_given given.now) (secrets_of rules.now)) }
 {
     let mut rest = rules;
-    while !rest.is_empty() {
-        match refuse_doubt(given, &rest[0]) {
-            Ok(()) => rest = &rest[1..],
+    while let Some((rule, more)) = rest.split_first() {
+        match refuse_doubt(given, rule) {
+            Ok(()) => rest = more,
             Err(failure) => return Err(failure),
         }
     }
@@ -90,9 +90,9 @@ fn tell_doubtful<E: Sink>(errors: &mut Errors<'_, E>, given: &[Item<'_>], rules:
     ensures told { TellsBytes E.Sink errors.old errors.new (concat (list_doubt_lines (all_given given.now) (secrets_of rules.now))) }
 {
     let mut rest = rules;
-    while !rest.is_empty() {
-        tell_doubt(errors, given, &rest[0]);
-        rest = &rest[1..];
+    while let Some((rule, more)) = rest.split_first() {
+        tell_doubt(errors, given, rule);
+        rest = more;
     }
 }
 
@@ -142,7 +142,7 @@ fn doubt_in(line: &[u8]) -> Option<LineFault>
     if is_blank(first) || is_blank(last) {
         return Some(LineFault::Blank);
     }
-    if line.len() > 1 && first == last && is_quote(first) {
+    if line.len() > 1 && first == last && (first == b'"' || first == b'\'' || first == b'`') {
         return Some(LineFault::Quotes);
     }
     None
@@ -153,11 +153,4 @@ fn is_blank(byte: u8) -> bool
     ensures blank { result ≡ is_blank byte }
 {
     byte == b' ' || byte == b'\t'
-}
-
-/// Whether a byte is a quote of one kind.
-fn is_quote(byte: u8) -> bool
-    ensures quote { result ≡ is_quote byte }
-{
-    byte == b'"' || byte == b'\'' || byte == b'`'
 }

@@ -240,10 +240,10 @@ fn forms_of_rules(alloc: Global, rules: &[Rule], asked: Asked<'_>) -> Result<Vec
     let mut more = Vec::new(alloc);
     let mut number: usize = 0;
     let mut rest = rules;
-    while !rest.is_empty() {
-        add_forms_of(alloc, &mut more, &rest[0], number, asked)?;
+    while let Some((rule, others)) = rest.split_first() {
+        add_forms_of(alloc, &mut more, rule, number, asked)?;
         number += 1;
-        rest = &rest[1..];
+        rest = others;
     }
     Ok(more)
 }
@@ -301,9 +301,9 @@ fn add_nested(
     ensures hidden { OnOk result (HidesTwice nested.now rule.now.pattern.items) }
 {
     let mut rest = nested;
-    while !rest.is_empty() {
-        add_twice(alloc, more, rule, number, rest[0])?;
-        rest = &rest[1..];
+    while let Some((one, others)) = rest.split_first() {
+        add_twice(alloc, more, rule, number, *one)?;
+        rest = others;
     }
     Ok(())
 }

@@ -69,7 +69,7 @@ pub fn look_at_files<A: Automaton, F: Folder, I: Read, E: Sink>(
     errors: &mut Errors<'_, E>,
 ) -> Result<Verdict, AllocError>
     requires ready { CanLook A.Automaton automaton.now files.now.words }
-    ensures sees { IfOf A.Automaton automaton.now (λ p. SeesSearched E.Sink F.Folder files.now p
+    ensures sees { IfOf A.Automaton automaton.now (SeesSearched E.Sink F.Folder files.now
         result input.old input.new errors.old errors.new) }
 {
     let mut verdict = Verdict {

@@ -3,7 +3,7 @@
 ghost use Rattle.std.specs.Prelude.{◌≡◌, option_map};
 ghost use Rattle.tool_parts.specs.Arguments.{kind_by};
 ghost use Rattle.acredact.specs.Arguments.{all_given, checks_asked, counts_asked, covers_asked, given, has, in_place_asked, is_cover, is_same, kind_asked, last_value, output_asked, takes_value, gives_rules, rules_asked, rules_check_asked, words_asked};
-ghost use Rattle.acredact.specs.Calls.{gives_pattern, gives_value};
+ghost use Rattle.acredact.specs.Calls.{gives_pattern};
 
 use chromesquid::MatchKind;
 
@@ -239,12 +239,7 @@ pub fn gives_pattern(given: &[Item<'_>]) -> bool
     has(given, Word::Pattern)
         || has(given, Word::Patterns)
         || has(given, Word::Table)
-        || gives_value(given)
-}
-
-/// Whether an option gives values that are patterns.
-fn gives_value(given: &[Item<'_>]) -> bool
-    ensures gives { result ≡ gives_value (all_given given.now) }
-{
-    has(given, Word::Env) || has(given, Word::EnvFile) || has(given, Word::Whole)
+        || has(given, Word::Env)
+        || has(given, Word::EnvFile)
+        || has(given, Word::Whole)
 }

@@ -1,6 +1,6 @@
 //! A call with rules: each line is redacted by what rules mark in it, and by the patterns that occur in it.
 
-ghost use Rattle.std.specs.Prelude.{◌≡◌, ◌⊎◌, ◌++◌, ◌∷◌, [], IfOk, OnOk, map, replicate, true};
+ghost use Rattle.std.specs.Prelude.{◌≡◌, ◌⊎◌, ◌++◌, ◌∷◌, [], IfOk, OnOk, map, true};
 ghost use Rattle.aho_core.specs.Replacement.{pieces_of};
 ghost use Rattle.chromesquid.specs.Searcher.{IsBuiltFrom};
 ghost use Rattle.secret_rules.specs.OpenLines.{CanSearch};
@@ -9,8 +9,8 @@ ghost use Rattle.tool_parts.specs.Telling.{TellsBytes};
 ghost use Rattle.acredact.specs.LongLines.{long_told};
 ghost use Rattle.acredact.specs.Arguments.{all_given};
 ghost use Rattle.acredact.specs.Calls.{names_asked};
-ghost use Rattle.acredact.specs.Ruled.{AreTextsAsked, AskedRuled, KeyedRuled, LoadedRuled, SaysOfRules, lent_rule, named_count, own_text, patterns_by_case};
-ghost use Rattle.acredact.specs.Tables.{HaveNoEmpty, patterns_in, secrets_of};
+ghost use Rattle.acredact.specs.Ruled.{AreTextsAsked, AskedRuled, LoadedRuled, SaysOfRules, lent_rule, named_count, own_text, patterns_by_case};
+ghost use Rattle.acredact.specs.Tables.{patterns_in, secrets_of};
 
 use crate::failure::FAILED;
 use crate::folder::Folder;
@@ -21,7 +21,7 @@ use crate::patterns::{Rule, replacements_of};
 use crate::prepare::{key_by, text_of};
 use crate::ruled_failure::{RuledFailure, tell_long, tell_ruled};
 use crate::ruled_files::{Lined, cover_files, line_cover};
-use crate::ruled_load::{KeyedRules, load_keyed, ready_for_lines};
+use crate::ruled_load::{load_keyed, ready_for_lines};
 use crate::run_counts::tell_runs;
 use crate::run_pieces::RunPieces;
 use crate::run_summary::last_of;
@@ -58,7 +58,8 @@ pub fn redact_by_rules<F: Folder, I: Read, W: Write, E: Sink>(
     }
 }
 
-/// Loads all patterns, rules and the key, redacts all files by them, and answers whether all were read.
+/// Loads all patterns, rules and the key, tells of doubtful patterns of lists, redacts all files by what was loaded, and answers whether
+/// all were read.
 fn redact_given<'a, F: Folder, I: Read, W: Write, E: Sink>(
     alloc: Global,
     given: &[Item<'a>],
@@ -69,25 +70,10 @@ fn redact_given<'a, F: Folder, I: Read, W: Write, E: Sink>(
         result streams.old streams.new }
     ensures flushed { OnOk result (streams.new.output.device.flushed ≡ true) }
 {
-    match load_keyed(alloc, given, folder, &mut streams.input) {
-        Ok(rules) => redact_keyed(alloc, given, &rules, folder, streams),
-        Err(failure) => Err(failure),
-    }
-}
-
-/// Tells of doubtful patterns of lists, redacts all files by what was loaded, and answers whether all were read.
-fn redact_keyed<'a, F: Folder, I: Read, W: Write, E: Sink>(
-    alloc: Global,
-    given: &[Item<'a>],
-    rules: &KeyedRules,
-    folder: &F,
-    streams: &mut Streams<'_, I, W, E>,
-) -> Result<bool, RuledFailure<'a>>
-    requires some { HaveNoEmpty (secrets_of rules.now.secrets.rules.items) }
-    ensures outcome { KeyedRuled W.Write E.Sink F.Folder folder.now given.now rules.now
-        result streams.old streams.new }
-    ensures flushed { OnOk result (streams.new.output.device.flushed ≡ true) }
-{
+    let rules = match load_keyed(alloc, given, folder, &mut streams.input) {
+        Ok(rules) => rules,
+        Err(failure) => return Err(failure),
+    };
     let key = key_bytes(&rules.secrets);
     let secrets = rules.secrets.rules.as_slice();
     match ready_for_lines(alloc, given, secrets, &mut streams.errors) {
@@ -171,7 +157,7 @@ fn redact_lines<'a, A: Automaton, F: Folder, I: Read, W: Write, E: Sink>(
     let texts = texts_of(alloc, given, secrets, rules.as_slice())?;
     let most = most_of(given);
     let texts = texts.as_slice();
-    let mut counts = counts_for(alloc, texts.len())?;
+    let mut counts: Vec<u64> = vec![in alloc; 0; texts.len()]?;
     let words = has(given, Word::AsWord);
     let pieces = pieces_by(given, texts, key, secrets.len());
     let cover = line_cover(alloc, automaton, rules, words, most)?;
@@ -263,17 +249,6 @@ fn named_count(given: &[Item<'_>], patterns: usize) -> usize
         return patterns;
     }
     0
-}
-
-/// So many counts.
-fn counts_for(alloc: Global, count: usize) -> Result<Vec<u64>, AllocError>
-    ensures zeros { IfOk result (λ counts. counts.items ≡ replicate count 0) }
-{
-    let mut counts = Vec::new(alloc);
-    while counts.len() < count {
-        counts.push(0)?;
-    }
-    Ok(counts)
 }
 
 /// Tells how many lines were too long, if some were.

@@ -8,8 +8,8 @@ ghost use Rattle.tool_parts.specs.Names.{name_bytes};
 ghost use Rattle.acredact.specs.Arguments.{all_given, has};
 ghost use Rattle.acredact.specs.Calls.{names_asked};
 ghost use Rattle.acredact.specs.Ruled.{patterns_by_case};
-ghost use Rattle.acredact.specs.RuledChecks.{AskedCheck, GivenCheck, IfCovers, LoadedCheck, SaysOfRulesCheck, SeesTo};
-ghost use Rattle.acredact.specs.Tables.{HaveNoEmpty, patterns_in, secrets_of};
+ghost use Rattle.acredact.specs.RuledChecks.{AskedCheck, IfCovers, LoadedCheck, SaysOfRulesCheck, SeesTo};
+ghost use Rattle.acredact.specs.Tables.{patterns_in, secrets_of};
 ghost use Rattle.acredact.specs.declared.options.Word.TheVariants.{Summary};
 
 use crate::check::status_of;
@@ -24,7 +24,7 @@ use crate::options::{Item, Word, has};
 use crate::patterns::Rule;
 use crate::ruled_failure::{RuledFailure, tell_ruled};
 use crate::ruled_files::line_cover;
-use crate::ruled_load::{GivenRules, load_rules, ready_for_lines};
+use crate::ruled_load::{load_rules, ready_for_lines};
 use crate::streams::Streams;
 use chromesquid::{AhoCorasick, Automaton, Nowhere, Sink};
 use secret_rules::{LineCover, LineError, Rules};
@@ -52,7 +52,7 @@ pub fn check_by_rules<F: Folder, I: Read, W: Write, E: Sink>(
     }
 }
 
-/// Loads all patterns and rules, and looks at all files by them.
+/// Loads all patterns and rules, tells of doubtful patterns of lists, and looks at all files by what was loaded.
 fn check_given<'a, F: Folder, I: Read, W: Write, E: Sink>(
     alloc: Global,
     given: &[Item<'a>],
@@ -66,28 +66,10 @@ fn check_given<'a, F: Folder, I: Read, W: Write, E: Sink>(
     ensures flushed { has Summary (all_given given.now) ≡ true
         → OnOk result (streams.new.output.device.flushed ≡ true) }
 {
-    match load_rules(alloc, given, folder, &mut streams.input) {
-        Ok(rules) => check_loaded(alloc, given, &rules, folder, streams),
-        Err(failure) => Err(failure),
-    }
-}
-
-/// Tells of doubtful patterns of lists, and looks at all files by what was loaded.
-fn check_loaded<'a, F: Folder, I: Read, W: Write, E: Sink>(
-    alloc: Global,
-    given: &[Item<'a>],
-    rules: &GivenRules,
-    folder: &F,
-    streams: &mut Streams<'_, I, W, E>,
-) -> Result<Verdict, RuledFailure<'a>>
-    requires some { HaveNoEmpty (secrets_of rules.now.secrets.items) }
-    ensures outcome { GivenCheck W.Write E.Sink F.Folder folder.now given.now rules.now
-        result streams.old streams.new }
-    ensures unwritten { has Summary (all_given given.now) ≡ false
-        → streams.new.output ≡ streams.old.output }
-    ensures flushed { has Summary (all_given given.now) ≡ true
-        → OnOk result (streams.new.output.device.flushed ≡ true) }
-{
+    let rules = match load_rules(alloc, given, folder, &mut streams.input) {
+        Ok(rules) => rules,
+        Err(failure) => return Err(failure),
+    };
     let secrets = rules.secrets.as_slice();
     match ready_for_lines(alloc, given, secrets, &mut streams.errors) {
         Ok(ready) => check_by(

@@ -135,13 +135,13 @@ fn put_rule_counts(
 {
     let mut rest = line_rules;
     let mut left = counts;
-    while !rest.is_empty() {
-        if left.is_empty() {
+    while let Some((rule, rules)) = rest.split_first() {
+        let Some((count, others)) = left.split_first() else {
             return Ok(());
-        }
-        put_rule_count(text, left[0], &rest[0])?;
-        rest = &rest[1..];
-        left = &left[1..];
+        };
+        put_rule_count(text, *count, rule)?;
+        rest = rules;
+        left = others;
     }
     Ok(())
 }

@@ -35,14 +35,14 @@ pub fn put_run_summary(
 fn put_rules(text: &mut Vec<u8>, rules: &[LineRule], runs: &[u64]) -> Result<(), AllocError>
     ensures put { OnOk result (PutsText text.old text.new (rules_listed rules.now runs.now)) }
 {
-    if rules.is_empty() {
+    let Some((rule, more)) = rules.split_first() else {
         return Ok(());
-    }
-    if runs.is_empty() {
+    };
+    let Some((count, others)) = runs.split_first() else {
         return Ok(());
-    }
-    put_rule(text, &rules[0], runs[0])?;
-    put_more_rules(text, &rules[1..], &runs[1..])
+    };
+    put_rule(text, rule, *count)?;
+    put_more_rules(text, more, others)
 }
 
 /// An object for each rule, with a comma in front of each.
@@ -51,14 +51,14 @@ fn put_more_rules(text: &mut Vec<u8>, rules: &[LineRule], runs: &[u64]) -> Resul
 {
     let mut rest = rules;
     let mut left = runs;
-    while !rest.is_empty() {
-        if left.is_empty() {
+    while let Some((rule, more)) = rest.split_first() {
+        let Some((count, others)) = left.split_first() else {
             return Ok(());
-        }
+        };
         text.push(b',')?;
-        put_rule(text, &rest[0], left[0])?;
-        rest = &rest[1..];
-        left = &left[1..];
+        put_rule(text, rule, *count)?;
+        rest = more;
+        left = others;
     }
     Ok(())
 }

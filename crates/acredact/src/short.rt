@@ -33,10 +33,10 @@ fn tell_each<E: Sink>(errors: &mut Errors<'_, E>, rules: &[Rule])
 {
     let mut number: usize = 1;
     let mut rest = rules;
-    while !rest.is_empty() {
-        tell_if_short(errors, &rest[0], number);
+    while let Some((rule, more)) = rest.split_first() {
+        tell_if_short(errors, rule, number);
         number += 1;
-        rest = &rest[1..];
+        rest = more;
     }
 }
 
@@ -68,12 +68,12 @@ fn refuse_first<'a>(rules: &[Rule]) -> Result<(), Failure<'a>>
 {
     let mut number: usize = 1;
     let mut rest = rules;
-    while !rest.is_empty() {
-        if is_formless(&rest[0]) {
+    while let Some((rule, more)) = rest.split_first() {
+        if is_formless(rule) {
             return Err(Failure::Short(number));
         }
         number += 1;
-        rest = &rest[1..];
+        rest = more;
     }
     Ok(())
 }

@@ -27,19 +27,12 @@ fn are_name_bytes(text: &[u8]) -> bool
 {
     let mut rest = text;
     while !rest.is_empty() {
-        if !is_name_byte(rest[0]) {
+        if !rest[0].is_ascii_alphanumeric() && rest[0] != b'_' {
             return false;
         }
         rest = &rest[1..];
     }
     true
-}
-
-/// Whether a byte can stand in the name of a variable.
-fn is_name_byte(byte: u8) -> bool
-    ensures is { result ≡ is_word_part byte }
-{
-    byte.is_ascii_alphanumeric() || byte == b'_'
 }
 
 /// Whether a variable has this name, or one that begins so, where the name ends in a star.

@@ -2,15 +2,16 @@
 use Rattle.acredact.proofs.Common.{CanCoverLines, bytes_left, name_bytes}
 use Rattle.std.proofs.Common.{length}
 use Rattle.acredact.specs.RuledChecks.{IfCovers, IsCoveredBy, quest_in}
-use Rattle.acredact.proofs.LookedFiles.{SeenSoFar}
+use Rattle.acredact.proofs.LookedFiles.{ComesOfSeen, verdicts_joined}
+use Rattle.acredact.proofs.Turns.{InTurn}
 use Rattle.acredact.proofs.checked_files.check_files.Given as goal
 
 abbrev pub invariant-loop-rest : goal.invariant-loop-rest
 invariant-loop-rest g l = record {
   can : CanCoverLines g.A.Automaton l.cover;
   seen : IfCovers g.A.Automaton l.initial.cover (λ covering. IsCoveredBy g.A.Automaton l.cover covering
-      × SeenSoFar g.E.Sink (quest_in g.F.Folder l.fn.checked covering) (name_bytes l.fn.names) (name_bytes l.rest) l.verdict
-      (bytes_left l.initial.input) (bytes_left l.input) (g.W.Sink.taken l.initial.output) (g.W.Sink.taken l.output) l.initial.errors l.errors);
+      × InTurn verdicts_joined (ComesOfSeen g.E.Sink (quest_in g.F.Folder l.fn.checked covering)) (name_bytes l.fn.names) (name_bytes l.rest) l.verdict
+      (bytes_left l.initial.input, g.W.Sink.taken l.initial.output, l.initial.errors) (bytes_left l.input, g.W.Sink.taken l.output, l.errors));
 }
 
 abbrev pub decreases-loop-rest : goal.decreases-loop-rest

@@ -6,9 +6,9 @@ use Rattle.acredact.specs.Doubts.{list_doubt_lines}
 use Rattle.acredact.specs.Tables.{secrets_of}
 use Rattle.acredact.proofs.doubts.tell_doubtful.Given as goal
 
-abbrev pub invariant-loop-rest : goal.invariant-loop-rest
-invariant-loop-rest g l = (done : List ℕ) × (concat (list_doubt_lines (all_given l.fn.given) (secrets_of l.fn.rules)) ≡ done ++ concat (list_doubt_lines (all_given l.fn.given) (secrets_of l.rest)))
+abbrev pub invariant-loop-rule : goal.invariant-loop-rule
+invariant-loop-rule g l = (done : List ℕ) × (concat (list_doubt_lines (all_given l.fn.given) (secrets_of l.fn.rules)) ≡ done ++ concat (list_doubt_lines (all_given l.fn.given) (secrets_of l.rest)))
     × TellsBytes g.E.Sink l.initial.errors l.errors done
 
-abbrev pub decreases-loop-rest : goal.decreases-loop-rest
-decreases-loop-rest g l = length l.rest
+abbrev pub decreases-loop-rule : goal.decreases-loop-rule
+decreases-loop-rule g l = length l.rest

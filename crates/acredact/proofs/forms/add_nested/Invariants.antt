@@ -5,12 +5,12 @@ use Rattle.acredact.specs.Forms.{HidesTwice, filled, form_secret, twice_patterns
 use Rattle.acredact.specs.Tables.{secret_of, secrets_of}
 use Rattle.acredact.proofs.forms.add_nested.Given as goal
 
-abbrev pub invariant-loop-rest : goal.invariant-loop-rest
-invariant-loop-rest l = record {
+abbrev pub invariant-loop-one : goal.invariant-loop-one
+invariant-loop-one l = record {
   made : secrets_of l.more.items ++ map (form_secret l.fn.number (secret_of l.fn.rule)) (filled (flat_map (twice_patterns l.fn.rule.pattern.items) l.rest))
       ≡ secrets_of l.initial.more.items ++ map (form_secret l.fn.number (secret_of l.fn.rule)) (filled (flat_map (twice_patterns l.fn.rule.pattern.items) l.fn.nested));
   hidden : HidesTwice l.rest l.fn.rule.pattern.items → HidesTwice l.fn.nested l.fn.rule.pattern.items;
 }
 
-abbrev pub decreases-loop-rest : goal.decreases-loop-rest
-decreases-loop-rest l = length l.rest
+abbrev pub decreases-loop-one : goal.decreases-loop-one
+decreases-loop-one l = length l.rest

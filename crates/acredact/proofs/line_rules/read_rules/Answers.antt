@@ -1,6 +1,7 @@
 -- What an option more gives is read.
-use Rattle.acredact.proofs.Common.{bytes_left}
+use Rattle.acredact.proofs.Common.{bytes_left, nil_from_length}
 use Rattle.std.proofs.Common.{rules, ◌≡◌, ◌≤◌, List, [], length, subst, sym}
+use Rattle.std.proofs.lemmas.Slice.{first_rest}
 use Rattle.secret_rules.specs.declared.rule.Rule.{Rule}
 use Rattle.acredact.specs.Arguments.{all_given}
 use Rattle.acredact.specs.LineRules.{OptionGivesRules}
@@ -16,9 +17,9 @@ loop-rest-init g c =
 pub loop-rest-preserved : goal.loop-rest-preserved
 loop-rest-preserved g c =
     let some : 1 ≤ length c.loop-rest.rest.now = search rules in
-    given_next _ _ _ c.loop-rest.rest.now _ _ _ _ _ some c.loop-rest.invariant c.in-Ok.ensures.added
+    given_next _ _ _ c.loop-rest.rest.now _ _ _ _ _ _ (first_rest c.loop-rest.rest.now _ some) c.loop-rest.invariant c.in-Ok.ensures.added
 
 pub returns : goal.returns
 returns g c =
     let none : length c.loop-rest.rest.now ≡ 0 = search rules in
-    record { read = given_end _ _ _ c.loop-rest.rest.now _ _ none c.loop-rest.invariant }
+    record { read = given_end _ _ _ c.loop-rest.rest.now _ _ (nil_from_length c.loop-rest.rest.now none) c.loop-rest.invariant }

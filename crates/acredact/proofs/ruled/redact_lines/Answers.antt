@@ -11,21 +11,22 @@ use Rattle.acredact.specs.Ruled.{patterns_by_case, ruled_load, texts_asked}
 use Rattle.acredact.specs.Summaries.{no_volume}
 use Rattle.acredact.specs.Volumes.{ReadsVolume}
 use Rattle.acredact.specs.Tables.{patterns_in}
-use Rattle.acredact.proofs.RuledCalls.{files_done, files_failed, ruled_none, ruling_same, texts_many}
+use Rattle.acredact.proofs.RuledCalls.{files_done, files_failed, outcome_none, ruling_same, texts_many}
+use Rattle.acredact.proofs.RuledFiles.{none_begun}
 use Rattle.acredact.proofs.RuledText.{lined_by}
 use Rattle.acredact.proofs.ruled.redact_lines.Goals as goal
 
 pub returns-in_err-texts-clause-outcome : goal.returns-in_err-texts-clause-outcome
 returns-in_err-texts-clause-outcome g c =
-    ruled_none g.E.Sink (call_of g.F.Folder c.args.folder.now (all_given c.args.given.now)) (ruled_load c.args.secrets.now c.args.rules.now c.args.key) c.from_residual.result _ _ _ c.from_residual.ensures.0
+    outcome_none g.E.Sink (call_of g.F.Folder c.args.folder.now (all_given c.args.given.now)) c.from_residual.result c.from_residual.ensures.0 (none_begun _ _ _ _)
 
 pub returns-in_err-counts-clause-outcome : goal.returns-in_err-counts-clause-outcome
 returns-in_err-counts-clause-outcome g c =
-    ruled_none g.E.Sink (call_of g.F.Folder c.args.folder.now (all_given c.args.given.now)) (ruled_load c.args.secrets.now c.args.rules.now c.args.key) c.from_residual-in_err-counts.result _ _ _ c.from_residual-in_err-counts.ensures.0
+    outcome_none g.E.Sink (call_of g.F.Folder c.args.folder.now (all_given c.args.given.now)) c.from_residual-in_err-counts.result c.from_residual-in_err-counts.ensures.0 (none_begun _ _ _ _)
 
 pub returns-in_err-cover-clause-outcome : goal.returns-in_err-cover-clause-outcome
 returns-in_err-cover-clause-outcome g c =
-    ruled_none g.E.Sink (call_of g.F.Folder c.args.folder.now (all_given c.args.given.now)) (ruled_load c.args.secrets.now c.args.rules.now c.args.key) c.from_residual-in_err-cover.result _ _ _ c.from_residual-in_err-cover.ensures.0
+    outcome_none g.E.Sink (call_of g.F.Folder c.args.folder.now (all_given c.args.given.now)) c.from_residual-in_err-cover.result c.from_residual-in_err-cover.ensures.0 (none_begun _ _ _ _)
 
 pub cover_files-done-requires : goal.cover_files-done-requires
 cover_files-done-requires g c =
@@ -42,7 +43,7 @@ returns-in-Ok-clause-outcome g c =
     let ruling = ruling_same given c.args.secrets.now c.args.rules.now c.args.key _ _ _ _ c.has-words.ensures.has c.most_of-most.ensures.most written c.pieces_by-pieces.ensures.rule in
     let cover = c.in_ok-cover.ensures in
     let files = rw (ruling, c.requires.names) at (c.in-Ok.ensures.outcome _ (lined_by g.A.Automaton _ _ _ _ _ _ (patterns_by_case given (patterns_in load.secrets)) cover.ready (cover.searched _ c.requires.of) cover.words cover.rules cover.most refl)) in
-    let zeros : c.as_mut_slice-tally.result.now ≡ replicate (length c.as_slice-texts.result.now) 0 = c.as_mut_slice-tally.ensures.value ∙ c.in_ok-counts.ensures.zeros in
+    let zeros : c.as_mut_slice-tally.result.now ≡ replicate (length c.as_slice-texts.result.now) 0 = c.as_mut_slice-tally.ensures.value ∙ c.in_ok-counts.ensures.items_if_clones_equal (λ y same. same) in
     let sized = sym (length-map c.as_slice-texts.result.now (λ piece. piece.now)) ∙ ap length written ∙ texts_many given load in
     let long = subst (λ (m : ℕ). TellsBytes g.E.Sink c.cover_files-done.new.streams.errors c.tell_count.new.errors (long_told m c.last_of-count.result)) c.most_of-most.ensures.most c.tell_count.ensures.told in
     let read = λ (all : c.in-Ok.all ≡ true). subst (λ (l : List (List ℕ)). ReadsVolume call.holds l no_volume c.cover_files-done.new.volume (bytes_left c.args.streams.now.input) (bytes_left c.cover_files-done.new.streams.input)) c.requires.names

@@ -1,17 +1,19 @@
 -- The files are looked at by what was loaded.
-use Rattle.std.proofs.Common.{rules, ◌∙◌, refl}
+use Rattle.acredact.proofs.Common.{Keeps-refl}
+use Rattle.std.proofs.Common.{rules, ◌∙◌, inl, refl}
 use Rattle.acredact.specs.Arguments.{all_given}
 use Rattle.acredact.specs.Calls.{call_of}
 use Rattle.acredact.specs.Ruled.{patterns_by_case}
 use Rattle.acredact.specs.RuledChecks.{check_load}
 use Rattle.acredact.specs.Tables.{patterns_in}
 use Rattle.acredact.proofs.LookedFiles.{covered_by}
-use Rattle.acredact.proofs.RuledCheckCalls.{check_none, files_looked, files_unlooked, quest_same, same_kept}
+use Rattle.acredact.proofs.RuledCalls.{outcome_none}
+use Rattle.acredact.proofs.RuledCheckCalls.{files_looked, files_unlooked, quest_same, same_kept}
 use Rattle.acredact.proofs.ruled_check.check_cover.Goals as goal
 
 pub returns-in_err-cover-clause-outcome : goal.returns-in_err-cover-clause-outcome
 returns-in_err-cover-clause-outcome g c =
-    check_none g.E.Sink (call_of g.F.Folder c.args.folder.now (all_given c.args.given.now)) (check_load c.args.secrets.now c.args.rules.now) c.from_residual.result _ _ _ c.from_residual.ensures.0
+    outcome_none g.E.Sink (call_of g.F.Folder c.args.folder.now (all_given c.args.given.now)) c.from_residual.result c.from_residual.ensures.0 (inl (Keeps-refl _))
 
 pub returns-in-Ok-clause-outcome : goal.returns-in-Ok-clause-outcome
 returns-in-Ok-clause-outcome g c =

@@ -1,21 +1,36 @@
--- What was loaded is looked for.
-use Rattle.acredact.proofs.Common.{bytes_left}
-use Rattle.std.proofs.Common.{refl}
+-- What was loaded is looked for, behind what is told of doubtful patterns.
+use Rattle.acredact.proofs.Common.{Keeps-refl, name_bytes}
+use Rattle.std.proofs.Common.{◌∙◌, ap, inl, refl}
 use Rattle.acredact.specs.Arguments.{all_given}
 use Rattle.acredact.specs.Calls.{call_of}
 use Rattle.acredact.specs.Ruled.{IsRuledTold}
+use Rattle.acredact.specs.RuledChecks.{check_load}
+use Rattle.acredact.specs.Tables.{secrets_of}
 use Rattle.acredact.proofs.Calls.{tells_same}
 use Rattle.acredact.proofs.Ready.{given_some}
-use Rattle.acredact.proofs.RuledCheckCalls.{check_early}
+use Rattle.acredact.proofs.RuledCalls.{all_doubts_told, outcome_early}
+use Rattle.acredact.proofs.RuledCheckCalls.{check_behind}
 use Rattle.acredact.proofs.ruled_check.check_given.Goals as goal
 
-pub check_loaded-requires : goal.check_loaded-requires
-check_loaded-requires g c = record { some = given_some _ _ _ _ _ c.in-Ok.ensures.given.secrets_given }
+pub ready_for_lines-requires : goal.ready_for_lines-requires
+ready_for_lines-requires g c = record { some = rw c.as_slice-secrets.ensures.value (given_some _ _ _ _ _ c.in-Ok.ensures.given.secrets_given) }
 
-pub returns-in-Ok-clause-outcome : goal.returns-in-Ok-clause-outcome
-returns-in-Ok-clause-outcome g c = c.check_loaded.ensures.outcome (bytes_left c.args.streams.now.input) c.in-Ok.ensures.given
+pub returns-in-Ok-ready_for_lines-clause-outcome : goal.returns-in-Ok-ready_for_lines-clause-outcome
+returns-in-Ok-ready_for_lines-clause-outcome g c =
+    let call = call_of g.F.Folder c.args.folder.now (all_given c.args.given.now) in
+    check_behind g.E.Sink call (check_load c.in-Ok.rules.secrets.items c.in-Ok.rules.rules) c.check_by.result _ _ _ _ _ _ _ _ c.in-Ok.ensures.given
+    (rw c.as_slice-secrets.ensures.value at c.ready_for_lines.ensures.told)
+    (rw c.as_slice-secrets.ensures.value at c.check_by.ensures.outcome)
+
+pub returns-in-Err-ready_for_lines-clause-outcome : goal.returns-in-Err-ready_for_lines-clause-outcome
+returns-in-Err-ready_for_lines-clause-outcome g c =
+    let call = call_of g.F.Folder c.args.folder.now (all_given c.args.given.now) in
+    outcome_early g.E.Sink call (inl (Keeps-refl _)) (all_doubts_told g.E.Sink call (secrets_of c.as_slice-secrets.result.now) _ _ c.ready_for_lines.ensures.told)
+
+pub check_by-requires : goal.check_by-requires
+check_by-requires g c = record { can = c.in-Ok-ready_for_lines.ensures.can; of = c.in-Ok-ready_for_lines.ensures.ready.of; names = ap name_bytes c.as_slice.ensures.value ∙ c.in-Ok-ready_for_lines.ensures.ready.names }
 
 pub returns-in-Err-clause-outcome : goal.returns-in-Err-clause-outcome
 returns-in-Err-clause-outcome g c =
     let call = call_of g.F.Folder c.args.folder.now (all_given c.args.given.now) in
-    check_early g.E.Sink call c.in-Err.failure _ _ _ _ _ (tells_same g.E.Sink (IsRuledTold call) _ _ refl)
+    outcome_early g.E.Sink call (inl (Keeps-refl _)) (tells_same g.E.Sink (IsRuledTold call) _ _ refl)

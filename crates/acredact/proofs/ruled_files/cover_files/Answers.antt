@@ -6,13 +6,14 @@ use Rattle.acredact.specs.Ruled.{ruled_in}
 use Rattle.acredact.specs.Volumes.{files_with}
 use Rattle.acredact.proofs.Done.{both_so, names_cut, names_end}
 use Rattle.acredact.proofs.Metering.{VolumeSoFar, all_read, far_read, far_unread}
-use Rattle.acredact.proofs.RuledFiles.{lined_all, lined_fails, lined_next, lined_none, lined_unflushed}
+use Rattle.acredact.proofs.RuledFiles.{lined_failed, lined_flushed, lined_more, lined_unflushed}
+use Rattle.acredact.proofs.Turns.{turn_end, turn_fails, turn_first, turn_next}
 use Rattle.acredact.proofs.ruled_files.cover_files.Goals as goal
 
 pub loop-rest-init : goal.loop-rest-init
 loop-rest-init g c = (
   λ _. far_unread (g.F.Folder.holds c.args.folder.now) _ _ _,
-  λ ruling lined. (lined, lined_none g.E.Sink (ruled_in g.F.Folder c.args.folder.now ruling) (name_bytes c.args.names.now) _ _ _ _),
+  λ ruling lined. (lined, turn_first),
 )
 
 pub loop-rest-preserved : goal.loop-rest-preserved
@@ -29,8 +30,7 @@ loop-rest-preserved g c = (
       let some : 1 ≤ length c.loop-rest.rest.now = search rules in
       let so = c.loop-rest.invariant.1 ruling lined in (
         c.in_ok-whole.ensures.still ruling so.0,
-        lined_next g.E.Sink (ruled_in g.F.Folder c.args.folder.now ruling) (name_bytes c.args.names.now) _ _ _ _ _ c.loop-rest.all _ _ _ _ so.1 _ _ c.in_ok-whole.whole _ _ _ _ _ (names_cut c.loop-rest.rest.now _ some)
-            (c.in_ok-whole.ensures.outcome ruling so.0) c.both-all.ensures.both,
+        turn_next so.1 (names_cut c.loop-rest.rest.now _ some) c.both-all.ensures.both (lined_more g.E.Sink (ruled_in g.F.Folder c.args.folder.now ruling) (c.in_ok-whole.ensures.outcome ruling so.0)),
       ),
 )
 
@@ -40,22 +40,19 @@ returns-in_err-whole-clause-outcome g c =
     let some : 1 ≤ length c.loop-rest.rest.now = search rules in λ ruling lined.
     let so = c.loop-rest.invariant.1 ruling lined in
     rw is
-    (lined_fails g.E.Sink (ruled_in g.F.Folder c.args.folder.now ruling) (name_bytes c.args.names.now) _ _ _ _ _ c.loop-rest.all _ _ _ _ so.1 _ _ _ _ _ _ _ (names_cut c.loop-rest.rest.now _ some)
-    (c.in_err-whole.ensures.outcome ruling so.0))
+    (turn_fails so.1 (names_cut c.loop-rest.rest.now _ some) (lined_failed g.E.Sink (ruled_in g.F.Folder c.args.folder.now ruling) (c.in_err-whole.ensures.outcome ruling so.0)))
 
 pub returns-in_err-flush-clause-outcome : goal.returns-in_err-flush-clause-outcome
 returns-in_err-flush-clause-outcome g c =
     let is : c.from_residual-in_err-flush.result ≡ Err (Stream c.in_err-flush.field-0.0) = search rules in
     let none : length c.loop-rest.rest.now ≡ 0 = search rules in λ ruling lined.
     rw is
-    (lined_unflushed g.E.Sink (ruled_in g.F.Folder c.args.folder.now ruling) (name_bytes c.args.names.now) _ _ _ _ _ c.loop-rest.all _ _ _ _ (c.loop-rest.invariant.1 ruling lined).1 _ _ (names_end c.loop-rest.rest.now none)
-    c.in_err-flush.ensures.kept)
+    (turn_fails (c.loop-rest.invariant.1 ruling lined).1 (names_end c.loop-rest.rest.now none) (lined_unflushed g.E.Sink (ruled_in g.F.Folder c.args.folder.now ruling) c.in_err-flush.ensures.kept))
 
 pub returns-clause-outcome : goal.returns-clause-outcome
 returns-clause-outcome g c =
     let none : length c.loop-rest.rest.now ≡ 0 = search rules in λ ruling lined.
-    lined_all g.E.Sink (ruled_in g.F.Folder c.args.folder.now ruling) (name_bytes c.args.names.now) _ _ _ _ _ c.loop-rest.all _ _ _ _ (c.loop-rest.invariant.1 ruling lined).1 _ (names_end c.loop-rest.rest.now none)
-    c.in_ok-flush.ensures.kept
+    turn_end (c.loop-rest.invariant.1 ruling lined).1 (names_end c.loop-rest.rest.now none) (lined_flushed g.E.Sink (ruled_in g.F.Folder c.args.folder.now ruling) c.in_ok-flush.ensures.kept)
 
 pub returns-clause-read : goal.returns-clause-read
 returns-clause-read g c =

@@ -3,8 +3,8 @@ use Rattle.std.proofs.Common.{◌≡◌, ◌++◌, length}
 use Rattle.acredact.specs.RunCounts.{rule_counts_text}
 use Rattle.acredact.proofs.run_counts.put_rule_counts.Given as goal
 
-abbrev pub invariant-loop-rest : goal.invariant-loop-rest
-invariant-loop-rest l = l.text.items ++ rule_counts_text l.rest l.left ≡ l.initial.text.items ++ rule_counts_text l.fn.line_rules l.fn.counts
+abbrev pub invariant-loop-rule : goal.invariant-loop-rule
+invariant-loop-rule l = l.text.items ++ rule_counts_text l.rest l.left ≡ l.initial.text.items ++ rule_counts_text l.fn.line_rules l.fn.counts
 
-abbrev pub decreases-loop-rest : goal.decreases-loop-rest
-decreases-loop-rest l = length l.rest
+abbrev pub decreases-loop-rule : goal.decreases-loop-rule
+decreases-loop-rule l = length l.rest

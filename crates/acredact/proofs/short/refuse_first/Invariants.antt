@@ -4,8 +4,8 @@ use Rattle.acredact.specs.Short.{AreLong}
 use Rattle.acredact.specs.Tables.{Secret, secrets_of}
 use Rattle.acredact.proofs.short.refuse_first.Given as goal
 
-abbrev pub invariant-loop-rest : goal.invariant-loop-rest
-invariant-loop-rest l = record {
+abbrev pub invariant-loop-rule : goal.invariant-loop-rule
+invariant-loop-rule l = record {
   count : l.number + length l.rest ≡ length l.fn.rules + 1;
   front : List Secret;
   are : secrets_of l.fn.rules ≡ front ++ secrets_of l.rest;
@@ -13,5 +13,5 @@ invariant-loop-rest l = record {
   many : l.number ≡ length front + 1;
 }
 
-abbrev pub decreases-loop-rest : goal.decreases-loop-rest
-decreases-loop-rest l = length l.rest
+abbrev pub decreases-loop-rule : goal.decreases-loop-rule
+decreases-loop-rule l = length l.rest

@@ -5,13 +5,13 @@ use Rattle.acredact.specs.Short.{short_lines}
 use Rattle.acredact.specs.Tables.{secrets_of}
 use Rattle.acredact.proofs.short.tell_each.Given as goal
 
-abbrev pub invariant-loop-rest : goal.invariant-loop-rest
-invariant-loop-rest g l = record {
+abbrev pub invariant-loop-rule : goal.invariant-loop-rule
+invariant-loop-rule g l = record {
   count : l.number + length l.rest ≡ length l.fn.rules + 1;
   done : List ℕ;
   are : concat (short_lines 1 (secrets_of l.fn.rules)) ≡ done ++ concat (short_lines l.number (secrets_of l.rest));
   told : TellsBytes g.E.Sink l.initial.errors l.errors done;
 }
 
-abbrev pub decreases-loop-rest : goal.decreases-loop-rest
-decreases-loop-rest g l = length l.rest
+abbrev pub decreases-loop-rule : goal.decreases-loop-rule
+decreases-loop-rule g l = length l.rest
