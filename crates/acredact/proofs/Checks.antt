@@ -55,7 +55,7 @@ module _ {E X : Type 0} (K : SinkGhosts E) (quest : Quest) where
   abbrev pub ComesOfLooks : List (List ℕ) → Result Verdict X → (old new : Option (List ℕ) × Errors E) → Type 0
   ComesOfLooks names result old new = SeesFiles K quest names result old.0 new.0 old.1 new.1
 
-  module _ {name : List ℕ} {names : List (List ℕ)} {look : Look} {old mid : Option (List ℕ) × Errors E} (looks : IsLookOf quest name look old.0 mid.0) (lines_told : TellsBytes K old.1 mid.1 (concat (look_lines name look)))
+  module _ {name : List ℕ} {names : List (List ℕ)} (look : Look) {old mid : Option (List ℕ) × Errors E} (looks : IsLookOf quest name look old.0 mid.0) (lines_told : TellsBytes K old.1 mid.1 (concat (look_lines name look)))
       (told : TellsOfFiles {X = X} K (name ∷ []) (Ok (verdict_of look).all) old.1 mid.1) where
     -- what comes of a file, and then of others
     pub looks_more : (result : Result Verdict X) (end : Option (List ℕ) × Errors E) → ComesOfLooks names result mid end → ComesOfLooks (name ∷ names) (also verdicts_joined (verdict_of look) result) old end

@@ -27,8 +27,8 @@ returns-in-Ok-warn_of_lists-clause-outcome g c =
     check_seen g.E.Sink (call_of g.F.Folder c.args.folder.now given) _ _ _ (secrets_of c.in-Ok.rules.items) _ _ _ c.check_rules.result some loaded doubts
     (rw c.as_slice-rules.ensures.value at c.check_rules.ensures.sees) (rw c.as_slice-rules.ensures.value at c.check_rules.ensures.fails)
 
-pub returns-in-Err-warn_of_lists-clause-outcome : goal.returns-in-Err-warn_of_lists-clause-outcome
-returns-in-Err-warn_of_lists-clause-outcome g c =
+pub returns-clause-outcome : goal.returns-clause-outcome
+returns-clause-outcome g c =
     let given = all_given c.args.given.now in
     let loaded = reading_from g.F.Folder c.lists_of-lists.result c.args.folder.now (rules_asked given) c.lists_of-lists.ensures.folder c.lists_of-lists.ensures.rules
     (λ r. AreGiven r given (secrets_of c.in-Ok.rules.items) (bytes_left c.args.input.now) (bytes_left c.rules.new.input)) c.in-Ok.ensures.given in

@@ -19,7 +19,7 @@ loop-rest-preserved g c = λ p of.
     let some : 1 ≤ length c.loop-rest.rest.now = search rules in
     let told = look_told AllocError g.E.Sink _ c.in_ok-look.look _ _ c.tell_look.ensures.told c.tell_look.ensures.quiet in
     turn_next (c.loop-rest.invariant p of) (names_cut c.loop-rest.rest.now _ some) (c.both_seen-verdict.ensures.both ∙ ap (both_seen c.loop-rest.verdict) c.verdict_of.ensures.seen)
-    (looks_more g.E.Sink quest (c.in_ok-look.ensures.looks p of) c.tell_look.ensures.told told)
+    (looks_more g.E.Sink quest c.in_ok-look.look (c.in_ok-look.ensures.looks p of) c.tell_look.ensures.told told)
 
 pub returns-in_err-look : goal.returns-in_err-look
 returns-in_err-look g c =

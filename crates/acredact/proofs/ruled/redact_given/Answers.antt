@@ -1,9 +1,9 @@
 -- What was loaded is redacted by, behind what is told of doubtful patterns.
 use Rattle.acredact.proofs.Common.{Keeps-refl, Rule, name_bytes}
-use Rattle.std.proofs.Common.{◌≡◌, ◌∙◌, List, ap, inl, refl}
+use Rattle.std.proofs.Common.{◌≡◌, ◌∙◌, List, ap, inl, refl, subst}
 use Rattle.acredact.specs.Arguments.{all_given}
 use Rattle.acredact.specs.Calls.{call_of}
-use Rattle.acredact.specs.Ruled.{IsRuledTold, load_as, load_in, ruled_load}
+use Rattle.acredact.specs.Ruled.{IsRuledTold, RuledLoad, RuledOutcome, load_as, load_in, ruled_load}
 use Rattle.acredact.specs.Tables.{secrets_of}
 use Rattle.acredact.proofs.Calls.{tells_same}
 use Rattle.acredact.proofs.Naming.{ruled_some}
@@ -21,10 +21,10 @@ returns-in-Ok-ready_for_lines-clause-outcome g c =
     ∙ ap (load_as (secrets_of c.in-Ok.rules.secrets.rules.items) c.in-Ok.rules.rules) c.key_bytes-key.ensures.key in
     ruled_behind g.E.Sink call (load_in c.in-Ok.rules) c.redact_by.result _ _ _ _ _ _ _ _ c.in-Ok.ensures.loaded
     (rw c.as_slice-secrets.ensures.value at c.ready_for_lines.ensures.told)
-    (rw load at c.redact_by.ensures.outcome)
+    (subst (λ (l : RuledLoad). RuledOutcome g.E.Sink call l c.redact_by.result _ _ _ _ _ _) load c.redact_by.ensures.outcome)
 
-pub returns-in-Err-ready_for_lines-clause-outcome : goal.returns-in-Err-ready_for_lines-clause-outcome
-returns-in-Err-ready_for_lines-clause-outcome g c =
+pub returns-clause-outcome : goal.returns-clause-outcome
+returns-clause-outcome g c =
     let call = call_of g.F.Folder c.args.folder.now (all_given c.args.given.now) in
     outcome_early g.E.Sink call (inl (Keeps-refl _)) (all_doubts_told g.E.Sink call (secrets_of c.as_slice-secrets.result.now) _ _ c.ready_for_lines.ensures.told)
 

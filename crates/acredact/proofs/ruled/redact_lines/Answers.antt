@@ -7,7 +7,7 @@ use Rattle.acredact.specs.Arguments.{all_given}
 use Rattle.acredact.specs.Calls.{call_of}
 use Rattle.acredact.specs.LineRules.{most_asked}
 use Rattle.acredact.specs.LongLines.{long_told}
-use Rattle.acredact.specs.Ruled.{patterns_by_case, ruled_load, texts_asked}
+use Rattle.acredact.specs.Ruled.{patterns_by_case, ruled_by, ruled_load, texts_asked}
 use Rattle.acredact.specs.Summaries.{no_volume}
 use Rattle.acredact.specs.Volumes.{ReadsVolume}
 use Rattle.acredact.specs.Tables.{patterns_in}
@@ -18,15 +18,15 @@ use Rattle.acredact.proofs.ruled.redact_lines.Goals as goal
 
 pub returns-in_err-texts-clause-outcome : goal.returns-in_err-texts-clause-outcome
 returns-in_err-texts-clause-outcome g c =
-    outcome_none g.E.Sink (call_of g.F.Folder c.args.folder.now (all_given c.args.given.now)) c.from_residual.result c.from_residual.ensures.0 (none_begun _ _ _ _)
+    outcome_none g.E.Sink (call_of g.F.Folder c.args.folder.now (all_given c.args.given.now)) c.from_residual.result c.from_residual.ensures.0 (none_begun (ruled_by (call_of g.F.Folder c.args.folder.now (all_given c.args.given.now)) (ruled_load c.args.secrets.now c.args.rules.now c.args.key)) _ _ _)
 
 pub returns-in_err-counts-clause-outcome : goal.returns-in_err-counts-clause-outcome
 returns-in_err-counts-clause-outcome g c =
-    outcome_none g.E.Sink (call_of g.F.Folder c.args.folder.now (all_given c.args.given.now)) c.from_residual-in_err-counts.result c.from_residual-in_err-counts.ensures.0 (none_begun _ _ _ _)
+    outcome_none g.E.Sink (call_of g.F.Folder c.args.folder.now (all_given c.args.given.now)) c.from_residual-in_err-counts.result c.from_residual-in_err-counts.ensures.0 (none_begun (ruled_by (call_of g.F.Folder c.args.folder.now (all_given c.args.given.now)) (ruled_load c.args.secrets.now c.args.rules.now c.args.key)) _ _ _)
 
 pub returns-in_err-cover-clause-outcome : goal.returns-in_err-cover-clause-outcome
 returns-in_err-cover-clause-outcome g c =
-    outcome_none g.E.Sink (call_of g.F.Folder c.args.folder.now (all_given c.args.given.now)) c.from_residual-in_err-cover.result c.from_residual-in_err-cover.ensures.0 (none_begun _ _ _ _)
+    outcome_none g.E.Sink (call_of g.F.Folder c.args.folder.now (all_given c.args.given.now)) c.from_residual-in_err-cover.result c.from_residual-in_err-cover.ensures.0 (none_begun (ruled_by (call_of g.F.Folder c.args.folder.now (all_given c.args.given.now)) (ruled_load c.args.secrets.now c.args.rules.now c.args.key)) _ _ _)
 
 pub cover_files-done-requires : goal.cover_files-done-requires
 cover_files-done-requires g c =

@@ -22,8 +22,8 @@ returns-in-Ok-ready_for_lines-clause-outcome g c =
     (rw c.as_slice-secrets.ensures.value at c.ready_for_lines.ensures.told)
     (rw c.as_slice-secrets.ensures.value at c.check_by.ensures.outcome)
 
-pub returns-in-Err-ready_for_lines-clause-outcome : goal.returns-in-Err-ready_for_lines-clause-outcome
-returns-in-Err-ready_for_lines-clause-outcome g c =
+pub returns-clause-outcome : goal.returns-clause-outcome
+returns-clause-outcome g c =
     let call = call_of g.F.Folder c.args.folder.now (all_given c.args.given.now) in
     outcome_early g.E.Sink call (inl (Keeps-refl _)) (all_doubts_told g.E.Sink call (secrets_of c.as_slice-secrets.result.now) _ _ c.ready_for_lines.ensures.told)
 
