@@ -1,9 +1,9 @@
 -- What was loaded is redacted by, behind what is told of doubtful patterns.
 use Rattle.acredact.proofs.Common.{Keeps-refl, Rule, name_bytes}
-use Rattle.std.proofs.Common.{◌≡◌, ◌∙◌, List, ap, inl, refl, subst}
+use Rattle.std.proofs.Common.{◌≡◌, ◌∙◌, List, ap, inl, refl}
 use Rattle.acredact.specs.Arguments.{all_given}
 use Rattle.acredact.specs.Calls.{call_of}
-use Rattle.acredact.specs.Ruled.{IsRuledTold, RuledLoad, RuledOutcome, load_as, load_in, ruled_load}
+use Rattle.acredact.specs.Ruled.{IsRuledTold, load_as, load_in, ruled_load}
 use Rattle.acredact.specs.Tables.{secrets_of}
 use Rattle.acredact.proofs.Calls.{tells_same}
 use Rattle.acredact.proofs.Naming.{ruled_some}
@@ -19,9 +19,8 @@ returns-in-Ok-ready_for_lines-clause-outcome g c =
     let load : ruled_load c.as_slice-secrets.result.now c.in-Ok.rules.rules c.key_bytes-key.result ≡ load_in c.in-Ok.rules =
     ap (λ (l : List Rule). ruled_load l c.in-Ok.rules.rules c.key_bytes-key.result) c.as_slice-secrets.ensures.value
     ∙ ap (load_as (secrets_of c.in-Ok.rules.secrets.rules.items) c.in-Ok.rules.rules) c.key_bytes-key.ensures.key in
-    ruled_behind g.E.Sink call (load_in c.in-Ok.rules) c.redact_by.result _ _ _ _ _ _ _ _ c.in-Ok.ensures.loaded
-    (rw c.as_slice-secrets.ensures.value at c.ready_for_lines.ensures.told)
-    (subst (λ (l : RuledLoad). RuledOutcome g.E.Sink call l c.redact_by.result _ _ _ _ _ _) load c.redact_by.ensures.outcome)
+    ruled_behind g.E.Sink call _ (load_in c.in-Ok.rules) load c.redact_by.result _ _ _ _ _ _ _ _ c.in-Ok.ensures.loaded
+    (rw c.as_slice-secrets.ensures.value at c.ready_for_lines.ensures.told) c.redact_by.ensures.outcome
 
 pub returns-clause-outcome : goal.returns-clause-outcome
 returns-clause-outcome g c =
