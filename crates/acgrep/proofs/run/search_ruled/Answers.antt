@@ -1,12 +1,14 @@
 -- The rules in files were read, and what was said was done by them.
-use Rattle.acgrep.proofs.Common.{concat, some-one, some-weaker}
-use Rattle.std.proofs.Common.{◌≡◌, List, Option, Some, [], ap, inl, inr, refl, ℕ}
-use Rattle.acgrep.specs.Arguments.{Said, said}
+use Rattle.acgrep.proofs.Common.{Errors, Nothing, TellsSome, concat, some-one, some-weaker}
+use Rattle.std.proofs.Common.{◌≡◌, List, Option, Some, [], ap, inl, inr, refl, subst, ℕ}
+use Rattle.acgrep.specs.Arguments.{Said, said, shown_by}
 use Rattle.acgrep.specs.Folders.{Known, known_by}
 use Rattle.acgrep.specs.Listed.{listed_bytes}
 use Rattle.acgrep.specs.Rules.{RuleSaid, rules_said}
-use Rattle.acgrep.specs.Runs.{AreRules, names_by, ruled, sources_by}
-use Rattle.acgrep.specs.Told.{IsMessage, MaySaid, MaySay, names_said, names_told, rule_files, wrong_parts}
+use Rattle.acgrep.specs.Runs.{AreRules, BeginsSaid, SearchesSaid, names_by, ruled, sources_by}
+use Rattle.acgrep.specs.RunsByRules.{MarksAsked, MayBeginAsked}
+use Rattle.acgrep.specs.Told.{IsMessage, MaySaid, MaySay, TellsOfSaid, TellsStatus, names_said, names_told, rule_files, wrong_parts}
+use Rattle.acgrep.specs.ToldByRules.{IsMarkTold}
 use Rattle.acgrep.specs.declared.wrong.Wrong.TheVariants.{NoPattern}
 use Rattle.acgrep.proofs.MarksTold.{some-told}
 use Rattle.acgrep.proofs.RuleTexts.{rules_read}
@@ -32,26 +34,45 @@ may-ruled known left between given rules read line (inr named) = inr (record { w
 
 -- the rules that were read
 read_so : (g : Over) (c : After-with_rules-ruled g) → AreRules (g.F.Open.holds c.args.files.now) (said c.args.given).rules (g.R.Read.remaining c.args.input.now) (g.R.Read.remaining c.read_globs.new.input) (rules_said c.in-Ok.all.items)
-read_so g c = rules_read _ _ _ _ _ _ _ _ (ap rules_said c.as_slice-rules.ensures.value) (ap listed_bytes c.as_slice.ensures.value) c.in-Some.ensures.texts c.in-Ok.ensures.expanded
+read_so g c =
+    rules_read (g.F.Open.holds c.args.files.now) (said c.args.given).rules (rules_said c.as_slice-rules.result.now) (rules_said c.in-Ok.all.items) (listed_bytes c.in-Some.texts.items) (listed_bytes c.as_slice.result.now)
+    (g.R.Read.remaining c.args.input.now) (g.R.Read.remaining c.read_globs.new.input)
+    (ap rules_said c.as_slice-rules.ensures.value) (ap listed_bytes c.as_slice.ensures.value) c.in-Some.ensures.texts c.in-Ok.ensures.expanded
 
 pub returns-then-lacks_pattern-clause-told : goal.returns-then-lacks_pattern-clause-told
 returns-then-lacks_pattern-clause-told g c = λ by.
-    status-some g.E.Sink _ _ _ _ _ (some-one g.E.Sink _ _ _ (concat (wrong_parts NoPattern)) (inl (inr (NoPattern, refl))) c.tell_wrong.ensures.told)
+    let given = said c.args.given in
+    let May = MaySaid (known_by g.F.Open g.F.Folders c.args.files.now) (g.R.Read.remaining c.args.input.now) (Some given) in
+    status-some g.E.Sink May given.flags.no_messages (shown_by given.flags) c.args.errors.now c.tell_wrong.new.errors
+    (some-one g.E.Sink May c.args.errors.now c.tell_wrong.new.errors (concat (wrong_parts NoPattern)) (inl (inr (NoPattern, refl))) c.tell_wrong.ensures.told)
 
 pub returns-in_default-clause-told : goal.returns-in_default-clause-told
 returns-in_default-clause-told g c = λ by.
-    let same : rules_said c.as_slice-rules.result.now ≡ (said c.args.given).rules = ap rules_said c.as_slice-rules.ensures.value in
-    status-some g.E.Sink _ _ _ _ _ (some-weaker g.E.Sink _ _ _ _ (may-rules _ _ (said c.args.given)) (rw same at (c.in_default.ensures.told refl)))
+    let given = said c.args.given in
+    let May = MaySaid _ _ (Some given) in
+    let same : rules_said c.as_slice-rules.result.now ≡ given.rules = ap rules_said c.as_slice-rules.ensures.value in
+    status-some g.E.Sink May given.flags.no_messages (shown_by given.flags) c.args.errors.now c.read_globs.new.errors
+    (some-weaker g.E.Sink (IsMessage (rule_files given.rules)) May c.args.errors.now c.read_globs.new.errors (may-rules _ _ given)
+    (subst (λ (l : List RuleSaid). TellsSome g.E.Sink (IsMessage (rule_files l)) c.args.errors.now c.read_globs.new.errors) same (c.in_default.ensures.told refl)))
 
 pub returns-in_default-expanded-clause-told : goal.returns-in_default-expanded-clause-told
 returns-in_default-expanded-clause-told g c = λ by.
-    rw (sym (c.in-Some.ensures.silent refl)) (status-some g.E.Sink _ _ _ _ _ (some-weaker g.E.Sink _ _ _ _ (λ line is. inl (inl is)) (c.tell_memory.ensures.told (names_said (Some (said c.args.given))))))
+    let given = said c.args.given in
+    let May = MaySaid (known_by g.F.Open g.F.Folders c.args.files.now) (g.R.Read.remaining c.args.input.now) (Some given) in
+    let names = names_said (Some given) in
+    subst (λ (e : Errors g.row.E.Denot). TellsStatus g.E.Sink May given.flags.no_messages (shown_by given.flags) 2 e c.tell_memory.new.errors) (c.in-Some.ensures.silent refl)
+    (status-some g.E.Sink May given.flags.no_messages (shown_by given.flags) c.read_globs.new.errors c.tell_memory.new.errors
+    (some-weaker g.E.Sink (IsMessage names) May c.read_globs.new.errors c.tell_memory.new.errors (λ line is. inl (inl is)) (c.tell_memory.ensures.told names)))
 
 pub returns-in_default-clause-told_marks : goal.returns-in_default-clause-told_marks
-returns-in_default-clause-told_marks g c = λ by. status-some g.E.Sink _ _ _ _ _ (some-told g.E.Sink _ _ _ (c.in_default.ensures.told refl))
+returns-in_default-clause-told_marks g c = λ by.
+    status-some g.E.Sink IsMarkTold c.args.given.flags.no_messages Nothing c.args.errors.now c.read_globs.new.errors
+    (some-told g.E.Sink (rule_files (rules_said c.as_slice-rules.result.now)) c.args.errors.now c.read_globs.new.errors (c.in_default.ensures.told refl))
 
 pub returns-in_default-expanded-clause-told_marks : goal.returns-in_default-expanded-clause-told_marks
-returns-in_default-expanded-clause-told_marks g c = λ by. rw (sym (c.in-Some.ensures.silent refl)) (status-some g.E.Sink _ _ _ _ _ (some-told g.E.Sink [] _ _ (c.tell_memory.ensures.told [])))
+returns-in_default-expanded-clause-told_marks g c = λ by.
+    subst (λ (e : Errors g.row.E.Denot). TellsStatus g.E.Sink IsMarkTold c.args.given.flags.no_messages Nothing 2 e c.tell_memory.new.errors) (c.in-Some.ensures.silent refl)
+    (status-some g.E.Sink IsMarkTold c.args.given.flags.no_messages Nothing c.read_globs.new.errors c.tell_memory.new.errors (some-told g.E.Sink [] c.read_globs.new.errors c.tell_memory.new.errors (c.tell_memory.ensures.told [])))
 
 -- by rules lines are marked
 pub returns-then-by_rules-clause-marks : goal.returns-then-by_rules-clause-marks
@@ -59,7 +80,7 @@ returns-then-by_rules-clause-marks g c = λ by low. record {
   what = rules_said c.in-Ok.all.items;
   between = g.R.Read.remaining c.read_globs.new.input;
   read = read_so g (goal.at.returns-then-by_rules-clause-marks g c).After-with_rules-ruled;
-  does = rw c.with_rules-ruled.ensures.ruled at (c.mark_asked.ensures.searches low);
+  does = subst (λ (s : Said). MarksAsked (known_by g.F.Open g.F.Folders c.args.files.now) c.args.screen.now s (g.R.Read.remaining c.read_globs.new.input) (g.W.Sink.taken c.args.output.now) (g.W.Sink.taken c.mark_asked.new.output) c.mark_asked.result) c.with_rules-ruled.ensures.ruled (c.mark_asked.ensures.searches low);
 }
 
 pub returns-then-by_rules-clause-begins_marks : goal.returns-then-by_rules-clause-begins_marks
@@ -67,7 +88,7 @@ returns-then-by_rules-clause-begins_marks g c = λ by. inr (record {
   what = rules_said c.in-Ok.all.items;
   between = g.R.Read.remaining c.read_globs.new.input;
   read = read_so g (goal.at.returns-then-by_rules-clause-begins_marks g c).After-with_rules-ruled;
-  does = rw c.with_rules-ruled.ensures.ruled at c.mark_asked.ensures.begins;
+  does = subst (λ (s : Said). MayBeginAsked (known_by g.F.Open g.F.Folders c.args.files.now) c.args.screen.now s (g.R.Read.remaining c.read_globs.new.input) (g.W.Sink.taken c.args.output.now) (g.W.Sink.taken c.mark_asked.new.output)) c.with_rules-ruled.ensures.ruled c.mark_asked.ensures.begins;
 })
 
 -- and else what was said is searched for
@@ -76,7 +97,8 @@ returns-clause-searches g c = λ by low. record {
   what = rules_said c.in-Ok.all.items;
   between = g.R.Read.remaining c.read_globs.new.input;
   read = read_so g (goal.at.returns-clause-searches g c).After-with_rules-ruled;
-  does = rw c.with_rules-ruled.ensures.ruled at (c.search_asked.ensures.searches low);
+  does = subst (λ (s : Said). SearchesSaid (known_by g.F.Open g.F.Folders c.args.files.now) c.args.screen.now s (g.R.Read.remaining c.read_globs.new.input) (g.R.Read.remaining c.search_asked.new.input) (g.W.Sink.taken c.args.output.now) (g.W.Sink.taken c.search_asked.new.output) c.search_asked.result)
+      c.with_rules-ruled.ensures.ruled (c.search_asked.ensures.searches low);
 }
 
 pub returns-clause-begins : goal.returns-clause-begins
@@ -84,11 +106,17 @@ returns-clause-begins g c = λ by. inr (record {
   what = rules_said c.in-Ok.all.items;
   between = g.R.Read.remaining c.read_globs.new.input;
   read = read_so g (goal.at.returns-clause-begins g c).After-with_rules-ruled;
-  does = rw c.with_rules-ruled.ensures.ruled at c.search_asked.ensures.begins;
+  does = subst (λ (s : Said). BeginsSaid (known_by g.F.Open g.F.Folders c.args.files.now) c.args.screen.now s (g.R.Read.remaining c.read_globs.new.input) (g.W.Sink.taken c.args.output.now) (g.W.Sink.taken c.search_asked.new.output))
+      c.with_rules-ruled.ensures.ruled c.search_asked.ensures.begins;
 })
 
 pub returns-clause-told : goal.returns-clause-told
 returns-clause-told g c = λ by.
+    let given = said c.args.given in
     let known = known_by g.F.Open g.F.Folders c.args.files.now in
-    let may = may-ruled known (g.R.Read.remaining c.args.input.now) _ (said c.args.given) (rules_said c.in-Ok.all.items) (read_so g (goal.at.returns-clause-told g c).After-with_rules-ruled) in
-    rw (sym (c.in-Some.ensures.silent refl)) (status-weaker g.E.Sink _ _ _ _ _ _ _ may (rw c.with_rules-ruled.ensures.ruled at c.search_asked.ensures.told))
+    let rules = rules_said c.in-Ok.all.items in
+    let may = may-ruled known (g.R.Read.remaining c.args.input.now) (g.R.Read.remaining c.read_globs.new.input) given rules (read_so g (goal.at.returns-clause-told g c).After-with_rules-ruled) in
+    subst (λ (e : Errors g.row.E.Denot). TellsStatus g.E.Sink (MaySaid known (g.R.Read.remaining c.args.input.now) (Some given)) given.flags.no_messages (shown_by given.flags) c.search_asked.result e c.search_asked.new.errors) (c.in-Some.ensures.silent refl)
+    (status-weaker g.E.Sink (MaySay known.tree (ruled given rules) (sources_by given.sources given.operands) (names_by given.sources given.operands)) (MaySaid known (g.R.Read.remaining c.args.input.now) (Some given)) given.flags.no_messages (shown_by given.flags)
+    c.search_asked.result c.read_globs.new.errors c.search_asked.new.errors may
+    (subst (λ (s : Said). TellsOfSaid g.E.Sink known.tree s c.search_asked.result c.read_globs.new.errors c.search_asked.new.errors) c.with_rules-ruled.ensures.ruled c.search_asked.ensures.told))
