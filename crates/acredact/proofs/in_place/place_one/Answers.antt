@@ -29,7 +29,8 @@ returns-in-Ok g c =
       outcome = λ p of.
           let does = run.ensures.done p of in
           let files = does.outcome in
-          place_settled g.O.File.Write g.E.Sink g.O.Outputs _ c.args.name.now run.result c.settle.result c.args.outputs.now c.make.new.self c.settle.new.outputs c.args.streams.now run.new.streams c.settle.new.streams
+          let work = work_of g.F.Folder c.args.job.now (redactor_of c.args.job.now p) in
+          place_settled g.O.File.Write g.E.Sink g.O.Outputs work c.args.name.now run.result c.settle.result c.args.outputs.now c.make.new.self c.settle.new.outputs c.args.streams.now run.new.streams c.settle.new.streams
           c.args.counts.now run.new.counts c.args.volume.now run.new.volume _ (told_of_one g.O.File.Write g.E.Sink _ c.args.name.now refl run.result _ _ files)
           (λ all puts. (
             (
@@ -48,7 +49,7 @@ returns-in-Ok g c =
               all_redacted g.O.File.Write g.E.Sink _ run.result _ _ files all,
             ),
             files.quiet all,
-            one_counts (work_of g.F.Folder c.args.job.now (redactor_of c.args.job.now p)) c.args.name.now _ _ _ _ (does.counted all),
+            one_counts work c.args.name.now _ _ _ _ (does.counted all),
             does.read all,
           ))
           c.in-Ok.ensures.made c.settle.ensures.input c.settle.ensures.settled;

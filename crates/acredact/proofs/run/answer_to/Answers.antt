@@ -11,7 +11,7 @@ use Rattle.acredact.proofs.Calls.{call_refused, tells_same}
 use Rattle.acredact.proofs.Checks.{check_refused, says_failed, status_ended}
 use Rattle.acredact.proofs.Given.{memory_alone, same_given}
 use Rattle.acredact.proofs.Statuses.{bound_by, flushed_by, one_by, status_failed, tells_one}
-use Rattle.acredact.proofs.RuledCalls.{ruled_early, ruled_failed}
+use Rattle.acredact.proofs.RuledCalls.{outcome_early, ruled_failed}
 use Rattle.acredact.proofs.run.answer_to.Goals as goal
 
 pub returns-in-Ok : goal.returns-in-Ok
@@ -54,7 +54,7 @@ returns-in-Err g c =
               says = status_ended g.E.Sink call left left old failure old c.report.new.errors told.0 (check_refused g.E.Sink call left left old failure (inl (inl (memory given right)))) told.1 told.2;
               unwritten = refl;
             };
-            ruled = λ asks. ruled_failed g.E.Sink call (Plain failure) told.0 _ _ _ _ _ _ _ (ruled_early g.E.Sink call (Plain failure) _ _ _ _ _ (tells_same g.E.Sink (IsRuledTold call) _ _ refl)) told.1 told.2;
+            ruled = λ asks. ruled_failed g.E.Sink call (Plain failure) told.0 _ _ _ _ _ _ _ (outcome_early g.E.Sink call (inl (Keeps-refl _)) (tells_same g.E.Sink (IsRuledTold call) _ _ refl)) told.1 told.2;
             ruled_check = λ asks. record {
               says = says_failed _ _ _ _ (tells_one g.E.Sink (IsRuledTold call) _ _ told.0 (inr (inl (Plain failure, told.1))) told.2);
               begins = inl (Keeps-refl _);
