@@ -107,7 +107,7 @@ fn json_with_letters(rt: HostRuntime) {
 fn xml_by_each_encoder(rt: HostRuntime) {
     let text = shown(rt.alloc(), xml_forms(rt.alloc(), b"<\"&'>")).expect(&rt, "memory");
     let row: &[u8] =
-        b"&lt;\"&amp;'&gt; &lt;&quot;&amp;&#39;&gt; &lt;&quot;&amp;&apos;&gt; &lt;&#34;&amp;&#39;&gt; &lt;&quot;&amp;&#x27;&gt; \
+        b"&lt;\"&amp;'&gt; &lt;&quot;&amp;&#39;&gt; &lt;&quot;&amp;&apos;&gt; &lt;&quot;&amp;'&gt; &lt;&quot;&amp;&#039;&gt; &lt;&#34;&amp;&#39;&gt; &lt;&quot;&amp;&#x27;&gt; \
           &#60;&#34;&#38;&#39;&#62; &#x3C;&#x22;&#x26;&#x27;&#x3E; &#x3c;&#x22;&#x26;&#x27;&#x3e; ";
     assert_eq!(rt; text.as_slice(), row);
 }
@@ -115,7 +115,17 @@ fn xml_by_each_encoder(rt: HostRuntime) {
 #[test]
 fn shell_by_each_way(rt: HostRuntime) {
     let text = shown(rt.alloc(), shell_forms(rt.alloc(), b"a'b\"$ \\")).expect(&rt, "memory");
-    let row: &[u8] = b"a'\\''b\"$ \\ a'\"'\"'b\"$ \\ a'b\\\"\\$ \\\\ a\\'b\\\"\\$\\ \\\\ ";
+    let row: &[u8] =
+        b"a'\\''b\"$ \\ a'\"'\"'b\"$ \\ a'b\\\"\\$ \\\\ a\\'b\\\"\\$\\ \\\\ a\\'b\"$ \\\\ ";
+    assert_eq!(rt; text.as_slice(), row);
+}
+
+#[test]
+fn shell_as_bash_writes(rt: HostRuntime) {
+    let secret = b"a,~\x01\x07\n\x1b\x7f";
+    let text = shown(rt.alloc(), shell_forms(rt.alloc(), secret)).expect(&rt, "memory");
+    let row: &[u8] = b"a,~\x01\x07\n\x1b\x7f a,\\~\\\x01\\\x07\\\n\\\x1b\\\x7f \
+          a\\,~\x01\x07\n\x1b\x7f a,~\\001\\a\\n\\E\\177 ";
     assert_eq!(rt; text.as_slice(), row);
 }
 
