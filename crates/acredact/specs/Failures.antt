@@ -8,7 +8,7 @@ use Rattle.acredact.specs.LineFaults.{line_fault_text}
 use Rattle.acredact.specs.Messages.{about, alone, line_about, message_about, numbered_line, told_line, unclean_line}
 use Rattle.acredact.specs.Mistakes.{mistake_line}
 use Rattle.acredact.specs.declared.failure.Failure.{Failure}
-use Rattle.acredact.specs.declared.failure.Failure.TheVariants.{NotText, Arguments, Pattern, Unread, Empty, NoValue, ShortKey, Line, Short, Unclean, Counts, Other}
+use Rattle.acredact.specs.declared.failure.Failure.TheVariants.{NotText, Arguments, Pattern, Unread, Empty, NoValue, ValueForName, ShortKey, Line, Short, Unclean, Counts, Other}
 use Rattle.acredact.specs.declared.patterns.BadLine.{BadLine}
 
 -- the output failed, or took nothing
@@ -39,6 +39,7 @@ IsFailureLine (Pattern fault) line = line ≡ told_line (about (codes "-e") (lin
 IsFailureLine (Unread name reason) line = line ≡ told_line (about name.now (reason_text reason))
 IsFailureLine (Empty name) line = line ≡ told_line (about name.now (codes "no pattern: give --allow-empty to allow it"))
 IsFailureLine (NoValue name) line = line ≡ told_line (about name.now (codes "no value: give --allow-empty to pass it over"))
+IsFailureLine ValueForName line = line ≡ told_line (alone (codes "option '--env' takes the name of a variable, and this is a value"))
 IsFailureLine (ShortKey name) line = line ≡ told_line (about name.now (codes "key of less than 16 bytes"))
 IsFailureLine (Line name bad) line = line ≡ told_line (bad_line name.now bad)
 IsFailureLine (Short number) line = line ≡ short_line number

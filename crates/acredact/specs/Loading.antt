@@ -12,11 +12,11 @@ use Rattle.acredact.specs.Named.{all_named}
 use Rattle.acredact.specs.Parts.{GivesPattern}
 use Rattle.acredact.specs.Reads.{OfName, ReadsText}
 use Rattle.acredact.specs.Tables.{HaveLines, HaveNoEmpty, HoldsBy, Secret, lines_in, secrets_of, stripped_by}
-use Rattle.acredact.specs.Values.{GiveEach, are_refused, first_fault, value_in_line, value_of_entry, whole_in}
+use Rattle.acredact.specs.Values.{GiveEach, are_refused, first_fault, is_some_value, value_in_line, value_of_entry, whole_in}
 use Rattle.acredact.specs.declared.options.Word.{Word}
 use Rattle.acredact.specs.declared.options.Word.TheVariants.{Env, EnvFile, Forms, IgnoreCase, Pattern, Patterns, Pseudonym, Table, Whole}
 use Rattle.acredact.specs.declared.failure.Failure.{Failure}
-use Rattle.acredact.specs.declared.failure.Failure.TheVariants.{Empty, Line, NoValue, Other, Pattern as BadPattern, ShortKey, Unread}
+use Rattle.acredact.specs.declared.failure.Failure.TheVariants.{Empty, Line, NoValue, Other, Pattern as BadPattern, ShortKey, Unread, ValueForName}
 use Rattle.acredact.specs.declared.folder.Folder.{Ghosts as Folders}
 use Rattle.acredact.specs.declared.load.Listed.{Listed}
 use Rattle.acredact.specs.declared.load.Listed.TheVariants.{Plain, Rows, Variables, Whole as WholeFile}
@@ -232,10 +232,18 @@ IsListedFailure rules Rows file text failure = IsTextFailure rules true file tex
 IsListedFailure rules Variables file text failure = IsVariablesFailure rules file text failure
 IsListedFailure rules WholeFile file text failure = IsWholeFailure rules file text failure
 
+-- no variable that has a value is called so, and a value of some variable is: it is not told
+abbrev pub IsValueForName : Rules → List (List ℕ) → List ℕ → Type 0
+IsValueForName rules entries name =
+    (are_refused rules.allow_empty (filter_map (value_of_entry name) entries) ≡ true) × (is_some_value entries name ≡ true)
+
 -- nor do the values of the environment
 abbrev pub IsEnvironmentFailure : Reading → List ℕ → Failure → Type 0
 IsEnvironmentFailure reading name failure =
-    ((entries : List (List ℕ)) × reading.environment entries × IsValuesFailure reading.rules name (filter_map (value_of_entry name) entries) failure) ⊎ (failure ≡ Other NoMemory)
+    ((entries : List (List ℕ)) × reading.environment entries
+    × (((failure ≡ ValueForName) × IsValueForName reading.rules entries name)
+    ⊎ ((IsValueForName reading.rules entries name → ⊥) × IsValuesFailure reading.rules name (filter_map (value_of_entry name) entries) failure)))
+    ⊎ (failure ≡ Other NoMemory)
 
 -- the text is that of the list, where the folder tells it
 abbrev pub IsListText : Reading → List ℕ → List ℕ → Type 0

@@ -41,6 +41,8 @@ pub enum Failure<'a> {
     Empty(&'a str),
     /// A variable has no value, or none that is not empty, or a file holds no such one.
     NoValue(&'a str),
+    /// A value of a variable stands where its name should.
+    ValueForName,
     /// The file of a key has too few bytes.
     ShortKey(&'a str),
     /// A line of a file of patterns or of a table is wrong.
@@ -163,6 +165,10 @@ pub fn tell_failure<E: Sink>(errors: &mut Errors<'_, E>, failure: &Failure<'_>)
             errors,
             name,
             "no value: give --allow-empty to pass it over",
+        ),
+        Failure::ValueForName => tell_alone(
+            errors,
+            "option '--env' takes the name of a variable, and this is a value",
         ),
         Failure::ShortKey(name) => tell_about(errors, name, "key of less than 16 bytes"),
         Failure::Line(name, line) => tell_line(errors, name, *line),

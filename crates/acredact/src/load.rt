@@ -24,7 +24,9 @@ use crate::forms::add_forms;
 use crate::options::{Item, Word, covers, has, last_value};
 use crate::parts::add_parts;
 use crate::patterns::{BadLine, Form, LineFault, Place, Rule, add_line, add_lines, mark_of};
-use crate::values::{are_refused, first_fault, values_in_text, values_of_entries, whole_in};
+use crate::values::{
+    are_refused, first_fault, is_some_value, values_in_text, values_of_entries, whole_in,
+};
 use chromesquid::{FromRead, Source};
 use std::alloc::Global;
 use std::io::Read;
@@ -236,8 +238,13 @@ fn add_environment<'a, F: Folder>(
     ensures fails { IfErr result (IsEnvironmentFailure (reading_of_lists F.Folder lists.now) name.now) }
 {
     let entries = lists.folder.entries(lists.alloc)?;
-    let values = values_of_entries(lists.alloc, entries.as_slice(), name.as_bytes())?;
-    add_values(lists, rules, name, values.as_slice(), list)
+    let entries = entries.as_slice();
+    let values = values_of_entries(lists.alloc, entries, name.as_bytes())?;
+    let values = values.as_slice();
+    if are_refused(lists.allow_empty, values) && is_some_value(entries, name.as_bytes()) {
+        return Err(Failure::ValueForName);
+    }
+    add_values(lists, rules, name, values, list)
 }
 
 /// Adds the rules of some values, of what has this name; or refuses them, where there is none, or an empty one.
