@@ -4,7 +4,7 @@ use Rattle.std.specs.Char.{is_ascii_alphanumeric}
 use Rattle.std.specs.List.{flat_map, list_any}
 use Rattle.secret_forms.specs.Law.{HidesEach}
 use Rattle.secret_forms.specs.declared.bytewise.Kept.{Kept}
-use Rattle.secret_forms.specs.declared.bytewise.Kept.TheVariants.{Nothing, Unreserved, Slash, Component, Uri}
+use Rattle.secret_forms.specs.declared.bytewise.Kept.TheVariants.{Nothing, Unreserved, Slash, Component, Uri, Form, Fewest, Dotnet, Query, Path}
 use Rattle.secret_forms.specs.declared.bytewise.Space.{Space}
 use Rattle.secret_forms.specs.declared.bytewise.Space.TheVariants.{Encoded, Plus}
 use Rattle.secret_forms.specs.declared.bytewise.Digits.{Digits}
@@ -13,9 +13,9 @@ use Rattle.secret_forms.specs.declared.bytewise.Marks.{Marks}
 use Rattle.secret_forms.specs.declared.bytewise.Marks.TheVariants.{Kept as KeptMarks, Slash as SlashMark, Markup, SlashAndMarkup}
 use Rattle.secret_forms.specs.declared.bytewise.Json.{Json}
 use Rattle.secret_forms.specs.declared.bytewise.Quotes.{Quotes}
-use Rattle.secret_forms.specs.declared.bytewise.Quotes.TheVariants.{Kept as KeptQuotes, Mixed, Named, DoubleAlone, Padded, Decimal, Hexadecimal, DecimalMarks, HexadecimalMarks}
+use Rattle.secret_forms.specs.declared.bytewise.Quotes.TheVariants.{Kept as KeptQuotes, Mixed, Named, DoubleAlone, Canonical, Padded, Decimal, Hexadecimal, DecimalMarks, HexadecimalMarks}
 use Rattle.secret_forms.specs.declared.bytewise.Quoting.{Quoting}
-use Rattle.secret_forms.specs.declared.bytewise.Quoting.TheVariants.{Single, SingleByDouble, Double, Backslashes, BashBackslashes, Dollar}
+use Rattle.secret_forms.specs.declared.bytewise.Quoting.TheVariants.{Single, SingleByDouble, Double, Backslashes, BashBackslashes, Dollar, DollarAscii}
 use Rattle.secret_forms.specs.declared.bytewise.Spelling.{Spelling}
 use Rattle.secret_forms.specs.declared.bytewise.Spelling.TheVariants.{Url, Json as JsonString, Xml, Shell}
 
@@ -26,14 +26,16 @@ kept_marks Unreserved = codes "-._~"
 kept_marks Slash = codes "-._~/"
 kept_marks Component = codes "-._~!'()*"
 kept_marks Uri = codes "-._~!'()*;,/?:@&=+$#"
+kept_marks Form = codes "-._*"
+kept_marks Fewest = codes "-._"
+kept_marks Dotnet = codes "-._!*()"
+kept_marks Query = codes "-._~!()*;,/?:@&=+$%[\\]^`{|}"
+kept_marks Path = codes "-._~!'()*;,/:@&=+$%[\\]^|"
 
 -- whether letters and digits stand in a URL as they are
 abbrev pub keeps_letters : Kept → Bool
 keeps_letters Nothing = false
-keeps_letters Unreserved = true
-keeps_letters Slash = true
-keeps_letters Component = true
-keeps_letters Uri = true
+keeps_letters _ = true
 
 -- whether a byte stands in a URL as it is
 abbrev pub is_unencoded : Kept → ℕ → Bool
@@ -105,6 +107,7 @@ double_quote KeptQuotes = 34 ∷ []
 double_quote Mixed = codes "&quot;"
 double_quote Named = codes "&quot;"
 double_quote DoubleAlone = codes "&quot;"
+double_quote Canonical = codes "&quot;"
 double_quote Padded = codes "&quot;"
 double_quote Decimal = codes "&#34;"
 double_quote Hexadecimal = codes "&quot;"
@@ -117,6 +120,7 @@ single_quote KeptQuotes = 39 ∷ []
 single_quote Mixed = codes "&#39;"
 single_quote Named = codes "&apos;"
 single_quote DoubleAlone = 39 ∷ []
+single_quote Canonical = 39 ∷ []
 single_quote Padded = codes "&#039;"
 single_quote Decimal = codes "&#39;"
 single_quote Hexadecimal = codes "&#x27;"
@@ -129,6 +133,7 @@ ampersand KeptQuotes = codes "&amp;"
 ampersand Mixed = codes "&amp;"
 ampersand Named = codes "&amp;"
 ampersand DoubleAlone = codes "&amp;"
+ampersand Canonical = codes "&amp;"
 ampersand Padded = codes "&amp;"
 ampersand Decimal = codes "&amp;"
 ampersand Hexadecimal = codes "&amp;"
@@ -141,6 +146,7 @@ less_than KeptQuotes = codes "&lt;"
 less_than Mixed = codes "&lt;"
 less_than Named = codes "&lt;"
 less_than DoubleAlone = codes "&lt;"
+less_than Canonical = codes "&lt;"
 less_than Padded = codes "&lt;"
 less_than Decimal = codes "&lt;"
 less_than Hexadecimal = codes "&lt;"
@@ -154,6 +160,7 @@ greater_than KeptQuotes = codes "&gt;"
 greater_than Mixed = codes "&gt;"
 greater_than Named = codes "&gt;"
 greater_than DoubleAlone = codes "&gt;"
+greater_than Canonical = 62 ∷ []
 greater_than Padded = codes "&gt;"
 greater_than Decimal = codes "&gt;"
 greater_than Hexadecimal = codes "&gt;"
@@ -179,19 +186,22 @@ is_bash_mark byte = list_any (λ one. one == byte) (codes " !\"$&'()*,;<>?[\\]^`
 abbrev pub is_control : ℕ → Bool
 is_control byte = nat_lt byte 32 || byte == 127
 
--- a byte within `$'` and `'` for which there is no letter: a control character by three octal digits
-unfoldable pub octal_byte : ℕ → List ℕ
-octal_byte byte =
-    if is_control byte then 92 ∷ (48 + byte / 64) ∷ (48 + byte / 8 % 8) ∷ (48 + byte % 8) ∷ []
-    else byte ∷ []
+-- whether a byte is one of ASCII, and no control character
+abbrev pub is_printable : ℕ → Bool
+is_printable byte = not (is_control byte) && nat_lt byte 128
+
+-- a byte by its number, a backslash and three octal digits, unless it stands as it is
+unfoldable pub octal_unless : Bool → ℕ → List ℕ
+octal_unless is_kept byte =
+    if is_kept then byte ∷ [] else 92 ∷ (48 + byte / 64) ∷ (48 + byte / 8 % 8) ∷ (48 + byte % 8) ∷ []
 
 -- a byte within `$'` and `'`: `\'`, `\\`, `\a`, `\b`, `\t`, `\n`, `\v`, `\f`, `\r` and `\E`, by its number, or as it is
-unfoldable pub dollar_byte : ℕ → List ℕ
-dollar_byte byte =
+unfoldable pub dollar_byte : Bool → ℕ → List ℕ
+dollar_byte is_kept byte =
     if byte == 39 then 92 ∷ 39 ∷ [] else if byte == 92 then 92 ∷ 92 ∷ [] else if byte == 7 then 92 ∷ 97 ∷ []
     else if byte == 8 then 92 ∷ 98 ∷ [] else if byte == 9 then 92 ∷ 116 ∷ [] else if byte == 10 then 92 ∷ 110 ∷ []
     else if byte == 11 then 92 ∷ 118 ∷ [] else if byte == 12 then 92 ∷ 102 ∷ [] else if byte == 13 then 92 ∷ 114 ∷ []
-    else if byte == 27 then 92 ∷ 69 ∷ [] else octal_byte byte
+    else if byte == 27 then 92 ∷ 69 ∷ [] else octal_unless is_kept byte
 
 -- a byte within single quotes, of which one is written so
 abbrev pub single_byte : List ℕ → ℕ → List ℕ
@@ -204,7 +214,8 @@ shell_byte SingleByDouble byte = single_byte (39 ∷ 34 ∷ 39 ∷ 34 ∷ 39 ∷
 shell_byte Double byte = escaped_unless (not (list_any (λ one. one == byte) (36 ∷ 96 ∷ 34 ∷ 92 ∷ []))) byte
 shell_byte Backslashes byte = escaped_unless (is_plain byte) byte
 shell_byte BashBackslashes byte = escaped_unless (not (is_bash_mark byte)) byte
-shell_byte Dollar byte = dollar_byte byte
+shell_byte Dollar byte = dollar_byte (not (is_control byte)) byte
+shell_byte DollarAscii byte = dollar_byte (is_printable byte) byte
 
 -- a byte as an encoder writes it
 abbrev pub spelled_byte : Spelling → ℕ → List ℕ
@@ -228,18 +239,20 @@ url_of kept = Url kept Encoded Upper ∷ Url kept Encoded Lower ∷ Url kept Plu
 -- the encoders of URLs
 abbrev pub url_spellings : List Spelling
 url_spellings =
-    url_of Unreserved ++ (url_of Slash ++ (url_of Component ++ (url_of Uri ++ (Url Nothing Encoded Upper ∷ Url Nothing Encoded Lower ∷ []))))
+    flat_map url_of (Unreserved ∷ Slash ∷ Component ∷ Uri ∷ Form ∷ Fewest ∷ Dotnet ∷ Query ∷ Path ∷ [])
+    ++ (Url Nothing Encoded Upper ∷ Url Nothing Encoded Lower ∷ [])
 
 -- the encoders of XML and HTML
 abbrev pub xml_spellings : List Spelling
 xml_spellings =
-    Xml KeptQuotes ∷ Xml Mixed ∷ Xml Named ∷ Xml DoubleAlone ∷ Xml Padded ∷ Xml Decimal ∷ Xml Hexadecimal
-    ∷ Xml DecimalMarks ∷ Xml (HexadecimalMarks Upper) ∷ Xml (HexadecimalMarks Lower) ∷ []
+    Xml KeptQuotes ∷ Xml Mixed ∷ Xml Named ∷ Xml DoubleAlone ∷ Xml Canonical ∷ Xml Padded ∷ Xml Decimal
+    ∷ Xml Hexadecimal ∷ Xml DecimalMarks ∷ Xml (HexadecimalMarks Upper) ∷ Xml (HexadecimalMarks Lower) ∷ []
 
 -- the ways to quote a shell's word
 abbrev pub shell_spellings : List Spelling
 shell_spellings =
-    Shell Single ∷ Shell SingleByDouble ∷ Shell Double ∷ Shell Backslashes ∷ Shell BashBackslashes ∷ Shell Dollar ∷ []
+    Shell Single ∷ Shell SingleByDouble ∷ Shell Double ∷ Shell Backslashes ∷ Shell BashBackslashes
+    ∷ Shell Dollar ∷ Shell DollarAscii ∷ []
 
 -- no character that belongs to the secret is outside the patterns
 abbrev pub HidesSpelled : List (List ℕ) → List ℕ → Spelling → Type 0

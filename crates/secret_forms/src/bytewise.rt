@@ -20,6 +20,16 @@ pub enum Kept {
     Component,
     /// What JavaScript leaves in a whole URL: these, `/` and `;,?:@&=+$#`.
     Uri,
+    /// What forms of HTML and Java leave: letters, digits, `*`, `-`, `.` and `_`.
+    Form,
+    /// What PHP leaves in a form: letters, digits, `-`, `.` and `_`.
+    Fewest,
+    /// What .NET leaves: these and `!*()`.
+    Dotnet,
+    /// What a browser leaves in the query of a URL: all marks but `"#<>'`.
+    Query,
+    /// What a browser leaves in the path of a URL: all marks but `"#<>?` and backquotes and braces.
+    Path,
 }
 
 /// How a URL's encoder writes a space.
@@ -51,6 +61,8 @@ pub enum Quotes {
     Named,
     /// `&quot;`, and a single quote as it is.
     DoubleAlone,
+    /// `&quot;`, and a single quote and `>` as they are.
+    Canonical,
     /// `&quot;` and `&#039;`.
     Padded,
     /// `&#34;` and `&#39;`.
@@ -78,6 +90,8 @@ pub enum Quoting {
     BashBackslashes,
     /// Within `$'` and `'`, with letters or octal digits for control characters.
     Dollar,
+    /// So in ASCII alone.
+    DollarAscii,
 }
 
 /// What JSON escapes beside quotes, backslashes and control characters.
@@ -125,6 +139,11 @@ fn kept_marks(kept: Kept) -> &'static [u8]
         Kept::Slash => b"-._~/",
         Kept::Component => b"-._~!'()*",
         Kept::Uri => b"-._~!'()*;,/?:@&=+$#",
+        Kept::Form => b"-._*",
+        Kept::Fewest => b"-._",
+        Kept::Dotnet => b"-._!*()",
+        Kept::Query => b"-._~!()*;,/?:@&=+$%[\\]^`{|}",
+        Kept::Path => b"-._~!'()*;,/:@&=+$%[\\]^|",
     }
 }
 
@@ -134,7 +153,7 @@ fn keeps_letters(kept: Kept) -> bool
 {
     match kept {
         Kept::Nothing => false,
-        Kept::Unreserved | Kept::Slash | Kept::Component | Kept::Uri => true,
+        _ => true,
     }
 }
 
@@ -261,6 +280,7 @@ fn double_quote(quotes: Quotes) -> &'static [u8]
         Quotes::Mixed
         | Quotes::Named
         | Quotes::DoubleAlone
+        | Quotes::Canonical
         | Quotes::Padded
         | Quotes::Hexadecimal => b"&quot;",
         Quotes::Decimal | Quotes::DecimalMarks => b"&#34;",
@@ -273,7 +293,7 @@ fn single_quote(quotes: Quotes) -> &'static [u8]
     ensures { result.now ≡ spec.single_quote quotes }
 {
     match quotes {
-        Quotes::Kept | Quotes::DoubleAlone => b"'",
+        Quotes::Kept | Quotes::DoubleAlone | Quotes::Canonical => b"'",
         Quotes::Padded => b"&#039;",
         Quotes::Mixed | Quotes::Decimal | Quotes::DecimalMarks => b"&#39;",
         Quotes::Named => b"&apos;",
@@ -312,6 +332,7 @@ fn greater_than(quotes: Quotes) -> &'static [u8]
         Quotes::DecimalMarks => b"&#62;",
         Quotes::HexadecimalMarks(Digits::Upper) => b"&#x3E;",
         Quotes::HexadecimalMarks(Digits::Lower) => b"&#x3e;",
+        Quotes::Canonical => b">",
         _ => b"&gt;",
     }
 }
@@ -361,24 +382,31 @@ fn is_control(byte: u8) -> bool
     byte < 32 || byte == 127
 }
 
-/// Writes a byte within `$'` and `'` for which there is no letter: a control character by its octal number.
-fn push_octal(out: &mut Vec<u8>, byte: u8) -> Result<(), AllocError>
-    ensures octal { Writes result out.old out.new (spec.octal_byte byte) }
+/// Whether a byte is one of ASCII, and no control character.
+fn is_printable(byte: u8) -> bool
+    ensures { result ≡ spec.is_printable byte }
 {
-    if is_control(byte) {
-        return out.extend_from_slice(&[
-            b'\\',
-            b'0' + byte / 64,
-            b'0' + byte / 8 % 8,
-            b'0' + byte % 8,
-        ]);
-    }
-    out.extend_from_slice(&[byte])
+    !is_control(byte) && byte < 128
 }
 
-/// Writes a byte within `$'` and `'`.
-fn push_dollar(out: &mut Vec<u8>, byte: u8) -> Result<(), AllocError>
-    ensures dollar { Writes result out.old out.new (spec.dollar_byte byte) }
+/// Writes a byte by its number, a backslash and three octal digits, unless it stands as it is.
+fn push_octal(out: &mut Vec<u8>, is_kept: bool, byte: u8) -> Result<(), AllocError>
+    ensures octal { Writes result out.old out.new (spec.octal_unless is_kept byte) }
+{
+    if is_kept {
+        return out.extend_from_slice(&[byte]);
+    }
+    out.extend_from_slice(&[
+        b'\\',
+        b'0' + byte / 64,
+        b'0' + byte / 8 % 8,
+        b'0' + byte % 8,
+    ])
+}
+
+/// Writes a byte within `$'` and `'`, where it stands as it is or not if there is no letter for it.
+fn push_dollar(out: &mut Vec<u8>, is_kept: bool, byte: u8) -> Result<(), AllocError>
+    ensures dollar { Writes result out.old out.new (spec.dollar_byte is_kept byte) }
 {
     match byte {
         b'\'' => out.extend_from_slice(b"\\'"),
@@ -391,7 +419,7 @@ fn push_dollar(out: &mut Vec<u8>, byte: u8) -> Result<(), AllocError>
         12 => out.extend_from_slice(b"\\f"),
         13 => out.extend_from_slice(b"\\r"),
         27 => out.extend_from_slice(b"\\E"),
-        _ => push_octal(out, byte),
+        _ => push_octal(out, is_kept, byte),
     }
 }
 
@@ -415,7 +443,8 @@ fn push_shell(out: &mut Vec<u8>, quoting: Quoting, byte: u8) -> Result<(), Alloc
         Quoting::Double => push_escaped(out, !b"$`\"\\".contains(&byte), byte),
         Quoting::Backslashes => push_escaped(out, is_plain(byte), byte),
         Quoting::BashBackslashes => push_escaped(out, !is_bash_mark(byte), byte),
-        Quoting::Dollar => push_dollar(out, byte),
+        Quoting::Dollar => push_dollar(out, !is_control(byte), byte),
+        Quoting::DollarAscii => push_dollar(out, is_printable(byte), byte),
     }
 }
 

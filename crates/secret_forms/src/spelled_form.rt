@@ -33,9 +33,9 @@ pub fn spelled_forms(
     Ok(patterns)
 }
 
-/// The encoders of URLs: four that leave some bytes, each with a space as any other byte and as `+`, and one that encodes each byte;
+/// The encoders of URLs: nine that leave some bytes, each with a space as any other byte and as `+`, and one that encodes each byte;
 /// with digits in both cases.
-pub(crate) fn url_encoders() -> [Spelling; 18]
+pub(crate) fn url_encoders() -> [Spelling; 38]
     ensures { result ≡ url_spellings }
 {
     let (encoded, plus) = (Space::Encoded, Space::Plus);
@@ -57,6 +57,26 @@ pub(crate) fn url_encoders() -> [Spelling; 18]
         Spelling::Url(Kept::Uri, encoded, lower),
         Spelling::Url(Kept::Uri, plus, upper),
         Spelling::Url(Kept::Uri, plus, lower),
+        Spelling::Url(Kept::Form, encoded, upper),
+        Spelling::Url(Kept::Form, encoded, lower),
+        Spelling::Url(Kept::Form, plus, upper),
+        Spelling::Url(Kept::Form, plus, lower),
+        Spelling::Url(Kept::Fewest, encoded, upper),
+        Spelling::Url(Kept::Fewest, encoded, lower),
+        Spelling::Url(Kept::Fewest, plus, upper),
+        Spelling::Url(Kept::Fewest, plus, lower),
+        Spelling::Url(Kept::Dotnet, encoded, upper),
+        Spelling::Url(Kept::Dotnet, encoded, lower),
+        Spelling::Url(Kept::Dotnet, plus, upper),
+        Spelling::Url(Kept::Dotnet, plus, lower),
+        Spelling::Url(Kept::Query, encoded, upper),
+        Spelling::Url(Kept::Query, encoded, lower),
+        Spelling::Url(Kept::Query, plus, upper),
+        Spelling::Url(Kept::Query, plus, lower),
+        Spelling::Url(Kept::Path, encoded, upper),
+        Spelling::Url(Kept::Path, encoded, lower),
+        Spelling::Url(Kept::Path, plus, upper),
+        Spelling::Url(Kept::Path, plus, lower),
         Spelling::Url(Kept::Nothing, encoded, upper),
         Spelling::Url(Kept::Nothing, encoded, lower),
     ]
@@ -73,7 +93,7 @@ pub fn url_forms(alloc: Global, secret: &[u8]) -> Result<Vec<Vec<u8>>, FormError
 }
 
 /// The encoders of XML and HTML: with quotes as they are, and as named, decimal and hexadecimal references; and with each reference by its number.
-pub(crate) fn xml_encoders() -> [Spelling; 10]
+pub(crate) fn xml_encoders() -> [Spelling; 11]
     ensures { result ≡ xml_spellings }
 {
     [
@@ -81,6 +101,7 @@ pub(crate) fn xml_encoders() -> [Spelling; 10]
         Spelling::Xml(Quotes::Mixed),
         Spelling::Xml(Quotes::Named),
         Spelling::Xml(Quotes::DoubleAlone),
+        Spelling::Xml(Quotes::Canonical),
         Spelling::Xml(Quotes::Padded),
         Spelling::Xml(Quotes::Decimal),
         Spelling::Xml(Quotes::Hexadecimal),
@@ -101,7 +122,7 @@ pub fn xml_forms(alloc: Global, secret: &[u8]) -> Result<Vec<Vec<u8>>, FormError
 }
 
 /// The ways to quote a shell's word.
-pub(crate) fn shell_encoders() -> [Spelling; 6]
+pub(crate) fn shell_encoders() -> [Spelling; 7]
     ensures { result ≡ shell_spellings }
 {
     [
@@ -111,6 +132,7 @@ pub(crate) fn shell_encoders() -> [Spelling; 6]
         Spelling::Shell(Quoting::Backslashes),
         Spelling::Shell(Quoting::BashBackslashes),
         Spelling::Shell(Quoting::Dollar),
+        Spelling::Shell(Quoting::DollarAscii),
     ]
 }
 

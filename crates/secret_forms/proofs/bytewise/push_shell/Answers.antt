@@ -26,3 +26,7 @@ returns-in-BashBackslashes c = search rules
 pub returns-in-Dollar : goal.returns-in-Dollar
 unfolding shell_byte
 returns-in-Dollar c = search rules
+
+pub returns-in-DollarAscii : goal.returns-in-DollarAscii
+unfolding shell_byte
+returns-in-DollarAscii c = search rules
