@@ -36,13 +36,13 @@ abbrev pub value_of_entry : (name entry : List ℕ) → Option (List ℕ)
 value_of_entry name entry = option_and_then (λ (parts : List ℕ × List ℕ). value_if (is_named name parts.0) parts.1) (split_first 61 entry)
 
 -- whether a text is this value
-abbrev pub is_text : List ℕ → Option (List ℕ) → Bool
-is_text text None = false
-is_text text (Some value) = bytes_eq value text
+abbrev pub is_value_text : List ℕ → Option (List ℕ) → Bool
+is_value_text text None = false
+is_value_text text (Some value) = bytes_eq value text
 
 -- whether a text is the value of some entry of the environment
 abbrev pub is_some_value : List (List ℕ) → List ℕ → Bool
-is_some_value entries text = list_any (λ entry. is_text text (behind_equals entry)) entries
+is_some_value entries text = list_any (λ entry. is_value_text text (behind_equals entry)) entries
 
 -- a value more, if there is one
 abbrev pub values_with : List (List ℕ) → Option (List ℕ) → List (List ℕ)

@@ -7,7 +7,7 @@ ghost use Rattle.aho_core.specs.Replacement.{pieces_of};
 ghost use Rattle.aho_cover.specs.Words.{is_word_part};
 ghost use Rattle.acredact.specs.Reads.{bytes_of_names};
 ghost use Rattle.acredact.specs.Tables.{lines_in, stripped_by};
-ghost use Rattle.acredact.specs.Values.{are_refused, bad_or, behind_equals, fault_of_line, fault_of_value, first_fault, is_named, is_no_variable, is_some_value, is_text, is_variable_name, lacks_value, lent, no_bytes, value_if, value_in_line, value_of_entry, values_with, whole_in};
+ghost use Rattle.acredact.specs.Values.{are_refused, bad_or, behind_equals, fault_of_line, fault_of_value, first_fault, is_named, is_no_variable, is_some_value, is_value_text, is_variable_name, lacks_value, lent, no_bytes, value_if, value_in_line, value_of_entry, values_with, whole_in};
 
 use crate::patterns::{
     BadLine, Form, LineFault, ends_in_return, split_at, stripped_by, without_last,
@@ -96,7 +96,7 @@ pub fn is_some_value(entries: &[Vec<u8>], text: &[u8]) -> bool
 {
     let mut rest = entries;
     while !rest.is_empty() {
-        if is_text(text, behind_equals(rest[0].as_slice())) {
+        if is_value_text(text, behind_equals(rest[0].as_slice())) {
             return true;
         }
         rest = &rest[1..];
@@ -105,8 +105,8 @@ pub fn is_some_value(entries: &[Vec<u8>], text: &[u8]) -> bool
 }
 
 /// Whether a text is this value.
-fn is_text(text: &[u8], value: Option<&[u8]>) -> bool
-    ensures is { result ≡ is_text text.now (lent value.entry) }
+fn is_value_text(text: &[u8], value: Option<&[u8]>) -> bool
+    ensures is { result ≡ is_value_text text.now (lent value.entry) }
 {
     match value {
         Some(value) => value == text,

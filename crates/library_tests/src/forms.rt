@@ -57,8 +57,18 @@ fn url_by_each_encoder(rt: HostRuntime) {
     let row: &[u8] = b"\
         a%20b%2F%27%3F%FF a%20b%2f%27%3f%ff a+b%2F%27%3F%FF a+b%2f%27%3f%ff a%20b/%27%3F%FF \
         a%20b/%27%3f%ff a+b/%27%3F%FF a+b/%27%3f%ff a%20b%2F'%3F%FF a%20b%2f'%3f%ff a+b%2F'%3F%FF \
-        a+b%2f'%3f%ff a%20b/'?%FF a%20b/'?%ff a+b/'?%FF a+b/'?%ff %61%20%62%2F%27%3F%FF \
+        a+b%2f'%3f%ff a%20b/'?%FF a%20b/'?%ff a+b/'?%FF a+b/'?%ff a%20b/%27?%FF a%20b/%27?%ff a+b/%27?%FF \
+        a+b/%27?%ff a%20b/'%3F%FF a%20b/'%3f%ff a+b/'%3F%FF a+b/'%3f%ff %61%20%62%2F%27%3F%FF \
         %61%20%62%2f%27%3f%ff ";
+    assert_eq!(rt; text.as_slice(), row);
+}
+
+#[test]
+fn url_by_each_set_of_marks(rt: HostRuntime) {
+    let text = shown(rt.alloc(), url_forms(rt.alloc(), b"~(*)^")).expect(&rt, "memory");
+    let row: &[u8] = b"\
+        ~%28%2A%29%5E ~%28%2a%29%5e ~(*)%5E ~(*)%5e %7E%28*%29%5E %7e%28*%29%5e %7E%28%2A%29%5E \
+        %7e%28%2a%29%5e %7E(*)%5E %7e(*)%5e ~(*)^ ";
     assert_eq!(rt; text.as_slice(), row);
 }
 
@@ -107,7 +117,7 @@ fn json_with_letters(rt: HostRuntime) {
 fn xml_by_each_encoder(rt: HostRuntime) {
     let text = shown(rt.alloc(), xml_forms(rt.alloc(), b"<\"&'>")).expect(&rt, "memory");
     let row: &[u8] =
-        b"&lt;\"&amp;'&gt; &lt;&quot;&amp;&#39;&gt; &lt;&quot;&amp;&apos;&gt; &lt;&quot;&amp;'&gt; &lt;&quot;&amp;&#039;&gt; &lt;&#34;&amp;&#39;&gt; &lt;&quot;&amp;&#x27;&gt; \
+        b"&lt;\"&amp;'&gt; &lt;&quot;&amp;&#39;&gt; &lt;&quot;&amp;&apos;&gt; &lt;&quot;&amp;'&gt; &lt;&quot;&amp;'> &lt;&quot;&amp;&#039;&gt; &lt;&#34;&amp;&#39;&gt; &lt;&quot;&amp;&#x27;&gt; \
           &#60;&#34;&#38;&#39;&#62; &#x3C;&#x22;&#x26;&#x27;&#x3E; &#x3c;&#x22;&#x26;&#x27;&#x3e; ";
     assert_eq!(rt; text.as_slice(), row);
 }
@@ -122,10 +132,12 @@ fn shell_by_each_way(rt: HostRuntime) {
 
 #[test]
 fn shell_as_bash_writes(rt: HostRuntime) {
-    let secret = b"a,~\x01\x07\n\x1b\x7f";
+    let secret = b"a,~\x01\x07\n\x1b\x7f\xff";
     let text = shown(rt.alloc(), shell_forms(rt.alloc(), secret)).expect(&rt, "memory");
-    let row: &[u8] = b"a,~\x01\x07\n\x1b\x7f a,\\~\\\x01\\\x07\\\n\\\x1b\\\x7f \
-          a\\,~\x01\x07\n\x1b\x7f a,~\\001\\a\\n\\E\\177 ";
+    let row: &[u8] = b"\
+        a,~\x01\x07\n\x1b\x7f\xff a,\\~\\\x01\\\x07\\\n\\\x1b\\\x7f\xff \
+        a\\,~\x01\x07\n\x1b\x7f\xff a,~\\001\\a\\n\\E\\177\xff \
+        a,~\\001\\a\\n\\E\\177\\377 ";
     assert_eq!(rt; text.as_slice(), row);
 }
 
