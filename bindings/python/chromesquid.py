@@ -232,7 +232,7 @@ def _library() -> ctypes.CDLL:
             return ctypes.CDLL(place)
         except OSError as error:
             if "ISA level" not in str(error):
-                raise
+                raise ImportError(f"{error}: bin/install puts it there, and CHROMESQUID_LIBRARY names its folder") from error
             refused = error
     raise ImportError("libchromesquid needs a processor of x86-64-v2, as those from 2009 on are (SSE4.2)") from refused
 
@@ -613,7 +613,7 @@ class AhoCorasick:
         given = self._bytes_of(haystack)
         matches = self._few(function, given) if len(given) < _SHORT else None
         if matches is None:
-            matches = itertools.chain.from_iterable(batches(given))
+            matches = _in_turn(batches(given))
         return self._characters(matches, given) if _is_wide(haystack) else matches
 
     def _few(self, function: Any, given: Any) -> Optional[Iterator[Match]]:
@@ -751,8 +751,10 @@ def _pieces_of(reader: Any) -> Iterator[Haystack]:
 
 
 def _read(reader: Any) -> Iterator[Haystack]:
-    # As the reader of a buffered pipe or socket gives what is there, so that a match is told as soon as it came.
-    read = getattr(reader, "read1", None) or getattr(reader, "read", None)
+    # As the reader of a buffered pipe or socket gives what is there, so that a match is told as soon as it came. A reader of codecs has the
+    # `read1` of the bytes below it, and others refuse theirs.
+    prompt = isinstance(reader, io.BufferedIOBase) and type(reader).read1 is not io.BufferedIOBase.read1
+    read = reader.read1 if prompt else getattr(reader, "read", None)
     for piece in iter(lambda: read(_PIECE), reader) if read else iter(reader):
         if piece is None:
             raise BlockingIOError("the reader has nothing for now")
@@ -791,6 +793,12 @@ def _matches(numbers: Any, first: int, last: int, moved: int) -> Iterator[Match]
         return map(tuple.__new__, _EACH_A_MATCH, _MATCH.iter_unpack(part))
     starts, ends = (map(moved.__add__, part[at::3]) for at in (1, 2))
     return map(tuple.__new__, _EACH_A_MATCH, zip(part[0::3], starts, ends))
+
+
+def _in_turn(batches: Iterator[Iterator[Match]]) -> Iterator[Match]:
+    """One batch after another. itertools.chain would crash where two threads ask it at once; this is a ValueError then."""
+    for batch in batches:
+        yield from batch
 
 
 def _is_wide(haystack: Haystack) -> bool:
@@ -967,6 +975,16 @@ class Replacer:
         return self._decoder.decode(whole, last) if self._of_text else whole
 
 
+def _spellings(secret: Haystack, word: bytes) -> List[bytes]:
+    """A secret's bytes, and where they are not UTF-8 these otherwise: those that a str of os.environ stands for, or how a reader that escapes them
+    gives them."""
+    try:
+        other = word.decode(*_ENCODING).encode("utf-8", "surrogateescape") if isinstance(secret, str) else word.decode("utf-8", "surrogateescape").encode(*_ENCODING)
+    except UnicodeError:
+        other = word
+    return [*dict.fromkeys((word, other))]
+
+
 def _form_bits(names: Union[str, Iterable[str]]) -> int:
     given = [it for it in names.split(",") if it] if isinstance(names, str) else list(names)
     bits = 0
@@ -1029,7 +1047,8 @@ class Redactor:
             word = _pattern_bytes(secret)
             if len(word) < (4 if bits else 1):
                 raise FormError(f"secret {number} has fewer than four bytes, and so no forms" if word else f"secret {number} is empty")
-            patterns.update(dict.fromkeys([word, *(_form_patterns(word, bits) if bits else ())]))
+            for one in _spellings(secret, word):
+                patterns.update(dict.fromkeys([one, *(_form_patterns(one, bits) if bits and len(one) >= 4 else ())]))
         self._searcher, self._replacement, self._count = AhoCorasick(list(patterns)), _pattern_bytes(replacement), len(given)
         self._pieces = _slices([self._replacement] * len(patterns))
         self._longest = max(map(len, patterns), default=0)
@@ -1123,7 +1142,7 @@ def _text_of(covered: bytes) -> str:
 
 
 class LogFilter(logging.Filter):
-    """Covers what a record of logging says: its message with its arguments, its traceback, and each other str that it has. Add it to a
+    """Covers what a record of logging says: its message with its arguments, its traceback, and what else it has but numbers. Add it to a
     handler, since one of a logger is not asked about the records of the loggers below it.
 
         >>> handler = logging.StreamHandler()
@@ -1137,15 +1156,38 @@ class LogFilter(logging.Filter):
         self._redactor = redactor
 
     def filter(self, record: logging.LogRecord) -> bool:
-        record.msg, record.args = self._message(record), None
+        record.msg, record.args = self._message(record), ()
         if record.exc_info:
             if not record.exc_text and isinstance(record.exc_info, tuple):
                 record.exc_text = logging.Formatter().formatException(record.exc_info)
             record.exc_info = None
         for name, value in list(vars(record).items()):
-            if isinstance(value, str):
-                setattr(record, name, self._redactor.text(value))
+            setattr(record, name, self._covered(value))
         return True
+
+    def _covered(self, value: Any, within: Tuple[int, ...] = ()) -> Any:
+        """A value without secrets, also in its parts. What holds none is left as it is, and so is a number."""
+        if isinstance(value, str):
+            return self._redactor.text(value)
+        if isinstance(value, (bytes, bytearray)):
+            return self._redactor.bytes(value)
+        if value is None or isinstance(value, (int, float)):
+            return value
+        around = (*within, id(value))
+        if isinstance(value, Mapping) and id(value) not in within:
+            named = {self._covered(name, around): self._covered(it, around) for name, it in value.items()}
+            if named != dict(value):
+                return named
+        if isinstance(value, (list, tuple, set, frozenset)) and id(value) not in within:
+            parts = [self._covered(it, around) for it in value]
+            if parts != [*value]:
+                return parts if isinstance(value, list) else tuple(parts)
+        try:
+            shown = str(value)
+        except Exception:  # nor can logging show it
+            return value
+        told = self._redactor.text(shown)
+        return value if told == shown else told
 
     def _message(self, record: logging.LogRecord) -> str:
         try:

@@ -2,7 +2,9 @@
 
 import array
 import base64
+import codecs
 import collections
+import contextlib
 import copy
 import ctypes
 import io
@@ -10,8 +12,10 @@ import json
 import logging
 import mmap
 import os
+import pathlib
 import pickle
 import random
+import tempfile
 import threading
 import unittest
 import urllib.parse
@@ -392,7 +396,7 @@ class Streams(unittest.TestCase):
             if turn % 250 == 1:
                 replacements[0] *= 30000
             replacer = Replacer(searcher, replacements)
-            written = empty.join([*map(replacer.push, pieces), replacer.end()]) if pieces else empty
+            written = empty.join([*[replacer.push(it) for it in pieces], replacer.end()]) if pieces else empty
             self.assertEqual(written, searcher.replace_all(empty.join(pieces), replacements))
 
     def test_what_is_replaced_is_told_as_soon_as_it_is_certain(self):
@@ -432,6 +436,20 @@ class Copies(unittest.TestCase):
                 self.assertEqual(list(other.find_iter(haystack)), list(searcher.find_iter(haystack)))
                 self.assertEqual(len(list(other.find_iter(haystack))), 3)
                 self.assertEqual((other.patterns, other.kind), (searcher.patterns, searcher.kind))
+
+    def test_threads_that_share_an_iterator(self):
+        matches = AhoCorasick([b"sam"]).find_iter(b"sam " * 100000)
+
+        def take():
+            with contextlib.suppress(ValueError):  # as of any generator that is asked by two
+                for _ in matches:
+                    pass
+
+        threads = [threading.Thread(target=take) for _ in range(4)]
+        for it in threads:
+            it.start()
+        for it in threads:
+            it.join()
 
     def test_threads(self):
         searcher = AhoCorasick(["frodo", "sam"])
@@ -554,6 +572,22 @@ class Forms(unittest.TestCase):
                 redactor.stream(pieces, there)
                 self.assertEqual(there.getvalue(), redactor.bytes(whole))
 
+    def test_readers_that_decode(self):
+        redactor = Redactor(["swordfish"], replacement="*")
+        with tempfile.SpooledTemporaryFile(mode="w+") as file:
+            file.write("a swordfish\n")
+            file.seek(0)
+            for reader in (file, codecs.getreader("utf-16")(io.BytesIO("a swordfish\n".encode("utf-16")))):
+                written = io.StringIO()
+                redactor.stream(reader, written)
+                self.assertEqual(written.getvalue(), "a *\n")
+
+    def test_secrets_that_are_no_utf_8(self):
+        escaped = b"p\xe4ss".decode("utf-8", "surrogateescape")  # as os.environ has it
+        for secret in (escaped, b"p\xe4ss"):
+            redactor = Redactor([secret], replacement="*")
+            self.assertEqual((redactor.bytes(b"a p\xe4ss"), redactor.text(f"a {escaped}")), (b"a *", "a *"))
+
     def test_a_stream_is_written_as_it_comes(self):
         covering = chromesquid._Covering(Redactor(["swordfish"], forms=[]))
         parts = [covering.push(it) for it in (b"a line\n", b"a sw", b"orange sword", b"fish", b"swo", b"rdfish", b".")]
@@ -617,7 +651,17 @@ class Logs(unittest.TestCase):
         self.assertNotIn("pass/word", text)
         record = logging.LogRecord("tests", 30, "", 1, "a %s", ("swordfish",), (ValueError, ValueError("swordfish"), None))
         self.assertTrue(self.handler.filter(record))
-        self.assertEqual((record.msg, record.args, record.exc_info, record.exc_text), ("a *", None, None, "ValueError: *"))
+        self.assertEqual((record.msg, record.args, record.exc_info, record.exc_text), ("a *", (), None, "ValueError: *"))
+
+    def test_other_values_and_their_parts(self):
+        ring = ["swordfish"]
+        ring.append(ring)
+        extra = {"headers": {"pass/word": b"swordfish"}, "parts": [("a", "swordfish"), 7], "path": pathlib.Path("swordfish"), "ring": ring, "kept": {"a": [1, None]}}
+        record = logging.makeLogRecord({"msg": "by", **extra})
+        self.assertTrue(self.handler.filter(record))
+        self.assertEqual((record.headers, record.parts, record.path), ({"*": b"*"}, [("a", "*"), 7], "*"))
+        self.assertEqual(record.ring, ["*", "['*', [...]]"])
+        self.assertIs(record.kept, extra["kept"])
 
 
 class BesideTheModel(unittest.TestCase):
