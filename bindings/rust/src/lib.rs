@@ -12,7 +12,7 @@
 //! A pattern's number is its place among the patterns, from 0 on. Places count bytes, also in a `str`; ranges are half open.
 //!
 //! What the library answers is proved; this crate, which passes the calls on, is only tested. All calls that begin with `try_` tell as an
-//! error what the others panic at. Where answers are others than those of `aho-corasick`, crates/chromesquid/README.md of the repository says so.
+//! error what the others panic at, but for a wrong number of replacements. Where answers are others than those of `aho-corasick`, crates/chromesquid/README.md of the repository says so.
 //!
 //! A kind of automaton, `dense_depth` and `byte_classes` are taken as hints. Streams of the leftmost kinds, which `aho-corasick` refuses, are
 //! those of `AhoCorasick::streams`. `packed` has that module's types over the same searcher.

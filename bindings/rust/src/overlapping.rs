@@ -49,7 +49,7 @@ impl AhoCorasick {
     }
 
     /// All matches, those that overlap too: by end, then start, then number. They are searched for a part of the haystack at a time.
-    /// Panics where the kind is not Standard, and where the searcher was not built for such a search.
+    /// Panics where the kind is not Standard, and where the search is anchored, or the searcher was not built for one that is not.
     pub fn find_overlapping_iter<'a, 'h, I: Into<Input<'h>>>(&'a self, input: I) -> FindOverlappingIter<'a, 'h> {
         or_panic(self.try_find_overlapping_iter(input))
     }
@@ -58,6 +58,9 @@ impl AhoCorasick {
     pub fn try_find_overlapping_iter<'a, 'h, I: Into<Input<'h>>>(&'a self, input: I) -> Result<FindOverlappingIter<'a, 'h>, MatchError> {
         let input = input.into();
         self.overlapping_refusal(&input)?;
+        if input.get_anchored().is_anchored() {
+            return Err(MatchError::invalid_input_anchored());
+        }
         Ok(FindOverlappingIter { searcher: self, input, state: OverlappingState::start() })
     }
 

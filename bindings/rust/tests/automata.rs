@@ -35,6 +35,16 @@ fn walk<A: Automaton + ?Sized>(automaton: &A, haystack: &[u8], anchored: Anchore
 }
 
 /// All that a walk finds, in the order in which the states list it.
+/// All matches, one after another by a state, as an anchored search has them too.
+fn overlapping(searcher: &AhoCorasick, input: &Input<'_>) -> Vec<Match> {
+    let mut state = OverlappingState::start();
+    std::iter::from_fn(|| {
+        searcher.find_overlapping(input.clone(), &mut state);
+        state.get_match()
+    })
+    .collect()
+}
+
 fn walk_all(automaton: impl Automaton, haystack: &[u8], anchored: Anchored) -> Vec<Match> {
     let mut state = automaton.start_state(anchored).unwrap();
     let mut all = vec![];
@@ -95,7 +105,7 @@ fn compare(dice: &mut Dice, letters: &[u8], most: usize) {
     }
     if kind == Standard {
         for anchored in [Anchored::No, Anchored::Yes] {
-            let wanted: Vec<_> = searcher.find_overlapping_iter(Input::new(&haystack).anchored(anchored)).collect();
+            let wanted = overlapping(&searcher, &Input::new(&haystack).anchored(anchored));
             assert_eq!(walk_all(&dfa, &haystack, anchored), wanted, "{case} {anchored:?}");
         }
     }
@@ -208,8 +218,12 @@ fn which_searches_an_automaton_answers() {
         assert_eq!(refused(&anchored, Anchored::No), MatchErrorKind::InvalidInputUnanchored);
         assert!(anchored.try_find(&Input::new("ab")).is_err() && anchored.try_stream_find_iter(&b"ab"[..]).is_err());
         let input = Input::new("xab").range(1..).anchored(Anchored::Yes);
-        let found: Vec<_> = anchored.try_find_overlapping_iter(input).unwrap().collect();
-        assert_eq!(found, [Match::must(2, 1..2), Match::must(0, 1..3)]);
+        assert_eq!(anchored.try_find_overlapping_iter(input.clone()).unwrap_err().kind(), &MatchErrorKind::InvalidInputAnchored);
+        let mut state = OverlappingState::start();
+        for wanted in [Some(Match::must(2, 1..2)), Some(Match::must(0, 1..3)), None] {
+            anchored.try_find_overlapping(&input, &mut state).unwrap();
+            assert_eq!(state.get_match(), wanted);
+        }
     }
     let leftmost = contiguous::Builder::new().match_kind(LeftmostFirst).build(["a"]).unwrap();
     assert!(leftmost.try_stream_find_iter(&b"a"[..]).is_err() && leftmost.try_find_overlapping_iter(Input::new("a")).is_err());
