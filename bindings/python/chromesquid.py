@@ -479,6 +479,7 @@ class AhoCorasick:
         """The matches of what a reader gives, each as soon as it is certain. The reader has a method `read`, as
         a file and a socket's makefile() have, or is an iterable of pieces. Its pieces are str, if the patterns are, or bytes; the
         places count from the first one. It is read in pieces of 65536, and no more is kept of it than that and what the longest pattern needs.
+        A reader of text, as `open(name)` gives, waits until it has so many characters; one of bytes gives what is there.
 
         A match of kind "standard" is certain with its last byte. One of another kind is so with the first byte behind it with which nothing
         goes on that could take its place, or at the end: so it waits for one byte more even where nothing could.
