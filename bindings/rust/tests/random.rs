@@ -113,8 +113,15 @@ fn compare(dice: &mut Dice, letters: &[u8], most: usize) {
         assert_eq!(found, plain.finds(&haystack, start, end, anchored, earliest), "{case}");
         if plain.kind == Standard {
             let input = Input::new(&haystack).range(start..end).anchored(mode);
-            let listed: Vec<_> = searcher.find_overlapping_iter(input).map(|it| (it.pattern().as_usize(), it.start(), it.end())).collect();
+            let mut state = OverlappingState::start();
+            let by_state = std::iter::from_fn(|| {
+                searcher.find_overlapping(input.clone(), &mut state);
+                state.get_match()
+            });
+            let listed: Vec<_> = by_state.map(|it| (it.pattern().as_usize(), it.start(), it.end())).collect();
             assert_eq!(listed, plain.occurrences(&haystack, start, end, anchored), "{case}");
+            let iterated = searcher.try_find_overlapping_iter(input).map(|all| all.count());
+            assert_eq!(iterated.ok(), (!anchored).then_some(listed.len()), "{case}");
         }
     }
     let pieces: Vec<_> = patterns.iter().map(|_| dice.bytes(letters, 5)).collect();
