@@ -264,16 +264,9 @@ fn lines_behind(job: &Job<'_>, text: &[u8], count: u64) -> u64
         → result ≡ (count + length (places (is_byte job.now.style.ending) text.now)) % 2 ^ 64 }
 {
     if job.numbers() {
-        return count.wrapping_add(endings(text, job.style.ending));
+        return count.wrapping_add(memchr_iter(job.style.ending, text).count() as u64);
     }
     count
-}
-
-/// How often a byte stands in a text.
-fn endings(text: &[u8], ending: u8) -> u64
-    ensures count { result ≡ length (places (is_byte ending) text.now) }
-{
-    memchr_iter(ending, text).count() as u64
 }
 
 /// Puts together what is asked of a selected line.
