@@ -3,7 +3,7 @@
 ghost use Rattle.std.specs.Prelude.{◌≡◌, ◌++◌, ◌∷◌, [], IfOk, IfSome, IsErr, IsNone, IsSome, OnOk, false, true};
 ghost use Rattle.acgrep.specs.Listed.{listed_bytes};
 ghost use Rattle.acgrep.specs.Loading.{AddsRuleText, ReadsText, ReadsTexts};
-ghost use Rattle.acgrep.specs.Rules.{expanded, glob_of_line, is_from_file, is_space, rule_before, rule_said, rules_by, rules_in, rules_said};
+ghost use Rattle.acgrep.specs.Rules.{expanded, glob_of_line, is_from_file, is_space, rule_before, rule_said, rules_by, rules_said};
 ghost use Rattle.acgrep.specs.Told.{TellsCause, TellsOfRule, TellsOfRules};
 
 use crate::arguments::Source;
@@ -119,14 +119,12 @@ pub fn expanded<'a>(
         rules_said all.items ≡ expanded (rules_said rules.now) (listed_bytes texts.now)) }
 {
     let mut all = Vec::new(alloc);
-    let mut rest = rules;
     let mut left = texts;
-    while let Some((text, others)) = left.split_first() {
-        if rest.is_empty() {
+    for rule in rules {
+        let Some((text, others)) = left.split_first() else {
             return Ok(all);
-        }
-        add_rules(&mut all, rest[0], text.as_slice())?;
-        rest = &rest[1..];
+        };
+        add_rules(&mut all, *rule, text.as_slice())?;
         left = others;
     }
     Ok(all)
@@ -137,17 +135,11 @@ fn add_rules<'a>(all: &mut Vec<Rule<'a>>, rule: Rule<'a>, text: &'a [u8]) -> Res
     ensures added { OnOk result (rules_said all.new.items
         ≡ rules_said all.old.items ++ rules_by (rule_said rule.entry) text.now) }
 {
-    if is_from_file(rule.sense) {
-        return add_globs(all, text);
+    if !is_from_file(rule.sense) {
+        all.push(rule)?;
+        return Ok(());
     }
-    all.push(rule)?;
-    Ok(())
-}
-
-/// Adds a rule for each line of a text that holds more than white space.
-fn add_globs<'a>(all: &mut Vec<Rule<'a>>, text: &'a [u8]) -> Result<(), AllocError>
-    ensures added { OnOk result (rules_said all.new.items ≡ rules_said all.old.items ++ rules_in text.now) }
-{
+    // Each line that holds more than white space is one.
     let mut rest = text;
     while !rest.is_empty() {
         let end = line_end(rest, b'\n');
