@@ -6,7 +6,7 @@ ghost use Rattle.acgrep.specs.Lines.{EndsLine};
 ghost use Rattle.acgrep.specs.Arguments.{origin_of};
 ghost use Rattle.tool_parts.specs.Names.{is_input};
 ghost use Rattle.acgrep.specs.Loading.{AddsFile, AddsSource, ReadsSources, file_origin};
-ghost use Rattle.acgrep.specs.Origins.{IsFoundIn, begin_of, count_at, piece_at};
+ghost use Rattle.acgrep.specs.Origins.{IsFoundIn, begin_of, piece_at};
 ghost use Rattle.acgrep.specs.Runs.{origins_of};
 ghost use Rattle.acgrep.specs.Told.{MayName, TellsOfFile, TellsOfSources, source_names};
 
@@ -164,19 +164,13 @@ pub fn tell_ending<E: Sink>(
 fn named_place<'a>(keys: &Keys, sources: &[Source<'a>], number: usize) -> (&'a [u8], Option<u64>)
     ensures named { MayName (source_names (origins_of sources.now)) result.0.now }
 {
-    match origin_of(keys, number) {
-        Some(place) => (source_name(sources, place.source), Some(place.line as u64)),
-        None => (ALL, None),
-    }
-}
-
-/// How the source of this number is called: a file by its name.
-fn source_name<'a>(sources: &[Source<'a>], number: usize) -> &'a [u8]
-    ensures named { MayName (source_names (origins_of sources.now)) result.now }
-{
-    match sources.get(number) {
-        Some(Source::File(name)) => name,
-        _ => b"pattern",
+    let Some(place) = origin_of(keys, number) else {
+        return (ALL, None);
+    };
+    let line = Some(place.line as u64);
+    match sources.get(place.source) {
+        Some(Source::File(name)) => (name, line),
+        _ => (b"pattern", line),
     }
 }
 
@@ -194,24 +188,15 @@ pub fn origin_of(keys: &Keys, number: usize) -> Option<KeyPlace>
     ensures found { IsFoundIn keys.now number result }
 {
     let mut left = number;
-    let mut source = 0;
-    while source < keys.starts.len() {
-        let count = count_of(keys, source);
+    for source in 0..keys.starts.len() {
+        let count = memchr_iter(b'\n', piece_of(keys, source)).count();
         if left < count {
             let line = left + 1;
             return Some(KeyPlace { source, line });
         }
         left -= count;
-        source += 1;
     }
     None
-}
-
-/// How many patterns the source of a number has.
-fn count_of(keys: &Keys, number: usize) -> usize
-    ensures count { result ≡ count_at keys.now number }
-{
-    memchr_iter(b'\n', piece_of(keys, number)).count()
 }
 
 /// The patterns of the source of a number, each with its newline.
