@@ -167,11 +167,10 @@ fn mark_reader<A: Automaton, R: Read + Drop, W: Sink, E: Sink>(
 fn tell_too_big<E: Sink>(alloc: Global, rules: &[Rule], number: usize, errors: &mut Errors<'_, E>)
     ensures told { TellsSome E.Sink IsMarkTold errors.old errors.new }
 {
-    let Some(rule) = rules.get(number) else {
-        return tell_memory(errors);
-    };
-    match bad_rule(alloc, number.saturating_add(1), rule, RuleFlaw::TooBig) {
-        Ok(bad) => tell_rule(errors, PROGRAM, RULES, &bad),
-        Err(_) => tell_memory(errors),
+    if let Some(rule) = rules.get(number) {
+        if let Ok(bad) = bad_rule(alloc, number.saturating_add(1), rule, RuleFlaw::TooBig) {
+            return tell_rule(errors, PROGRAM, RULES, &bad);
+        }
     }
+    tell_memory(errors);
 }
