@@ -109,10 +109,8 @@ pub fn parse<'a>(alloc: Global, arguments: &'a [Vec<u8>]) -> Result<Given<'a>, R
 {
     let mut given = Given::new(alloc);
     let mut awaited = Awaited::Fresh;
-    let mut left = arguments;
-    while let Some((argument, behind)) = left.split_first() {
+    for argument in arguments {
         awaited = read_argument(&mut given, awaited, argument.as_slice())?;
-        left = behind;
     }
     match awaited {
         Awaited::Argument(valued) => Err(Refusal::Wrong(Wrong::NoArgument(valued))),
