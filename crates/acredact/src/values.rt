@@ -70,12 +70,10 @@ pub fn values_of_entries<'e>(
 pub fn is_some_value(entries: &[Vec<u8>], text: &[u8]) -> bool
     ensures some { result ≡ is_some_value (bytes_of_names entries.now) text.now }
 {
-    let mut rest = entries;
-    while !rest.is_empty() {
-        if is_value_text(text, behind_equals(rest[0].as_slice())) {
+    for entry in entries {
+        if is_value_text(text, behind_equals(entry.as_slice())) {
             return true;
         }
-        rest = &rest[1..];
     }
     false
 }
