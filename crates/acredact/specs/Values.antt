@@ -1,6 +1,6 @@
 -- Values that are patterns: of variables, of the environment or of a file, and of whole files.
 use Rattle.acredact.specs.Common.{Bor, bytes_eq, ends_with_byte, strip_last}
-use Rattle.std.specs.Prelude.{◌≡◌, ℕ, ◌+◌, ◌-◌, ◌^◌, ◌||◌, ◌&&◌, not, min, Bool, MatchBool, true, List, [], ◌∷◌, ◌++◌, Option, Some, None, if◌then◌else◌, length, nat_eq, option_and_then, option_map}
+use Rattle.std.specs.Prelude.{◌≡◌, ℕ, ◌+◌, ◌-◌, ◌^◌, ◌||◌, ◌&&◌, not, min, Bool, MatchBool, false, true, List, [], ◌∷◌, ◌++◌, Option, Some, None, if◌then◌else◌, length, nat_eq, option_and_then, option_map}
 use Rattle.std.specs.List.{list_all, list_any, starts_with}
 use Rattle.aho_cover.specs.Words.{is_word_part}
 use Rattle.acredact.specs.Forms.{split_first}

@@ -1,13 +1,12 @@
 //! Forms of patterns: how a secret that is encoded gets into a log. Which patterns a form has is told by `secret_forms`.
 
-ghost use Rattle.std.specs.Prelude.{◌≡◌, ◌∷◌, ◌++◌, ◌≤◌, [], IfOk, OnOk, Some, flat_map, length, map};
-ghost use Rattle.std.specs.List.{filter, filter_map, list_all};
-ghost use Rattle.acredact.specs.Forms.{HaveForms, HideSecrets, HidesOnce, HidesSecret, HidesTwice, are_forms, asked_forms, asks_for, filled, form_called, form_secret, forms_asked, forms_from, forms_named, forms_of, is_all, is_asked, is_called, name_of, names_form, names_in, nested_by, nested_called, nested_named, once_patterns, twice_patterns};
+ghost use Rattle.std.specs.Prelude.{◌≡◌, ◌∷◌, ◌≤◌, [], IfOk, OnOk, Some, flat_map, length, map};
+ghost use Rattle.acredact.specs.Forms.{HaveForms, HideSecrets, HidesOnce, HidesSecret, HidesTwice, are_forms, asked_forms, asks_for, filled, form_called, form_secret, forms_asked, forms_from, forms_named, forms_of, is_all, is_asked, is_called, name_of, names_form, nested_by, nested_called, nested_named, once_patterns, twice_patterns};
 ghost use Rattle.acredact.specs.Parts.{AddsSome};
 ghost use Rattle.acredact.specs.Tables.{secret_of, secrets_of};
 ghost use Rattle.secret_forms.specs.Patterns.{pattern_bytes};
 
-use crate::patterns::{Rule, copy_of, split_at};
+use crate::patterns::{Rule, copy_of, part_of};
 use secret_forms::{Form, FormError, forms, nested_forms};
 use std::alloc::{AllocError, Global};
 
@@ -87,9 +86,9 @@ fn nested_by(inner: Option<Form>, outer: Option<Form>) -> Option<Nested>
 fn nested_called(name: &[u8]) -> Option<Nested>
     ensures called { result ≡ nested_called name.now }
 {
-    match split_at(name, b'+') {
-        Some((inner, outer)) => nested_by(form_called(inner), form_called(outer)),
-        None => None,
+    match part_of(name, b'+') {
+        (inner, Some(outer)) => nested_by(form_called(inner), form_called(outer)),
+        (_, None) => None,
     }
 }
 
@@ -111,21 +110,15 @@ fn is_asked(name: &[u8]) -> bool
 pub fn are_forms(value: &str) -> bool
     ensures are { result ≡ are_forms value.now }
 {
-    are_names(value.as_bytes())
-}
-
-/// The same, of the value's bytes.
-fn are_names(value: &[u8]) -> bool
-    ensures are { result ≡ list_all is_asked (names_in value.now) }
-{
-    let mut rest = value;
-    while let Some((name, behind)) = split_at(rest, b',') {
+    let mut left = Some(value.as_bytes());
+    while let Some(rest) = left {
+        let (name, more) = part_of(rest, b',');
         if !is_asked(name) {
             return false;
         }
-        rest = behind;
+        left = more;
     }
-    is_asked(rest)
+    true
 }
 
 /// Whether this names the form, by itself or with all.
@@ -139,14 +132,15 @@ fn names_form(name: &[u8], form: Form) -> bool
 fn asks_for(value: &[u8], form: Form) -> bool
     ensures asks { result ≡ asks_for value.now form }
 {
-    let mut rest = value;
-    while let Some((name, behind)) = split_at(rest, b',') {
+    let mut left = Some(value);
+    while let Some(rest) = left {
+        let (name, more) = part_of(rest, b',');
         if names_form(name, form) {
             return true;
         }
-        rest = behind;
+        left = more;
     }
-    names_form(rest, form)
+    false
 }
 
 /// The forms that a value names, each once.
@@ -163,23 +157,12 @@ fn forms_by(alloc: Global, value: &[u8]) -> Result<Vec<Form>, AllocError>
         Form::Lines,
     ];
     let mut forms = Vec::new(alloc);
-    let mut rest = all.as_slice();
-    while !rest.is_empty() {
-        push_asked(&mut forms, value, rest[0])?;
-        rest = &rest[1..];
+    for form in all.as_slice() {
+        if asks_for(value, *form) {
+            forms.push(*form)?;
+        }
     }
     Ok(forms)
-}
-
-/// Adds a form, if the value names it.
-fn push_asked(forms: &mut Vec<Form>, value: &[u8], form: Form) -> Result<(), AllocError>
-    ensures pushed { OnOk result (forms.new.items
-        ≡ forms.old.items ++ filter (asks_for value.now) (form ∷ [])) }
-{
-    if asks_for(value, form) {
-        forms.push(form)?;
-    }
-    Ok(())
 }
 
 /// The forms of forms that a value names, in order.
@@ -187,24 +170,15 @@ fn nested_named(alloc: Global, value: &[u8]) -> Result<Vec<Nested>, AllocError>
     ensures nested { IfOk result (λ v. v.items ≡ nested_named value.now) }
 {
     let mut nested = Vec::new(alloc);
-    let mut rest = value;
-    while let Some((name, behind)) = split_at(rest, b',') {
-        push_nested(&mut nested, name)?;
-        rest = behind;
+    let mut left = Some(value);
+    while let Some(rest) = left {
+        let (name, more) = part_of(rest, b',');
+        if let Some(one) = nested_called(name) {
+            nested.push(one)?;
+        }
+        left = more;
     }
-    push_nested(&mut nested, rest)?;
     Ok(nested)
-}
-
-/// Adds the form of a form that is called so, if one is.
-fn push_nested(nested: &mut Vec<Nested>, name: &[u8]) -> Result<(), AllocError>
-    ensures pushed { OnOk result (nested.new.items
-        ≡ nested.old.items ++ filter_map nested_called (name.now ∷ [])) }
-{
-    if let Some(one) = nested_called(name) {
-        nested.push(one)?;
-    }
-    Ok(())
 }
 
 /// Which forms are asked for.

@@ -7,11 +7,11 @@ ghost use Rattle.tool_parts.specs.Streams.{bytes_left};
 ghost use Rattle.acredact.specs.Arguments.{all_given, given_of, last_value};
 ghost use Rattle.acredact.specs.Calls.{rules_asked};
 ghost use Rattle.acredact.specs.Forms.{HaveForms, forms_asked};
-ghost use Rattle.acredact.specs.Loading.{AreGiven, AreRead, CannotLoad, CannotLoadAll, CannotLoadKey, CannotLoadOne, CannotRead, GivesEnvironment, GivesKey, GivesSecrets, GivesValues, HoldsListed, HoldsSecrets, HoldsVariables, HoldsWhole, IsEnvironmentFailure, IsFileFailure, IsKeyFailure, IsKeyGiven, IsListedFailure, IsValuesFailure, IsVariablesFailure, IsWholeFailure, IsPatternFailure, IsTextFailure, IsTextReason, OptionGives, form_by, is_failed_text, key_in, reading_of_lists, rules_for};
+ghost use Rattle.acredact.specs.Loading.{AreGiven, AreRead, CannotLoad, CannotLoadAll, CannotLoadKey, CannotLoadOne, CannotRead, GivesEnvironment, GivesSecrets, GivesValues, HoldsListed, HoldsSecrets, HoldsVariables, HoldsWhole, IsEnvironmentFailure, IsFileFailure, IsKeyGiven, IsListedFailure, IsValuesFailure, IsVariablesFailure, IsWholeFailure, IsPatternFailure, IsTextFailure, IsTextReason, OptionGives, form_by, is_failed_text, key_in, reading_of_lists, rules_for};
 ghost use Rattle.acredact.specs.Parts.{AddsSome, ArePartsBy, GivesPattern};
 ghost use Rattle.acredact.specs.Reads.{OfName, ReadsText};
 ghost use Rattle.acredact.specs.Tables.{secrets_of};
-ghost use Rattle.acredact.specs.Values.{GiveEach, GivesValue};
+ghost use Rattle.acredact.specs.Values.{GivesValue};
 ghost use Rattle.acredact.specs.declared.options.Word.TheVariants.{Pseudonym};
 ghost use Rattle.acredact.specs.declared.failure.Failure.TheVariants.{Other, Pattern};
 ghost use Rattle.tool_parts.specs.declared.failure.Failure.TheVariants.{OutOfMemory as OutOfMemoryFailure};
@@ -28,7 +28,7 @@ use crate::values::{
     are_refused, first_fault, is_some_value, values_in_text, values_of_entries, whole_in,
 };
 use chromesquid::{FromRead, Source};
-use std::alloc::Global;
+use std::alloc::{AllocError, Global};
 use std::io::Read;
 use tool_parts::failure;
 use tool_parts::reason::Reason;
@@ -173,23 +173,10 @@ pub fn key_of<'a, F: Folder, I: Read>(
         (key_in key) (bytes_left input.old) (bytes_left input.new)) }
     ensures fails { IfErr result (CannotLoadKey (reading_of_lists F.Folder lists.now) (all_given items.now)) }
 {
-    match last_value(items, Word::Pseudonym) {
-        Some(name) => read_key(lists, name, input),
-        None => Ok(None),
-    }
-}
-
-/// The key in the file of a name.
-fn read_key<'a, F: Folder, I: Read>(
-    lists: &Lists<'_, '_, F>,
-    name: &'a str,
-    input: &mut FromRead<I>,
-) -> Result<Option<Vec<u8>>, Failure<'a>>
-    ensures key { IfOk result (λ key.
-        GivesKey (reading_of_lists F.Folder lists.now) name.now
-        (key_in key) (bytes_left input.old) (bytes_left input.new)) }
-    ensures fails { IfErr result (IsKeyFailure (reading_of_lists F.Folder lists.now) name.now) }
-{
+    let name = match last_value(items, Word::Pseudonym) {
+        Some(name) => name,
+        None => return Ok(None),
+    };
     match read_list(lists, name, input) {
         Ok(key) => {
             if key.len() < LEAST_KEY {
@@ -262,22 +249,6 @@ fn add_values<'a, F>(
     if are_refused(lists.allow_empty, values) {
         return Err(Failure::NoValue(name));
     }
-    match add_each(lists, rules, values, list) {
-        Ok(()) => Ok(()),
-        Err(_) => Err(Failure::Other(failure::Failure::OutOfMemory)),
-    }
-}
-
-/// Adds the rules of these values, where they are not empty.
-fn add_each<F>(
-    lists: &Lists<'_, '_, F>,
-    rules: &mut Vec<Rule>,
-    values: &[&[u8]],
-    list: usize,
-) -> Result<(), LineFault>
-    ensures added { OnOk result (AddsSome
-        (GiveEach lists.now.parts (pieces_of values.now)) rules.old rules.new) }
-{
     let mut rest = values;
     while !rest.is_empty() {
         add_value(lists, rules, rest[0], list)?;
@@ -292,7 +263,7 @@ fn add_value<F>(
     rules: &mut Vec<Rule>,
     value: &[u8],
     list: usize,
-) -> Result<(), LineFault>
+) -> Result<(), AllocError>
     ensures added { OnOk result (AddsSome (GivesValue lists.now.parts value.now) rules.old rules.new) }
 {
     if value.is_empty() {
@@ -300,7 +271,7 @@ fn add_value<F>(
     }
     match add_pattern(lists, rules, value, list) {
         Ok(()) => Ok(()),
-        Err(_) => Err(LineFault::OutOfMemory),
+        Err(_) => Err(AllocError),
     }
 }
 

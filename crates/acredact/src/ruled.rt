@@ -1,7 +1,6 @@
 //! A call with rules: each line is redacted by what rules mark in it, and by the patterns that occur in it.
 
-ghost use Rattle.std.specs.Prelude.{◌≡◌, ◌⊎◌, ◌++◌, ◌∷◌, [], IfOk, OnOk, map, true};
-ghost use Rattle.aho_core.specs.Replacement.{pieces_of};
+ghost use Rattle.std.specs.Prelude.{◌≡◌, ◌⊎◌, IfOk, OnOk, true};
 ghost use Rattle.chromesquid.specs.Searcher.{IsBuiltFrom};
 ghost use Rattle.secret_rules.specs.OpenLines.{CanSearch};
 ghost use Rattle.tool_parts.specs.Names.{name_bytes};
@@ -195,26 +194,13 @@ fn texts_of<'r>(
 {
     let usual = text_of(given);
     let mut texts = replacements_of(alloc, secrets, usual)?;
-    push_texts(&mut texts, line_rules, usual)?;
-    Ok(texts)
-}
-
-/// Adds the text of each rule, its own or the usual one, and that of long lines.
-fn push_texts<'r>(
-    texts: &mut Vec<&'r [u8]>,
-    line_rules: &'r [LineRule],
-    usual: &'r [u8],
-) -> Result<(), AllocError>
-    ensures pushed { OnOk result (pieces_of texts.new.items ≡ pieces_of texts.old.items
-        ++ (map (own_text usual.entry.now) line_rules.entry.now ++ (usual.entry.now ∷ []))) }
-{
     let mut rest = line_rules;
     while !rest.is_empty() {
         texts.push(own_text(&rest[0], usual))?;
         rest = &rest[1..];
     }
     texts.push(usual)?;
-    Ok(())
+    Ok(texts)
 }
 
 /// The text of a rule, its own or the usual one.

@@ -112,8 +112,8 @@ pub fn run<F: Folder, I: Read, W: Write, E: Sink>(
     // or 1 nothing is told but of patterns of lists that may be meant otherwise, and where these are refused there is none.
     ensures unchecked { IfChecking arguments.now (λ given. result ≡ 2
         → TellsUncheckedAsked F.Folder folder.now given streams.old streams.new E.Sink) }
-    ensures check_quiet { IfChecking arguments.now (λ all. result < 2
-        → TellsListsAsked F.Folder folder.now all streams.old streams.new E.Sink) }
+    ensures check_quiet { IfChecking arguments.now (λ given. result < 2
+        → TellsListsAsked F.Folder folder.now given streams.old streams.new E.Sink) }
     ensures check_unwritten { IfChecking arguments.now (λ _.
         streams.new.output ≡ streams.old.output) }
 
