@@ -29,6 +29,10 @@ pub record FillsBehind (before after : List ℕ) (left_before left_after : Optio
   pub counted : length came ≡ count
   pub ended : count ≡ 0 → IsAtEnd left_after
 
+-- so of what a buffer holds
+abbrev pub FillsBuffer : (before after : Buffer) (left_before left_after : Option (List ℕ)) → ℕ → Type 0
+FillsBuffer before after left_before left_after = FillsBehind (bytes_buffered before) (bytes_buffered after) left_before left_after
+
 -- some bytes were read
 abbrev pub ReadsOn : Option (List ℕ) → Option (List ℕ) → Type 0
 ReadsOn left left' = (bytes : List ℕ) × Consumes left left' bytes

@@ -1,5 +1,7 @@
 -- How often each pattern was found, by the numbers of the patterns that were, and how that is told.
+use Rattle.acgrep.specs.Common.{Bor}
 use Rattle.std.specs.Prelude.{◌++◌, ◌+◌, ◌-◌, ◌<◌, ◌==◌, ◌^◌, ◌∷◌, ◌≡◌, Bool, List, None, Option, Some, Vec, [], codes, decimal, false, filter, length, map, max, min, slice_index, ℕ}
+use Rattle.aho_core.specs.Replacement.{pieces_of}
 use Rattle.acgrep.specs.Arguments.{number_by}
 use Rattle.acgrep.specs.Lines.{lines}
 
@@ -33,6 +35,10 @@ rows_from number (pattern ∷ patterns) found =
 -- of all patterns, where the lines of a text, each ended by this byte, write the numbers of those that were found
 abbrev pub counts_table : (ending : ℕ) → List (List ℕ) → List ℕ → List ℕ
 counts_table ending patterns numbers = rows_from 0 patterns (lines ending numbers)
+
+-- the same of patterns that are lent
+abbrev pub counts_table_of : (ending : ℕ) → List (Bor (List ℕ)) → List ℕ → List ℕ
+counts_table_of ending patterns numbers = counts_table ending (pieces_of patterns) numbers
 
 -- a count with more; it stays at the greatest number
 abbrev pub count_with : ℕ → ℕ → ℕ

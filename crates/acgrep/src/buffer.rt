@@ -18,7 +18,7 @@ pub struct Buffer {
 }
 
 impl Buffer {
-    ghost use Rattle.acgrep.specs.Filled.{FillsBehind, ReadsOn, bytes_buffered};
+    ghost use Rattle.acgrep.specs.Filled.{FillsBuffer, ReadsOn, bytes_buffered};
 
     /// A buffer of the first size.
     pub fn new(alloc: Global) -> Result<Buffer, AllocError> {
@@ -59,7 +59,7 @@ impl Buffer {
     /// Reads once behind the bytes, and answers how many came.
     pub fn fill<R: Read>(&mut self, input: &mut R) -> io::Result<usize>
         requires room { self.now.held < vec_len self.now.room }
-        ensures filled { IfOk result (FillsBehind (bytes_buffered self.old) (bytes_buffered self.new)
+        ensures filled { IfOk result (FillsBuffer self.old self.new
             (R.remaining input.old) (R.remaining input.new)) }
         ensures reads { ReadsOn (R.remaining input.old) (R.remaining input.new) }
     {

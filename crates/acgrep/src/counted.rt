@@ -9,7 +9,7 @@ ghost use Rattle.chromesquid.specs.Searcher.{IsBuiltFromSome};
 ghost use Rattle.acgrep.specs.Arguments.{said};
 ghost use Rattle.acgrep.specs.Counted.{BeginsCountOf, BeginsSearchOrCount, CountsOperands, SearchesOrCounts};
 ghost use Rattle.acgrep.specs.Folders.{tree_of};
-ghost use Rattle.acgrep.specs.Tallies.{PutsBytes, counts_table, zeros_of};
+ghost use Rattle.acgrep.specs.Tallies.{PutsBytes, counts_table_of, zeros_of};
 ghost use Rattle.acgrep.specs.Told.{TellsCause, TellsOfReached};
 
 use crate::arguments::Given;
@@ -104,10 +104,10 @@ pub fn end_counts<W: Sink, E: Sink>(
 ) -> u8
     ensures status { (result ≡ status) ⊎ (result ≡ 2) }
     ensures written { result < 2 → Appends (W.taken output.old) (W.taken output.new)
-        (counts_table ending (pieces_of patterns.now) numbers.now) }
+        (counts_table_of ending patterns.now numbers.now) }
     // Where it fails a beginning of that is written.
     ensures begun { AppendsBeginning (W.taken output.old) (W.taken output.new)
-        (counts_table ending (pieces_of patterns.now) numbers.now) }
+        (counts_table_of ending patterns.now numbers.now) }
     ensures silent { result < 2 → errors.new ≡ errors.old }
     ensures told_before { 2 ≤ status → errors.new ≡ errors.old }
     ensures told { status < 2 → result ≡ 2 → TellsCause E.Sink errors.old errors.new }
@@ -133,9 +133,9 @@ fn write_counts<W: Sink>(
     output: &mut W,
 ) -> Result<(), Stop>
     ensures written { OnOk result (Appends (W.taken output.old) (W.taken output.new)
-        (counts_table ending (pieces_of patterns.now) numbers.now)) }
+        (counts_table_of ending patterns.now numbers.now)) }
     ensures begun { OnErr result (AppendsBeginning (W.taken output.old) (W.taken output.new)
-        (counts_table ending (pieces_of patterns.now) numbers.now)) }
+        (counts_table_of ending patterns.now numbers.now)) }
 {
     let mut text = Vec::new(alloc);
     put_counts(alloc, patterns, numbers, ending, &mut text)?;
@@ -151,7 +151,7 @@ fn put_counts(
     text: &mut Vec<u8>,
 ) -> Result<(), AllocError>
     ensures put { OnOk result
-        (PutsBytes text.old text.new (counts_table ending (pieces_of patterns.now) numbers.now)) }
+        (PutsBytes text.old text.new (counts_table_of ending patterns.now numbers.now)) }
 {
     let mut counts = zeros(alloc, patterns)?;
     put_tallied(patterns, numbers, ending, counts.as_mut_slice(), text)
@@ -167,7 +167,7 @@ fn put_tallied(
 ) -> Result<(), AllocError>
     requires none { counts.old ≡ zeros_of (pieces_of patterns.now) }
     ensures put { OnOk result
-        (PutsBytes text.old text.new (counts_table ending (pieces_of patterns.now) numbers.now)) }
+        (PutsBytes text.old text.new (counts_table_of ending patterns.now numbers.now)) }
 {
     tally(numbers, ending, counts);
     put_rows(text, patterns, counts)

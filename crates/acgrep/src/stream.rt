@@ -4,7 +4,7 @@ ghost use Rattle.std.specs.Prelude.{◌≡◌, ◌≤◌, ◌-◌, ◌<◌, [], 
 ghost use Rattle.std.specs.Io.KnownBytes.{Keeps};
 ghost use Rattle.chromesquid.specs.Searcher.{IsBuiltFromSome};
 ghost use Rattle.acgrep.specs.Binary.{is_text};
-ghost use Rattle.acgrep.specs.Filled.{FillsBehind, ReadsOn, bytes_buffered};
+ghost use Rattle.acgrep.specs.Filled.{FillsBuffer, ReadsOn, bytes_buffered};
 ghost use Rattle.acgrep.specs.Guarded.{EndsFront, IsZeroLine, ReadsFront};
 ghost use Rattle.acgrep.specs.Lines.{IsEnding};
 ghost use Rattle.acgrep.specs.Searched.{BeginsReadBy};
@@ -165,7 +165,7 @@ fn read_more<R: Read, W: Sink>(
     output: &mut W,
 ) -> Result<usize, Stop>
     ensures kept { Keeps (W.taken output.old) (W.taken output.new) }
-    ensures filled { IfOk result (FillsBehind (bytes_buffered buffer.old) (bytes_buffered buffer.new)
+    ensures filled { IfOk result (FillsBuffer buffer.old buffer.new
         (R.remaining input.old) (R.remaining input.new)) }
     ensures reads { ReadsOn (R.remaining input.old) (R.remaining input.new) }
 {
