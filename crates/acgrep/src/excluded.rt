@@ -119,12 +119,14 @@ pub fn expanded<'a>(
         rules_said all.items ≡ expanded (rules_said rules.now) (listed_bytes texts.now)) }
 {
     let mut all = Vec::new(alloc);
+    let mut rest = rules;
     let mut left = texts;
-    for rule in rules {
-        let Some((text, others)) = left.split_first() else {
+    while let Some((text, others)) = left.split_first() {
+        if rest.is_empty() {
             return Ok(all);
-        };
-        add_rules(&mut all, *rule, text.as_slice())?;
+        }
+        add_rules(&mut all, rest[0], text.as_slice())?;
+        rest = &rest[1..];
         left = others;
     }
     Ok(all)

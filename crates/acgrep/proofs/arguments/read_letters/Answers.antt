@@ -1,6 +1,7 @@
 -- The digits at the front are a number, and a letter that is no digit turns something on.
 use Rattle.acgrep.proofs.Common.{Around, Flags, take_rest}
 use Rattle.std.proofs.Common.{◌∙◌, ◌∷◌, ◌≡◌, List, None, Some, ap, arith, rules, subst, sym, ℕ}
+use Rattle.std.specs.Prelude.{IfErr}
 use Rattle.aho_build.proofs.StoppedBuilds.{IfErr-given}
 use Rattle.acgrep.specs.Arguments.{AreDigits, AreRefused, letters_by, said, switch_by, valued_letter, with_number}
 use Rattle.acgrep.specs.Mistakes.{IsTold, wrong_letters}
@@ -43,11 +44,15 @@ loop-letter-preserved-then-digits-gt0 c =
 pub returns-in_err-number-clause-refused : goal.returns-in_err-number-clause-refused
 returns-in_err-number-clause-refused c =
     let digits = c.digits_in-digits.ensures in
-    rw c.loop-letter.invariant.read at IfErr-given (AreRefused (letters_by c.loop-letter.rest.now (said c.loop-letter.given))) c.from_residual.result c.in_err-number.field-0.0 c.from_residual.ensures.1
-    (digits_refused _ _ digits.digits digits.within c.if-digits-gt0.true _ _ c.in_err-number.ensures.refused)
+    let fails : IfErr c.from_residual.result (AreRefused (letters_by c.loop-letter.rest.now (said c.loop-letter.given))) =
+    IfErr-given (AreRefused (letters_by c.loop-letter.rest.now (said c.loop-letter.given))) c.from_residual.result c.in_err-number.field-0.0 c.from_residual.ensures.1
+    (digits_refused _ _ digits.digits digits.within c.if-digits-gt0.true _ _ c.in_err-number.ensures.refused) in
+    rw c.loop-letter.invariant.read at fails
 
 pub returns-in_err-number-clause-wrong : goal.returns-in_err-number-clause-wrong
 returns-in_err-number-clause-wrong c =
     let digits = c.digits_in-digits.ensures in
-    rw c.loop-letter.invariant.mistake at IfErr-given (IsTold (wrong_letters c.loop-letter.rest.now)) c.from_residual.result c.in_err-number.field-0.0 c.from_residual.ensures.1
-    (digits_wrong _ _ digits.digits digits.within c.if-digits-gt0.true _ c.in_err-number.ensures.refused c.in_err-number.ensures.wrong)
+    let fails : IfErr c.from_residual.result (IsTold (wrong_letters c.loop-letter.rest.now)) =
+    IfErr-given (IsTold (wrong_letters c.loop-letter.rest.now)) c.from_residual.result c.in_err-number.field-0.0 c.from_residual.ensures.1
+    (digits_wrong _ _ digits.digits digits.within c.if-digits-gt0.true _ c.in_err-number.ensures.refused c.in_err-number.ensures.wrong) in
+    rw c.loop-letter.invariant.mistake at fails

@@ -3,7 +3,7 @@ use Rattle.std.proofs.Common.{◌≡◌, List, Some, refl, rules, ℕ}
 use Rattle.acgrep.specs.Arguments.{Said, number_by, said, said_so, value_by, with_number}
 use Rattle.acgrep.specs.declared.all_options.Valued.{Valued}
 use Rattle.acgrep.specs.declared.all_options.Valued.TheVariants.{BinaryFiles, Devices, Excluded, ExcludedFolder, ExcludedFrom, Folders, Format, Included, Kind, Label, PatternFile, Regexp, RuleFile, Separator}
-use Rattle.acgrep.proofs.arguments.read_value.Goals.{in-BinaryFiles+in_ok-set_binary-in-BinaryFiles, in-Devices+in_ok-set_devices-in-Devices, in-Excluded+in_ok-add_rule-in-Excluded, in-ExcludedFolder+in_ok-add_folder_rule-in-ExcludedFolder, in-ExcludedFrom+in_ok-add_rule-in-ExcludedFrom, in-Folders+in_ok-set_folders-in-Folders, in-Format+in_ok-set_format-in-Format, in-Included+in_ok-add_rule-in-Included, in-Kind+in_ok-given-in-Kind, in-Label, in-PatternFile+in_ok-add_source-in-PatternFile, in-Regexp+in_ok-add_source-in-Regexp, in-RuleFile+in_ok-add_rule_file-in-RuleFile, in-Separator, in_default+in_ok-number-in_default}
+use Rattle.acgrep.proofs.arguments.read_value.Goals.{in-BinaryFiles+in_ok-set_switch-in-BinaryFiles, in-Devices+in_ok-set_switch-in-Devices, in-Excluded+in_ok-add_rule-in-Excluded, in-ExcludedFolder+in_ok-add_rule-in-ExcludedFolder, in-ExcludedFrom+in_ok-add_rule-in-ExcludedFrom, in-Folders+in_ok-set_switch-in-Folders, in-Format+in_ok-set_format-in-Format, in-Included+in_ok-add_rule-in-Included, in-Kind+in_ok-given-in-Kind, in-Label, in-PatternFile+in_ok-add_source-in-PatternFile, in-Regexp+in_ok-add_source-in-Regexp, in-RuleFile+in_ok-add_rule_file-in-RuleFile, in-Separator, in_default+in_ok-number-in_default}
 use Rattle.acgrep.proofs.arguments.read_value.Goals as goal
 
 -- all other options take a number
@@ -38,10 +38,10 @@ returns-clause-read c =
       | in-Included+in_ok-add_rule-in-Included w ↦ search rules
       | in-Excluded+in_ok-add_rule-in-Excluded w ↦ search rules
       | in-ExcludedFrom+in_ok-add_rule-in-ExcludedFrom w ↦ search rules
-      | in-ExcludedFolder+in_ok-add_folder_rule-in-ExcludedFolder w ↦ search rules
-      | in-Folders+in_ok-set_folders-in-Folders w ↦ search rules
-      | in-Devices+in_ok-set_devices-in-Devices w ↦ search rules
-      | in-BinaryFiles+in_ok-set_binary-in-BinaryFiles w ↦ search rules
+      | in-ExcludedFolder+in_ok-add_rule-in-ExcludedFolder w ↦ search rules
+      | in-Folders+in_ok-set_switch-in-Folders w ↦ search rules
+      | in-Devices+in_ok-set_switch-in-Devices w ↦ search rules
+      | in-BinaryFiles+in_ok-set_switch-in-BinaryFiles w ↦ search rules
       | in-RuleFile+in_ok-add_rule_file-in-RuleFile w ↦ search rules
       | in_default+in_ok-number-in_default w ↦
           let n = w.in_default in
