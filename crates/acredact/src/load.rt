@@ -11,7 +11,7 @@ ghost use Rattle.acredact.specs.Loading.{AreGiven, AreRead, CannotLoad, CannotLo
 ghost use Rattle.acredact.specs.Parts.{AddsSome, ArePartsBy, GivesPattern};
 ghost use Rattle.acredact.specs.Reads.{OfName, ReadsText};
 ghost use Rattle.acredact.specs.Tables.{secrets_of};
-ghost use Rattle.acredact.specs.Values.{GivesValue};
+ghost use Rattle.acredact.specs.Values.{GiveEach, GivesValue};
 ghost use Rattle.acredact.specs.declared.options.Word.TheVariants.{Pseudonym};
 ghost use Rattle.acredact.specs.declared.failure.Failure.TheVariants.{Other, Pattern};
 ghost use Rattle.tool_parts.specs.declared.failure.Failure.TheVariants.{OutOfMemory as OutOfMemoryFailure};
@@ -28,7 +28,7 @@ use crate::values::{
     are_refused, first_fault, is_some_value, values_in_text, values_of_entries, whole_in,
 };
 use chromesquid::{FromRead, Source};
-use std::alloc::{AllocError, Global};
+use std::alloc::Global;
 use std::io::Read;
 use tool_parts::failure;
 use tool_parts::reason::Reason;
@@ -249,6 +249,22 @@ fn add_values<'a, F>(
     if are_refused(lists.allow_empty, values) {
         return Err(Failure::NoValue(name));
     }
+    match add_each(lists, rules, values, list) {
+        Ok(()) => Ok(()),
+        Err(_) => Err(Failure::Other(failure::Failure::OutOfMemory)),
+    }
+}
+
+/// Adds the rules of these values, where they are not empty.
+fn add_each<F>(
+    lists: &Lists<'_, '_, F>,
+    rules: &mut Vec<Rule>,
+    values: &[&[u8]],
+    list: usize,
+) -> Result<(), LineFault>
+    ensures added { OnOk result (AddsSome
+        (GiveEach lists.now.parts (pieces_of values.now)) rules.old rules.new) }
+{
     let mut rest = values;
     while !rest.is_empty() {
         add_value(lists, rules, rest[0], list)?;
@@ -263,7 +279,7 @@ fn add_value<F>(
     rules: &mut Vec<Rule>,
     value: &[u8],
     list: usize,
-) -> Result<(), AllocError>
+) -> Result<(), LineFault>
     ensures added { OnOk result (AddsSome (GivesValue lists.now.parts value.now) rules.old rules.new) }
 {
     if value.is_empty() {
@@ -271,7 +287,7 @@ fn add_value<F>(
     }
     match add_pattern(lists, rules, value, list) {
         Ok(()) => Ok(()),
-        Err(_) => Err(AllocError),
+        Err(_) => Err(LineFault::OutOfMemory),
     }
 }
 
