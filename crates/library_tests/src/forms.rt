@@ -132,8 +132,11 @@ fn shell_by_each_way(rt: HostRuntime) {
 
 #[test]
 fn shell_as_bash_writes(rt: HostRuntime) {
-    let secret = b"a,~\x01\x07\n\x1b\x7f\xff";
-    let text = shown(rt.alloc(), shell_forms(rt.alloc(), secret)).expect(&rt, "memory");
+    let text = shown(
+        rt.alloc(),
+        shell_forms(rt.alloc(), b"a,~\x01\x07\n\x1b\x7f\xff"),
+    )
+    .expect(&rt, "memory");
     let row: &[u8] = b"\
         a,~\x01\x07\n\x1b\x7f\xff a,\\~\\\x01\\\x07\\\n\\\x1b\\\x7f\xff \
         a\\,~\x01\x07\n\x1b\x7f\xff a,~\\001\\a\\n\\E\\177\xff \
