@@ -1,7 +1,7 @@
 -- What is seen of files, one after another.
 use Rattle.acredact.proofs.Common.{Consumes-nil, Errors, Failure, Keeps, Look, Reason, SinkGhosts, Strict, TellsBytes, Verdict, concat, is_input, tells-later, tells-nothing}
 use Rattle.std.proofs.Common.{◌≡◌, inl, inr, ℕ, List, [], ◌∷◌, ◌++◌, Option, true, false, refl, sym, subst, ◌∙◌, arith}
-use Rattle.std.specs.Prelude.{Bool, ◌⊎◌, ◌<◌, ◌||◌, ◌&&◌, Result, Ok, Err, IfErr}
+use Rattle.std.specs.Prelude.{Bool, ◌⊎◌, ◌<◌, ◌||◌, ◌&&◌, Result, Ok, Err}
 use Rattle.acredact.specs.Builds.{patterns_by_given}
 use Rattle.acredact.specs.Arguments.{has}
 use Rattle.acredact.specs.Calls.{Call, IsUnreadLine, TellsOfFiles, gives_pattern, names_asked, reading_by}
@@ -154,27 +154,30 @@ module _ (Unmatched Matched Quiet Told : Type 0) where
 
 module _ {E : Type 0} (K : SinkGhosts E) (call : Call) (left left' : Option (List ℕ)) (old : Errors E) where
   -- what comes of a check whose patterns were loaded
-  pub check_seen : (secrets : List Secret) (between : Option (List ℕ)) (mid new : Errors E) (result : Result Verdict Failure) → gives_pattern call.given ≡ true → AreGiven (reading_by call) call.given secrets left between
-      → TellsDoubts K (has Strict call.given) call.given secrets old mid → SeesFiles K (quest_by call secrets) (names_asked call.given) result between left' mid new
-      → IfErr result (IsBuildFailure (patterns_by_given call.given (patterns_in secrets))) → CheckOutcome K call result left left' old new
-  check_seen secrets between mid new (Ok verdict) some loaded doubts sees fails =
-      let (lines, is_all, seen, told) = sees.seen in
-      record {
-        seen = (lines, is_all, record { sees = record { some = some; secrets = secrets; between = between; loaded = loaded; seen = seen }; between = mid; doubts = doubts; told = told });
-        quiet = λ all. record { secrets = secrets; between = between; loaded = loaded; doubts = subst (λ (e : Errors E). TellsDoubts K (has Strict call.given) call.given secrets old e) (sym (sees.quiet all)) doubts };
-        told = tt;
-        fails = tt;
-      }
-  check_seen secrets between mid new (Err failure) some loaded doubts sees fails = record {
-    seen = tt;
-    quiet = tt;
-    told = tells_both K (IsCheckLine call) old mid new (doubts_tell K (IsCheckLine call) (has Strict call.given) call.given secrets old mid (λ lax line member. inr (lax, secrets, left, between, loaded, member)) doubts)
-        (tells_weaker K (IsUnreadLine (names_asked call.given)) (IsCheckLine call) mid new (λ line is. inl is) sees.told);
-    fails = inr (inr (elim fails [
-      | inl refused ↦ inl (secrets, left, between, loaded, refused)
-      | inr memory ↦ inr (inl memory)
-    ]));
-  }
+  module _ (secrets : List Secret) (between : Option (List ℕ)) (mid new : Errors E) (loaded : AreGiven (reading_by call) call.given secrets left between) (doubts : TellsDoubts K (has Strict call.given) call.given secrets old mid) where
+    pub check_seen : {X : Type 0} (verdict : Verdict) → gives_pattern call.given ≡ true → SeesFiles {X = X} K (quest_by call secrets) (names_asked call.given) (Ok verdict) between left' mid new
+        → CheckOutcome K call (Ok verdict) left left' old new
+    check_seen verdict some sees =
+        let (lines, is_all, seen, told) = sees.seen in
+        record {
+          seen = (lines, is_all, record { sees = record { some = some; secrets = secrets; between = between; loaded = loaded; seen = seen }; between = mid; doubts = doubts; told = told });
+          quiet = λ all. record { secrets = secrets; between = between; loaded = loaded; doubts = subst (λ (e : Errors E). TellsDoubts K (has Strict call.given) call.given secrets old e) (sym (sees.quiet all)) doubts };
+          told = tt;
+          fails = tt;
+        }
+
+    -- or whose files were not all looked at
+    pub check_unseen : (failure : Failure) → Tells K (IsUnreadLine (names_asked call.given)) mid new → IsBuildFailure (patterns_by_given call.given (patterns_in secrets)) failure → CheckOutcome K call (Err failure) left left' old new
+    check_unseen failure told fails = record {
+      seen = tt;
+      quiet = tt;
+      told = tells_both K (IsCheckLine call) old mid new (doubts_tell K (IsCheckLine call) (has Strict call.given) call.given secrets old mid (λ lax line member. inr (lax, secrets, left, between, loaded, member)) doubts)
+          (tells_weaker K (IsUnreadLine (names_asked call.given)) (IsCheckLine call) mid new (λ line is. inl is) told);
+      fails = inr (inr (elim fails [
+        | inl refused ↦ inl (secrets, left, between, loaded, refused)
+        | inr memory ↦ inr (inl memory)
+      ]));
+    }
 
   -- and of one that ends before
   pub check_refused : (failure : Failure) → CheckFails call failure → CheckOutcome K call (Err failure) left left' old old

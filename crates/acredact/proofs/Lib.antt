@@ -38,6 +38,8 @@ mod Free
 mod Hiding
 mod Calls
 mod Warned
+-- what comes of files that are redacted
+mod RedactedCalls
 mod Given
 -- files that are replaced in place
 mod PlacedCalls

@@ -13,7 +13,7 @@ use Rattle.secret_rules.specs.OpenLines.{CanSearch}
 use Rattle.tool_parts.specs.Arguments.{kind_by}
 use Rattle.acredact.specs.Arguments.{Given, GivesNoPattern, covers_asked, has, is_cover, kind_asked, last_value, words_asked}
 use Rattle.acredact.specs.Builds.{patterns_by_given}
-use Rattle.acredact.specs.Calls.{gives_pattern, gives_value}
+use Rattle.acredact.specs.Calls.{call_of, gives_pattern, gives_value, reading_by, rules_asked}
 use Rattle.acredact.specs.Forms.{forms_from}
 use Rattle.acredact.specs.Loading.{AreGiven, AreRead, OptionGives, Reading, Rules, form_by, reading_of_lists, rules_for, values_in_text}
 use Rattle.acredact.specs.Looks.{CanLook}
@@ -153,6 +153,11 @@ pub reading_from : {F X : Type 0} (D : Folders F X) (lists : Lists F) (folder : 
     → P (reading_of_lists D lists) → P (record { holds = D.holds folder; refuses = D.refuses folder; environment = D.environment folder; rules = rules })
 reading_from {F} D lists folder rules same alike P is =
     rw (← same, ← alike) is
+
+-- so what they give is what a call asks for
+pub given_by : {F X : Type 0} (D : Folders F X) (folder : F) (given : List Given) (lists : Lists F) → lists.folder.now ≡ folder → rules_for lists ≡ rules_asked given
+    → {secrets : List Secret} {left left' : Option (List ℕ)} → AreGiven (reading_of_lists D lists) given secrets left left' → AreGiven (reading_by (call_of D folder given)) given secrets left left'
+given_by D folder given lists same alike {secrets} {left} {left'} is = reading_from D lists folder (rules_asked given) same alike (λ r. AreGiven r given secrets left left') is
 
 pub gives_none : (given : List Given) → gives_pattern given ≡ false → GivesNoPattern given
 gives_none given none =

@@ -101,15 +101,14 @@ module _ {E : Type 0} (K : SinkGhosts E) (call : Call) where
   all_doubts_told secrets errors errors' told = doubts_tell K (IsRuledTold call) false call.given secrets errors errors' (λ lax line member. inr (inr (inl (secrets, member)))) told
 
   -- behind what is told of them what was loaded decides what comes of the call
-  pub ruled_behind : (made load : RuledLoad) → made ≡ load → (result : Result Bool RuledFailure) (left between left' held held' : Option (List ℕ)) (errors meanwhile errors' : Errors E)
+  pub ruled_behind : (load : RuledLoad) (result : Result Bool RuledFailure) (left between left' held held' : Option (List ℕ)) (errors meanwhile errors' : Errors E)
       → AreRuledLoaded (reading_by call) call.given load left between → TellsDoubts K false call.given load.secrets errors meanwhile
-      → RuledOutcome K call made result between left' held held' meanwhile errors' → RuledCall K call result left left' held held' errors errors'
-  ruled_behind made load same result left between left' held held' errors meanwhile errors' loaded doubted outcome =
+      → RuledOutcome K call load result between left' held held' meanwhile errors' → RuledCall K call result left left' held held' errors errors'
+  ruled_behind load result left between left' held held' errors meanwhile errors' loaded doubted =
       outcome_behind K call result errors meanwhile errors' (all_doubts_told load.secrets errors meanwhile doubted)
       (λ all whole. record { load = load; between = between; loaded = loaded; is = whole })
       (λ begun. inr (record { load = load; between = between; loaded = loaded; is = begun }))
       (λ numbers. record { load = load; between = between; loaded = loaded; is = record { meanwhile = meanwhile; doubted = doubted; numbers = numbers } })
-      (subst (λ (l : RuledLoad). RuledOutcome K call l result between left' held held' meanwhile errors') same outcome)
 
   -- how many lines were too long may be told
   long_lines : (count : ℕ) (errors errors' : Errors E) → TellsBytes K errors errors' (long_told (most_asked call.given) count) → Tells K (IsRuledTold call) errors errors'

@@ -17,7 +17,7 @@ use Rattle.acredact.specs.Doubts.{TellsDoubts, all_doubt_lines}
 use Rattle.acredact.specs.Files.{BeginsWriting, WritesText}
 use Rattle.acredact.specs.LineRules.{AreRulesRead, most_asked}
 use Rattle.acredact.specs.LongLines.{TellsLong}
-use Rattle.acredact.specs.Loading.{AreGiven, IsKeyGiven, Reading, key_in, key_lent, secrets_by}
+use Rattle.acredact.specs.Loading.{AreGiven, IsKeyGiven, Reading, key_lent, secrets_by}
 use Rattle.acredact.specs.Reads.{EachName, OfName}
 use Rattle.acredact.specs.RuleLines.{IsRuledLine, too_long_line}
 use Rattle.acredact.specs.RunCounts.{CountsTextRuns, CountsAllRuns, CountsFileRuns, HaveRuns, IsRunsLine, TellsAnyTotals, TellsRunTotals}
@@ -32,7 +32,6 @@ use Rattle.acredact.specs.declared.patterns.Rule.{Rule as PatternRule}
 use Rattle.acredact.specs.declared.ruled_failure.RuledFailure.{RuledFailure}
 use Rattle.acredact.specs.declared.ruled_files.Lined.{Lined}
 use Rattle.acredact.specs.declared.ruled_load.GivenRules.{GivenRules}
-use Rattle.acredact.specs.declared.ruled_load.KeyedRules.{KeyedRules}
 use Rattle.acredact.specs.declared.ruled_load.LinesReady.{LinesReady}
 use Rattle.acredact.specs.declared.streams.Streams.{Streams}
 use Rattle.acredact.specs.declared.summary.Volume.{Volume}
@@ -170,18 +169,10 @@ load_as secrets rules key = record { secrets = secrets; rules = rules; key = key
 abbrev pub ruled_load : List PatternRule → List Rule → Option (Bor (List ℕ)) → RuledLoad
 ruled_load secrets rules key = load_as (secrets_of secrets) rules (key_lent key)
 
--- these patterns and rules with a key
-abbrev pub load_in : KeyedRules → RuledLoad
-load_in made = load_as (secrets_of made.secrets.rules.items) made.rules (key_in made.secrets.key)
-
--- those that some arguments ask for were read, and the key beside them
-module _ {F X : Type 0} (D : Folders F X) (folder : F) (items : List Item) where
-  abbrev pub AreRulesGivenBy : (left left' : Option (List ℕ)) → GivenRules → Type 0
-  AreRulesGivenBy left left' made = AreRulesGiven (reading_by (call_of D folder (all_given items))) (all_given items) (secrets_of made.secrets.items) made.rules left left'
-
-  abbrev pub AreRulesKeyedBy : (left left' : Option (List ℕ)) → KeyedRules → Type 0
-  AreRulesKeyedBy left left' made =
-      AreRuledLoaded (reading_by (call_of D folder (all_given items))) (all_given items) (load_in made) left left'
+-- those that some arguments ask for were read
+abbrev pub AreRulesGivenBy : {F X : Type 0} → Folders F X → F → List Item → (left left' : Option (List ℕ)) → GivenRules → Type 0
+AreRulesGivenBy D folder items left left' made =
+    AreRulesGiven (reading_by (call_of D folder (all_given items))) (all_given items) (secrets_of made.secrets.items) made.rules left left'
 
 -- the patterns that are searched for: all that occurs counts
 abbrev pub patterns_by_case : List Given → List (List ℕ) → Patterns

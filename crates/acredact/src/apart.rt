@@ -4,7 +4,7 @@ ghost use Rattle.std.specs.Prelude.{◌≡◌, ◌⊎◌, ℕ, List, IfErr, IfOk
 ghost use Rattle.tool_parts.specs.Arguments.{texts};
 ghost use Rattle.tool_parts.specs.Telling.{TellsBytes};
 ghost use Rattle.tool_parts.specs.declared.failure.Failure.TheVariants.{OutOfMemory, Usage};
-ghost use Rattle.acredact.specs.Apart.{IsSetApart, IsNotApart, IsToldOf, Puts, names_file, next_behind, seeks_any, status_behind, told_by, told_lines, unnamed_lines};
+ghost use Rattle.acredact.specs.Apart.{IsSetApart, IsNotApart, IsToldOf, Puts, names_file, next_behind, status_behind, told_by, told_lines, unnamed_lines};
 ghost use Rattle.acredact.specs.Reads.{bytes_of_names};
 ghost use Rattle.acredact.specs.Arguments.{all_given};
 ghost use Rattle.acredact.specs.Calls.{IsWrongFailure};
@@ -209,20 +209,14 @@ pub fn tell_apart<'a, E: Sink>(
 fn told_by(given: &[Item<'_>], none: bool) -> Told
     ensures told { result ≡ told_by (all_given given.now) none }
 {
-    if none || has(given, Word::Help) || has(given, Word::Version) || !seeks_any(given) {
+    let seeks = gives_pattern(given) || gives_rules(given);
+    if none || has(given, Word::Help) || has(given, Word::Version) || !seeks {
         return Told::Nothing;
     }
     if has(given, Word::Output) || !has(given, Word::File) {
         return Told::EachAlone;
     }
     Told::Each
-}
-
-/// Whether files are read for something: for patterns, or for what rules mark.
-fn seeks_any(given: &[Item<'_>]) -> bool
-    ensures any { result ≡ seeks_any (all_given given.now) }
-{
-    gives_pattern(given) || gives_rules(given)
 }
 
 /// Tells each of these files, where that is to be done.

@@ -1,20 +1,18 @@
 //! The rules of all patterns, files and tables that are given.
 
-ghost use Rattle.std.specs.Prelude.{◌≡◌, Option, Some, IfErr, IfOk, OnOk, false};
+ghost use Rattle.std.specs.Prelude.{◌≡◌, IfErr, IfOk, OnOk, false};
 ghost use Rattle.aho_core.specs.Replacement.{pieces_of};
 ghost use Rattle.aho_devices.specs.Counts.{counted};
 ghost use Rattle.tool_parts.specs.Streams.{bytes_left};
 ghost use Rattle.acredact.specs.Arguments.{all_given, given_of, last_value};
 ghost use Rattle.acredact.specs.Calls.{rules_asked};
-ghost use Rattle.acredact.specs.Forms.{HaveForms, forms_asked};
-ghost use Rattle.acredact.specs.Loading.{AreGiven, AreRead, CannotLoad, CannotLoadAll, CannotLoadKey, CannotLoadOne, CannotRead, GivesEnvironment, GivesKey, GivesSecrets, GivesValues, HoldsListed, HoldsSecrets, HoldsVariables, HoldsWhole, IsEnvironmentFailure, IsFileFailure, IsKeyFailure, IsKeyGiven, IsListedFailure, IsValuesFailure, IsVariablesFailure, IsWholeFailure, IsPatternFailure, IsTextFailure, IsTextReason, OptionGives, form_by, is_failed_text, key_in, reading_of_lists, rules_for};
+ghost use Rattle.acredact.specs.Loading.{AreGiven, AreRead, CannotLoad, CannotLoadAll, CannotLoadKey, CannotLoadOne, CannotRead, GivesEnvironment, GivesSecrets, GivesValues, HoldsListed, HoldsSecrets, HoldsVariables, HoldsWhole, IsEnvironmentFailure, IsFileFailure, IsKeyGiven, IsListedFailure, IsValuesFailure, IsVariablesFailure, IsWholeFailure, IsPatternFailure, IsTextFailure, IsTextReason, OptionGives, form_by, is_failed_text, key_in, reading_of_lists, rules_for};
 ghost use Rattle.acredact.specs.Parts.{AddsSome, ArePartsBy, GivesPattern};
 ghost use Rattle.acredact.specs.Reads.{OfName, ReadsText};
 ghost use Rattle.acredact.specs.Tables.{secrets_of};
 ghost use Rattle.acredact.specs.Values.{GiveEach, GivesValue};
 ghost use Rattle.acredact.specs.declared.options.Word.TheVariants.{Pseudonym};
-ghost use Rattle.acredact.specs.declared.failure.Failure.TheVariants.{Other, Pattern};
-ghost use Rattle.tool_parts.specs.declared.failure.Failure.TheVariants.{OutOfMemory as OutOfMemoryFailure};
+ghost use Rattle.acredact.specs.declared.failure.Failure.TheVariants.{Pattern};
 ghost use Rattle.acredact.specs.declared.patterns.LineFault.TheVariants.{OutOfMemory};
 
 use crate::failure::Failure;
@@ -97,32 +95,16 @@ pub fn rules<'a, F: Folder, I: Read>(
         (secrets_of rules.items) (bytes_left input.old) (bytes_left input.new)) }
     ensures fails { IfErr result (CannotLoadAll (reading_of_lists F.Folder lists.now) (all_given items.now)) }
 {
-    match read_rules(lists, items, input) {
-        Ok(rules) => with_forms(lists, rules),
-        Err(failure) => Err(failure),
-    }
-}
-
-/// These rules, and behind them those of their forms.
-fn with_forms<'a, F>(lists: &Lists<'_, '_, F>, rules: Vec<Rule>) -> Result<Vec<Rule>, Failure<'a>>
-    ensures formed { IfOk result (λ made. HaveForms (rules_for lists.now).forms rules.items made.items) }
-    ensures fails { IfErr result (λ failure. failure ≡ Other OutOfMemoryFailure) }
-{
+    let mut rules = match read_rules(lists, items, input) {
+        Ok(rules) => rules,
+        Err(failure) => return Err(failure),
+    };
     match lists.forms {
         None => Ok(rules),
-        Some(value) => with_asked(lists.alloc, rules, value),
-    }
-}
-
-/// These rules, and behind them those of the forms that a value names.
-fn with_asked<'a>(alloc: Global, rules: Vec<Rule>, value: &str) -> Result<Vec<Rule>, Failure<'a>>
-    ensures formed { IfOk result (λ made. HaveForms (forms_asked (Some value.now)) rules.items made.items) }
-    ensures fails { IfErr result (λ failure. failure ≡ Other OutOfMemoryFailure) }
-{
-    let mut rules = rules;
-    match add_forms(alloc, &mut rules, value) {
-        Ok(()) => Ok(rules),
-        Err(_) => Err(Failure::Other(failure::Failure::OutOfMemory)),
+        Some(value) => {
+            add_forms(lists.alloc, &mut rules, value)?;
+            Ok(rules)
+        }
     }
 }
 
@@ -171,23 +153,10 @@ pub fn key_of<'a, F: Folder, I: Read>(
         (key_in key) (bytes_left input.old) (bytes_left input.new)) }
     ensures fails { IfErr result (CannotLoadKey (reading_of_lists F.Folder lists.now) (all_given items.now)) }
 {
-    match last_value(items, Word::Pseudonym) {
-        Some(name) => read_key(lists, name, input),
-        None => Ok(None),
-    }
-}
-
-/// The key in the file of a name.
-fn read_key<'a, F: Folder, I: Read>(
-    lists: &Lists<'_, '_, F>,
-    name: &'a str,
-    input: &mut FromRead<I>,
-) -> Result<Option<Vec<u8>>, Failure<'a>>
-    ensures key { IfOk result (λ key.
-        GivesKey (reading_of_lists F.Folder lists.now) name.now
-        (key_in key) (bytes_left input.old) (bytes_left input.new)) }
-    ensures fails { IfErr result (IsKeyFailure (reading_of_lists F.Folder lists.now) name.now) }
-{
+    let name = match last_value(items, Word::Pseudonym) {
+        Some(name) => name,
+        None => return Ok(None),
+    };
     match read_list(lists, name, input) {
         Ok(key) => {
             if key.len() < LEAST_KEY {

@@ -49,7 +49,10 @@ fn put_counted<W: Sink>(
     ensures counted { CountsThese (found.now ∷ []) counts.old counts.new }
 {
     count_match(counts, found);
-    write_piece(sink, replacements, found.pattern().as_usize())
+    match replacements.get(found.pattern().as_usize()) {
+        Some(replacement) => write_whole(sink, replacement),
+        None => Ok(()),
+    }
 }
 
 /// One match more of its pattern, where that has a count. A count stops at the greatest number.
@@ -59,20 +62,5 @@ fn count_match(counts: &mut [u64], found: &Match)
     let number = found.pattern().as_usize();
     if number < counts.len() {
         counts[number] = counts[number].saturating_add(1);
-    }
-}
-
-/// Writes what stands in the place of the pattern of this number.
-fn write_piece<W: Sink>(
-    sink: &mut W,
-    replacements: &[&[u8]],
-    number: usize,
-) -> Result<(), StreamError>
-    ensures written { WritesPiece W.Sink result sink.old sink.new
-        (slice_index_or (pieces_of replacements.now) number []) }
-{
-    match replacements.get(number) {
-        Some(replacement) => write_whole(sink, replacement),
-        None => Ok(()),
     }
 }

@@ -1,7 +1,6 @@
 //! A call with rules: each line is redacted by what rules mark in it, and by the patterns that occur in it.
 
-ghost use Rattle.std.specs.Prelude.{◌≡◌, ◌⊎◌, ◌++◌, ◌∷◌, [], IfOk, OnOk, map, true};
-ghost use Rattle.aho_core.specs.Replacement.{pieces_of};
+ghost use Rattle.std.specs.Prelude.{◌≡◌, ◌⊎◌, IfOk, OnOk, true};
 ghost use Rattle.chromesquid.specs.Searcher.{IsBuiltFrom};
 ghost use Rattle.secret_rules.specs.OpenLines.{CanSearch};
 ghost use Rattle.tool_parts.specs.Names.{name_bytes};
@@ -21,11 +20,11 @@ use crate::patterns::{Rule, replacements_of};
 use crate::prepare::{key_by, text_of};
 use crate::ruled_failure::{RuledFailure, tell_long, tell_ruled};
 use crate::ruled_files::{Lined, cover_files, line_cover};
-use crate::ruled_load::{load_keyed, ready_for_lines};
+use crate::ruled_load::{GivenRules, load_rules, ready_for_lines};
 use crate::run_counts::tell_runs;
 use crate::run_pieces::RunPieces;
 use crate::run_summary::last_of;
-use crate::secrets::key_bytes;
+use crate::secrets::{key_bytes, load_key};
 use crate::streams::Streams;
 use crate::summary::Volume;
 use chromesquid::any::Pieces;
@@ -70,18 +69,22 @@ fn redact_given<'a, F: Folder, I: Read, W: Write, E: Sink>(
         result streams.old streams.new }
     ensures flushed { OnOk result (streams.new.output.device.flushed ≡ true) }
 {
-    let rules = match load_keyed(alloc, given, folder, &mut streams.input) {
-        Ok(rules) => rules,
+    let GivenRules { secrets, rules } = match load_rules(alloc, given, folder, &mut streams.input) {
+        Ok(loaded) => loaded,
         Err(failure) => return Err(failure),
     };
-    let key = key_bytes(&rules.secrets);
-    let secrets = rules.secrets.rules.as_slice();
+    let keyed = match load_key(alloc, given, secrets, folder, &mut streams.input) {
+        Ok(keyed) => keyed,
+        Err(failure) => return Err(RuledFailure::Plain(failure)),
+    };
+    let key = key_bytes(&keyed);
+    let secrets = keyed.rules.as_slice();
     match ready_for_lines(alloc, given, secrets, &mut streams.errors) {
         Ok(ready) => redact_by(
             alloc,
             given,
             secrets,
-            &rules.rules,
+            &rules,
             key,
             folder,
             &ready.searcher,
@@ -195,26 +198,13 @@ fn texts_of<'r>(
 {
     let usual = text_of(given);
     let mut texts = replacements_of(alloc, secrets, usual)?;
-    push_texts(&mut texts, line_rules, usual)?;
-    Ok(texts)
-}
-
-/// Adds the text of each rule, its own or the usual one, and that of long lines.
-fn push_texts<'r>(
-    texts: &mut Vec<&'r [u8]>,
-    line_rules: &'r [LineRule],
-    usual: &'r [u8],
-) -> Result<(), AllocError>
-    ensures pushed { OnOk result (pieces_of texts.new.items ≡ pieces_of texts.old.items
-        ++ (map (own_text usual.entry.now) line_rules.entry.now ++ (usual.entry.now ∷ []))) }
-{
     let mut rest = line_rules;
     while !rest.is_empty() {
         texts.push(own_text(&rest[0], usual))?;
         rest = &rest[1..];
     }
     texts.push(usual)?;
-    Ok(())
+    Ok(texts)
 }
 
 /// The text of a rule, its own or the usual one.

@@ -5,7 +5,7 @@ ghost use Rattle.secret_rules.specs.OpenLines.{CanSearch};
 ghost use Rattle.tool_parts.specs.Streams.{bytes_left};
 ghost use Rattle.acredact.specs.Arguments.{all_given};
 ghost use Rattle.acredact.specs.Doubts.{TellsDoubts};
-ghost use Rattle.acredact.specs.Ruled.{AreRulesGivenBy, AreRulesKeyedBy, IsReadyForLines};
+ghost use Rattle.acredact.specs.Ruled.{AreRulesGivenBy, IsReadyForLines};
 ghost use Rattle.acredact.specs.Tables.{HaveNoEmpty, secrets_of};
 
 use crate::doubts::tell_of_lists;
@@ -16,7 +16,6 @@ use crate::options::{Item, Word, has};
 use crate::patterns::{Rule, patterns_of, split_at};
 use crate::prepare::names;
 use crate::ruled_failure::RuledFailure;
-use crate::secrets::{Secrets, load_key};
 use chromesquid::{AhoCorasick, Automaton, BuildError, FromRead, MatchKind, Sink};
 use secret_rules::Rules;
 use std::alloc::Global;
@@ -29,15 +28,6 @@ use tool_parts::errors::Errors;
 pub struct GivenRules {
     /// The patterns.
     pub secrets: Vec<Rule>,
-    /// The rules.
-    pub rules: Rules,
-}
-
-/// The same with the key of pseudonyms.
-#[derive(Drop)]
-pub struct KeyedRules {
-    /// The patterns, and the key, where there is one.
-    pub secrets: Secrets,
     /// The rules.
     pub rules: Rules,
 }
@@ -68,25 +58,6 @@ pub fn load_rules<'a, F: Folder, I: Read>(
     match line_rules_of(&lists, given, input) {
         Ok(rules) => Ok(GivenRules { secrets, rules }),
         Err(failure) => Err(failure),
-    }
-}
-
-/// Loads all patterns and rules, and the key of pseudonyms, where they are asked for.
-pub fn load_keyed<'a, F: Folder, I: Read>(
-    alloc: Global,
-    given: &[Item<'a>],
-    folder: &F,
-    input: &mut FromRead<I>,
-) -> Result<KeyedRules, RuledFailure<'a>>
-    ensures loaded { IfOk result (AreRulesKeyedBy F.Folder folder.now given.now (bytes_left input.old) (bytes_left input.new)) }
-{
-    let GivenRules { secrets, rules } = match load_rules(alloc, given, folder, input) {
-        Ok(loaded) => loaded,
-        Err(failure) => return Err(failure),
-    };
-    match load_key(alloc, given, secrets, folder, input) {
-        Ok(secrets) => Ok(KeyedRules { secrets, rules }),
-        Err(failure) => Err(RuledFailure::Plain(failure)),
     }
 }
 

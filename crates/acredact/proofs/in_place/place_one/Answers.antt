@@ -1,8 +1,7 @@
 -- A new file is made, filled, and takes the place; or the file stays as it was.
 use Rattle.acredact.proofs.Common.{bytes_left, is_input}
 use Rattle.std.proofs.Common.{rules, ◌≡◌, inl, inr, refl, true, false}
-use Rattle.acredact.specs.Files.{redactor_of, work_of}
-use Rattle.acredact.specs.InPlace.{IsSparedLine}
+use Rattle.acredact.specs.InPlace.{IsSparedLine, work_for}
 use Rattle.acredact.proofs.PlacedCalls.{all_redacted, place_settled, told_of_one}
 use Rattle.acredact.proofs.Statuses.{tells_one}
 use Rattle.acredact.proofs.Totals.{one_counts}
@@ -29,7 +28,7 @@ returns-in-Ok g c =
       outcome = λ p of.
           let does = run.ensures.done p of in
           let files = does.outcome in
-          let work = work_of g.F.Folder c.args.job.now (redactor_of c.args.job.now p) in
+          let work = work_for g.F.Folder c.args.job.now p in
           place_settled g.O.File.Write g.E.Sink g.O.Outputs work c.args.name.now run.result c.settle.result c.args.outputs.now c.make.new.self c.settle.new.outputs c.args.streams.now run.new.streams c.settle.new.streams
           c.args.counts.now run.new.counts c.args.volume.now run.new.volume _ (told_of_one g.O.File.Write g.E.Sink _ c.args.name.now refl run.result _ _ files)
           (λ all puts. (
