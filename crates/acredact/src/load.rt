@@ -10,7 +10,7 @@ ghost use Rattle.acredact.specs.Loading.{AreGiven, AreRead, CannotLoad, CannotLo
 ghost use Rattle.acredact.specs.Parts.{AddsSome, ArePartsBy, GivesPattern};
 ghost use Rattle.acredact.specs.Reads.{OfName, ReadsText};
 ghost use Rattle.acredact.specs.Tables.{secrets_of};
-ghost use Rattle.acredact.specs.Values.{GiveEach, GivesValue};
+ghost use Rattle.acredact.specs.Values.{GivesValue};
 ghost use Rattle.acredact.specs.declared.options.Word.TheVariants.{Pseudonym};
 ghost use Rattle.acredact.specs.declared.failure.Failure.TheVariants.{Pattern};
 ghost use Rattle.acredact.specs.declared.patterns.LineFault.TheVariants.{OutOfMemory};
@@ -24,7 +24,7 @@ use crate::parts::add_parts;
 use crate::patterns::{BadLine, Form, LineFault, Place, Rule, add_line, add_lines, mark_of};
 use crate::values::{are_refused, first_fault, values_in_text, values_of_entries, whole_in};
 use chromesquid::{FromRead, Source};
-use std::alloc::Global;
+use std::alloc::{AllocError, Global};
 use std::io::Read;
 use tool_parts::failure;
 use tool_parts::reason::Reason;
@@ -224,22 +224,6 @@ fn add_values<'a, F>(
     if are_refused(lists.allow_empty, values) {
         return Err(Failure::NoValue(name));
     }
-    match add_each(lists, rules, values, list) {
-        Ok(()) => Ok(()),
-        Err(_) => Err(Failure::Other(failure::Failure::OutOfMemory)),
-    }
-}
-
-/// Adds the rules of these values, where they are not empty.
-fn add_each<F>(
-    lists: &Lists<'_, '_, F>,
-    rules: &mut Vec<Rule>,
-    values: &[&[u8]],
-    list: usize,
-) -> Result<(), LineFault>
-    ensures added { OnOk result (AddsSome
-        (GiveEach lists.now.parts (pieces_of values.now)) rules.old rules.new) }
-{
     let mut rest = values;
     while !rest.is_empty() {
         add_value(lists, rules, rest[0], list)?;
@@ -254,7 +238,7 @@ fn add_value<F>(
     rules: &mut Vec<Rule>,
     value: &[u8],
     list: usize,
-) -> Result<(), LineFault>
+) -> Result<(), AllocError>
     ensures added { OnOk result (AddsSome (GivesValue lists.now.parts value.now) rules.old rules.new) }
 {
     if value.is_empty() {
@@ -262,7 +246,7 @@ fn add_value<F>(
     }
     match add_pattern(lists, rules, value, list) {
         Ok(()) => Ok(()),
-        Err(_) => Err(LineFault::OutOfMemory),
+        Err(_) => Err(AllocError),
     }
 }
 

@@ -13,7 +13,7 @@ ghost use Rattle.acredact.specs.Counts.{lines_of_rules, secret_lines};
 ghost use Rattle.acredact.specs.Files.{CanDo};
 ghost use Rattle.acredact.specs.RuledChecks.{ListsByRules, RuledClean, RuledFindingsBegin, RuledFound};
 ghost use Rattle.acredact.specs.Ruled.{NotesAsked, RuledAsked, RuledBegins, RuledCountsAsked, RuledTells};
-ghost use Rattle.acredact.specs.Statuses.{IsIdle, SaysOfCall, SaysOfRedaction};
+ghost use Rattle.acredact.specs.Statuses.{IsIdle, SaysOfCall};
 ghost use Rattle.acredact.specs.Sums.{sums_of};
 ghost use Rattle.acredact.specs.Tables.{secrets_of};
 ghost use Rattle.acredact.specs.Summaries.{totals_text};
@@ -213,21 +213,6 @@ fn answer<F: Folder, I: Read, W: Write, E: Sink>(
             &mut streams.errors,
         );
     }
-    redact_plain(alloc, given, folder, streams)
-}
-
-/// Does what the options and files ask for, where that is no check and there are no rules, and answers the exit status.
-fn redact_plain<F: Folder, I: Read, W: Write, E: Sink>(
-    alloc: Global,
-    given: &[Item<'_>],
-    folder: &F,
-    streams: &mut Streams<'_, I, W, E>,
-) -> u8
-    ensures says { SaysOfRedaction W.Write E.Sink F.Folder folder.now (all_given given.now)
-        result streams.old streams.new }
-    ensures flushed { result ≡ 0 → streams.new.output.device.flushed ≡ true }
-    ensures bound { (result ≡ 0) ⊎ (result ≡ 2) }
-{
     match redact_asked(alloc, given, folder, streams) {
         Ok(true) => 0,
         Ok(false) => FAILED,
@@ -235,7 +220,7 @@ fn redact_plain<F: Folder, I: Read, W: Write, E: Sink>(
     }
 }
 
-/// Does what the options and files ask for, and answers whether all files were read.
+/// Redacts what the options and files ask for, without rules, and answers whether all files were read.
 fn redact_asked<'a, F: Folder, I: Read, W: Write, E: Sink>(
     alloc: Global,
     given: &[Item<'a>],
