@@ -103,7 +103,7 @@ module _ {R : Type 0} {Reads : Readers R} {W E : Type 0} (Writes : Writers W) (K
     CountsTold errors = MatchBool (counts_asked call.given) (TellsCounts K call.given rules counts volume mid.errors errors) (errors ≡ mid.errors)
 
     abbrev IsTold : List ℕ → Type 0
-    IsTold line = IsLineOf call (OutputFails old.output mid.output) line
+    IsTold = IsLineOf call (OutputFails old.output mid.output)
 
     -- the counts are told, or they are not
     pub call_told : (all : Bool) (result : Result Bool Failure) (errors : Errors E) → FilesOutcome Writes K (work_by call (loaded_as rules key)) (Ok all) old mid → Counted all → IfOk result (λ done. done ≡ all)

@@ -1,6 +1,6 @@
 //! A call of the program over its arguments, files and streams.
 
-ghost use Rattle.std.specs.Prelude.{◌≡◌, ◌⊎◌, ◌<◌, ◌≤◌, IfErr, IfOk, OnErr, OnOk, false, true};
+ghost use Rattle.std.specs.Prelude.{◌≡◌, ◌⊎◌, ◌<◌, ◌≤◌, IfErr, IfOk, OnOk, false, true};
 ghost use Rattle.chromesquid.specs.Searcher.{ForItsPatterns};
 ghost use Rattle.tool_parts.specs.Arguments.{texts};
 ghost use Rattle.tool_parts.specs.Streams.{WritesBytes};
@@ -316,10 +316,15 @@ fn tell_totals<E: Sink>(
     tally: &[u64],
     volume: Volume,
 ) -> Result<(), AllocError>
+    requires asked { counts_given given.now ≡ true }
     ensures told { OnOk result (TellsBytes E.Sink errors.old errors.new
         (totals_text (all_given given.now) (lines_of_rules rules.now)
         (sums_of (secrets_of rules.now) tally.now) volume)) }
-    ensures untold { OnErr result (errors.new ≡ errors.old) }
+    ensures lines { Tells E.Sink (IsCountsLine (all_given given.now) (secrets_of rules.now))
+        errors.old errors.new }
+    ensures these { Tells E.Sink (λ line. line ≡ totals_text (all_given given.now)
+        (secret_lines (secrets_of rules.now)) (sums_of (secrets_of rules.now) tally.now) volume)
+        errors.old errors.new }
 {
     let sums = sums_of(alloc, rules, tally)?;
     let sums = sums.as_slice();

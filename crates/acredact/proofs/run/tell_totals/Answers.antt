@@ -6,10 +6,11 @@ use Rattle.acredact.specs.Counts.{lines_of_rules}
 use Rattle.acredact.specs.Summaries.{counts_told_by, totals_text}
 use Rattle.acredact.specs.Sums.{sums_of}
 use Rattle.acredact.specs.Tables.{secrets_of}
+use Rattle.acredact.proofs.Calls.{tells_counts, tells_line}
 use Rattle.acredact.proofs.run.tell_totals.Goals as goal
 
-pub returns-clause-told : goal.returns-clause-told
-returns-clause-told g c =
+pub returns : goal.returns
+returns g c =
     let given = all_given c.args.given.now in
     let lines = lines_of_rules c.args.rules.now in
     let sums : c.as_slice-sums.result.now ≡ sums_of (secrets_of c.args.rules.now) c.args.tally.now = c.as_slice-sums.ensures.value ∙ c.in_ok-sums.ensures.sums in
@@ -23,4 +24,9 @@ returns-clause-told g c =
       | else-has-2 w ↦ search rules
     ] in
     let text : c.as_slice.result.now ≡ totals_text given lines (sums_of (secrets_of c.args.rules.now) c.args.tally.now) c.args.volume = rw (c.as_slice.ensures.value, both, sums) refl in
-    subst (TellsBytes g.E.Sink c.args.errors.now c.write.new.self) (append-nil c.as_slice.result.now ∙ text) c.write.ensures.told
+    let told = subst (TellsBytes g.E.Sink c.args.errors.now c.write.new.self) (append-nil c.as_slice.result.now ∙ text) c.write.ensures.told in
+    record {
+      told = told;
+      lines = tells_counts g.E.Sink given _ _ (secrets_of c.args.rules.now) (sums_of (secrets_of c.args.rules.now) c.args.tally.now) c.args.volume c.requires.asked told;
+      these = tells_line g.E.Sink _ _ _ _ refl told;
+    }
