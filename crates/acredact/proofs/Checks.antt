@@ -1,5 +1,5 @@
 -- What is seen of files, one after another.
-use Rattle.acredact.proofs.Common.{Consumes-nil, Errors, Failure, Keeps, Look, Reason, SinkGhosts, Strict, TellsBytes, Verdict, concat, is_input, tells-later, tells-nothing}
+use Rattle.acredact.proofs.Common.{Consumes-nil, Errors, Failure, Keeps, Look, Reason, SinkGhosts, Strict, Tells, TellsBytes, Verdict, concat, is_input, tells-later, tells-nothing}
 use Rattle.std.proofs.Common.{◌≡◌, inl, inr, ℕ, List, [], ◌∷◌, ◌++◌, Option, true, false, refl, sym, subst, ◌∙◌, arith}
 use Rattle.std.specs.Prelude.{Bool, ◌⊎◌, ◌<◌, ◌||◌, ◌&&◌, Result, Ok, Err}
 use Rattle.acredact.specs.Builds.{patterns_by_given}
@@ -155,7 +155,7 @@ module _ (Unmatched Matched Quiet Told : Type 0) where
 module _ {E : Type 0} (K : SinkGhosts E) (call : Call) (left left' : Option (List ℕ)) (old : Errors E) where
   -- what comes of a check whose patterns were loaded
   module _ (secrets : List Secret) (between : Option (List ℕ)) (mid new : Errors E) (loaded : AreGiven (reading_by call) call.given secrets left between) (doubts : TellsDoubts K (has Strict call.given) call.given secrets old mid) where
-    pub check_seen : {X : Type 0} (verdict : Verdict) → gives_pattern call.given ≡ true → SeesFiles {X = X} K (quest_by call secrets) (names_asked call.given) (Ok verdict) between left' mid new
+    pub check_seen : {X : Type 0} (verdict : Verdict) → gives_pattern call.given ≡ true → SeesFiles K {X = X} (quest_by call secrets) (names_asked call.given) (Ok verdict) between left' mid new
         → CheckOutcome K call (Ok verdict) left left' old new
     check_seen verdict some sees =
         let (lines, is_all, seen, told) = sees.seen in

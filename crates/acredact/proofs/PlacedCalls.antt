@@ -75,6 +75,17 @@ partly_settled K name done old mid new of_one (inr (reason, line)) = tells_last 
 abbrev pub PlaceState : {R : Type 0} → Readers R → (O Z E : Type 0) → Type 0
 PlaceState {R} Reads O Z E = O × Streams R Z E Reads × List ℕ × Volume
 
+-- a line of one file, or of the others, is one of all
+module _ {E : Type 0} (K : SinkGhosts E) (name : List ℕ) (names : List (List ℕ)) where
+  some_first : (e e' : Errors E) → TellsSome K (IsSparedLine name) e e' → TellsSome K (IsSparedOf (name ∷ names)) e e'
+  some_first e e' some = some_weaker K (IsSparedLine name) (IsSparedOf (name ∷ names)) e e' (λ line is. (name, inl refl, is)) some
+
+  told_rest : (e e' : Errors E) → Tells K (IsSparedOf names) e e' → Tells K (IsSparedOf (name ∷ names)) e e'
+  told_rest e e' told = tells_weaker K (IsSparedOf names) (IsSparedOf (name ∷ names)) e e' (λ line is. (is.0, inr is.1, is.2)) told
+
+  told_both : (e mid e' : Errors E) → TellsSome K (IsSparedLine name) e mid → Tells K (IsSparedOf names) mid e' → TellsSome K (IsSparedOf (name ∷ names)) e e'
+  told_both e mid e' some told = some_then K (IsSparedOf (name ∷ names)) e mid e' (some_first e mid some) (told_rest mid e' told)
+
 -- what each became is what some did
 begun_all : {O : Type 0} (Is : List ℕ → (outputs outputs' : O) → Type 0) (names : List (List ℕ)) (outputs outputs' : O) → AreInTurn Is names outputs outputs' → BeginInTurn Is names outputs outputs'
 begun_all Is [] outputs outputs' all = all
@@ -111,64 +122,62 @@ module _ {R O Z E : Type 0} {Reads : Readers R} (Writes : Writers Z) (K : SinkGh
   place_settled name done (Err error) outputs mid outputs' old filled new counts counts' volume volume' held of_one replaced made same (kept, cut, memory) =
       (inr (inr (record { held = held; meanwhile = mid; made = made; kept = kept })), subst (Tells K (IsSparedLine name) old.errors) (sym cut) of_one.told, memory)
 
-  -- the same as it is from one state to another
-  abbrev pub ComesOfPlaces : List (List ℕ) → Result Bool StreamError → (old new : PlaceState Reads O Z E) → Type 0
-  ComesOfPlaces names result old new = PlacesOutcome Writes U work K names result old.0 new.0 old.1 new.1 old.2 new.2 old.3 new.3
+  -- the same from one state to another
+  pub record ComesOfPlaces (names : List (List ℕ)) (result : Result Bool StreamError) (old new : PlaceState Reads O Z E) : Type 0 where
+    pub is : PlacesOutcome Writes U work K names result old.0 new.0 old.1 new.1 old.2 new.2 old.3 new.3
 
   -- of none
   pub places_none : (old : PlaceState Reads O Z E) → ComesOfPlaces [] (Ok true) old old
-  places_none old = (
-    refl,
-    refl,
-    ([], (refl, refl), counts_none old.2),
-    all_read work.holds [] old.3 (bytes_left old.1.input) old.3 (bytes_left old.1.input) (far_unread work.holds [] old.3 (bytes_left old.1.input)),
-  )
+  places_none old = record {
+    is = (
+      refl,
+      refl,
+      ([], (refl, refl), counts_none old.2),
+      all_read work.holds [] old.3 (bytes_left old.1.input) old.3 (bytes_left old.1.input) (far_unread work.holds [] old.3 (bytes_left old.1.input)),
+    );
+  }
 
-  module _ {name : List ℕ} {names : List (List ℕ)} where
-    -- a line of one file, or of the others, is one of all
-    some_first : {e e' : Errors E} → TellsSome K (IsSparedLine name) e e' → TellsSome K (IsSparedOf (name ∷ names)) e e'
-    some_first {e} {e'} some = some_weaker K (IsSparedLine name) (IsSparedOf (name ∷ names)) e e' (λ line is. (name, inl refl, is)) some
+  module _ {name : List ℕ} {names : List (List ℕ)} {old mid : PlaceState Reads O Z E} where
+    -- what comes of a file, and then of others
+    pub places_more : (whole : Bool) → PlaceOutcome Writes U work K name (Ok whole) old.0 mid.0 old.1 mid.1 old.2 mid.2 old.3 mid.3
+        → (result : Result Bool StreamError) (end : PlaceState Reads O Z E) → ComesOfPlaces names result mid end → ComesOfPlaces (name ∷ names) (also all_joined whole result) old end
+    places_more whole one result end more = record { is = by whole one result more.is }
+      where
+        by : (whole : Bool) → PlaceOutcome Writes U work K name (Ok whole) old.0 mid.0 old.1 mid.1 old.2 mid.2 old.3 mid.3 → (result : Result Bool StreamError)
+            → PlacesOutcome Writes U work K names result mid.0 end.0 mid.1 end.1 mid.2 end.2 mid.3 end.3 → PlacesOutcome Writes U work K (name ∷ names) (also all_joined whole result) old.0 end.0 old.1 end.1 old.2 end.2 old.3 end.3
+        by true (is, quiet, (first, has, grown), read) (Ok true) (others, silent, (rest, have, later), reads) =
+            let left = bytes_left old.1.input in
+            let far = far_volume work.holds (name ∷ names) old.3 left name names old.3 mid.3 left (bytes_left mid.1.input) (far_unread work.holds (name ∷ names) old.3 left) read in (
+              (mid.0, is, others),
+              silent ∙ quiet,
+              (first ++ rest, (first, rest, refl, bytes_left mid.1.input, has, have), counts_then first rest old.2 mid.2 end.2 grown later),
+              record { bytes = far.bytes end.3.bytes (bytes_left end.1.input) reads.bytes; files = reads.files ∙ far.files },
+            )
+        by true (is, quiet, counted, read) (Ok false) (others, some) = (
+          (mid.0, inl is, others),
+          subst (λ (e : Errors E). TellsSome K (IsSparedOf (name ∷ names)) e end.1.errors) quiet
+              (some_weaker K (IsSparedOf names) (IsSparedOf (name ∷ names)) mid.1.errors end.1.errors (λ line is. (is.0, inr is.1, is.2)) some),
+        )
+        by true (is, quiet, counted, read) (Err error) (others, told, memory) =
+            (inr (mid.0, inl is, others), subst (λ (e : Errors E). Tells K (IsSparedOf (name ∷ names)) e end.1.errors) quiet (told_rest K name names mid.1.errors end.1.errors told), memory)
+        by false (spared, some) (Ok true) (others, silent, counted, read) = (
+          (mid.0, inr spared, placed_all Writes U work names mid.0 end.0 others),
+          subst (λ (e : Errors E). TellsSome K (IsSparedOf (name ∷ names)) old.1.errors e) (sym silent) (some_first K name names old.1.errors mid.1.errors some),
+        )
+        by false (spared, some) (Ok false) (others, later) =
+            ((mid.0, inr spared, others), told_both K name names old.1.errors mid.1.errors end.1.errors some (some_tells K (IsSparedOf names) mid.1.errors end.1.errors later))
+        by false (spared, some) (Err error) (others, told, memory) =
+            (inr (mid.0, inr spared, others), some_tells K (IsSparedOf (name ∷ names)) old.1.errors end.1.errors (told_both K name names old.1.errors mid.1.errors end.1.errors some told), memory)
 
-    some_rest : {e e' : Errors E} → TellsSome K (IsSparedOf names) e e' → TellsSome K (IsSparedOf (name ∷ names)) e e'
-    some_rest {e} {e'} some = some_weaker K (IsSparedOf names) (IsSparedOf (name ∷ names)) e e' (λ line is. (is.0, inr is.1, is.2)) some
-
-    told_rest : {e e' : Errors E} → Tells K (IsSparedOf names) e e' → Tells K (IsSparedOf (name ∷ names)) e e'
-    told_rest {e} {e'} told = tells_weaker K (IsSparedOf names) (IsSparedOf (name ∷ names)) e e' (λ line is. (is.0, inr is.1, is.2)) told
-
-    told_both : {e mid e' : Errors E} → TellsSome K (IsSparedLine name) e mid → Tells K (IsSparedOf names) mid e' → TellsSome K (IsSparedOf (name ∷ names)) e e'
-    told_both {e} {mid} {e'} some told = some_then K (IsSparedOf (name ∷ names)) e mid e' (some_first some) (told_rest told)
-
-    module _ {old mid : PlaceState Reads O Z E} where
-      -- what comes of a file, and then of others
-      pub places_more : (whole : Bool) → PlaceOutcome Writes U work K name (Ok whole) old.0 mid.0 old.1 mid.1 old.2 mid.2 old.3 mid.3
-          → (result : Result Bool StreamError) (end : PlaceState Reads O Z E) → ComesOfPlaces names result mid end → ComesOfPlaces (name ∷ names) (also all_joined whole result) old end
-      places_more true (is, quiet, (first, has, grown), read) (Ok true) end (others, silent, (rest, have, later), reads) =
-          let left = bytes_left old.1.input in
-          let far = far_volume work.holds (name ∷ names) old.3 left name names old.3 mid.3 left (bytes_left mid.1.input) (far_unread work.holds (name ∷ names) old.3 left) read in (
-            (mid.0, is, others),
-            silent ∙ quiet,
-            (first ++ rest, (first, rest, refl, bytes_left mid.1.input, has, have), counts_then first rest old.2 mid.2 end.2 grown later),
-            record { bytes = far.bytes end.3.bytes (bytes_left end.1.input) reads.bytes; files = reads.files ∙ far.files },
-          )
-      places_more true (is, quiet, counted, read) (Ok false) end (others, some) =
-          ((mid.0, inl is, others), subst (λ (e : Errors E). TellsSome K (IsSparedOf (name ∷ names)) e end.1.errors) quiet (some_rest some))
-      places_more true (is, quiet, counted, read) (Err error) end (others, told, memory) =
-          (inr (mid.0, inl is, others), subst (λ (e : Errors E). Tells K (IsSparedOf (name ∷ names)) e end.1.errors) quiet (told_rest told), memory)
-      places_more false (spared, some) (Ok true) end (others, silent, counted, read) = (
-        (mid.0, inr spared, placed_all Writes U work names mid.0 end.0 others),
-        subst (λ (e : Errors E). TellsSome K (IsSparedOf (name ∷ names)) old.1.errors e) (sym silent) (some_first some),
-      )
-      places_more false (spared, some) (Ok false) end (others, later) = ((mid.0, inr spared, others), told_both some (some_tells K (IsSparedOf names) mid.1.errors end.1.errors later))
-      places_more false (spared, some) (Err error) end (others, told, memory) =
-          (inr (mid.0, inr spared, others), some_tells K (IsSparedOf (name ∷ names)) old.1.errors end.1.errors (told_both some told), memory)
-
-      -- or memory ran out at it
-      pub place_ends : {error : StreamError} → PlaceOutcome Writes U work K name (Err error) old.0 mid.0 old.1 mid.1 old.2 mid.2 old.3 mid.3 → ComesOfPlaces (name ∷ names) (Err error) old mid
-      place_ends {error} (spared, told, memory) = (
+    -- or memory ran out at it
+    pub place_ends : {error : StreamError} → PlaceOutcome Writes U work K name (Err error) old.0 mid.0 old.1 mid.1 old.2 mid.2 old.3 mid.3 → ComesOfPlaces (name ∷ names) (Err error) old mid
+    place_ends {error} (spared, told, memory) = record {
+      is = (
         inr (mid.0, inr spared, begin_none Writes U work names mid.0),
         tells_weaker K (IsSparedLine name) (IsSparedOf (name ∷ names)) old.1.errors mid.1.errors (λ line is. (name, inl refl, is)) told,
         memory,
-      )
+      );
+    }
 
   -- each was placed then, and what was told says why some were not
   places_all : (all : Bool) (outputs outputs' : O) (old new : Streams R Z E Reads) (counts counts' : List ℕ) (volume volume' : Volume) → PlacesOutcome Writes U work K work.names (Ok all) outputs outputs' old new counts counts' volume volume'

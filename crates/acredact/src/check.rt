@@ -80,7 +80,7 @@ fn check_given<'a, F: Folder, I: Read, E: Sink>(
         Ok(()) => {}
         Err(failure) => return Err(failure),
     }
-    let ready = match ready_of(alloc, given, rules, false) {
+    let ready = match ready_of(alloc, &*given, rules, false) {
         Ok(ready) => ready,
         Err(failure) => return Err(failure),
     };

@@ -23,8 +23,8 @@ returns-in_err-whole g c =
     record {
       outcome = λ p of.
           rw is
-          (turn_fails (c.loop-rest.invariant p of) (names_cut c.loop-rest.rest.now _ some)
-          (place_ends g.O.File.Write g.E.Sink g.O.Outputs (work_for g.F.Folder c.args.job.now p) {error = c.in_err-whole.field-0.0} (c.in_err-whole.ensures.outcome p of)));
+          ((turn_fails (c.loop-rest.invariant p of) (names_cut c.loop-rest.rest.now _ some)
+          (place_ends g.O.File.Write g.E.Sink g.O.Outputs (work_for g.F.Folder c.args.job.now p) {error = c.in_err-whole.field-0.0} (c.in_err-whole.ensures.outcome p of))).is);
     }
 
 pub returns : goal.returns
@@ -32,6 +32,6 @@ returns g c =
     let none : length c.loop-rest.rest.now ≡ 0 = search rules in
     record {
       outcome = λ p of.
-          turn_end (c.loop-rest.invariant p of) (names_end c.loop-rest.rest.now none)
-          (places_none g.O.File.Write g.E.Sink g.O.Outputs (work_for g.F.Folder c.args.job.now p) _);
+          (turn_end (c.loop-rest.invariant p of) (names_end c.loop-rest.rest.now none)
+          (places_none g.O.File.Write g.E.Sink g.O.Outputs (work_for g.F.Folder c.args.job.now p) _)).is;
     }

@@ -7,6 +7,7 @@ use Rattle.acredact.specs.Summaries.{counts_told_by, totals_text}
 use Rattle.acredact.specs.Sums.{sums_of}
 use Rattle.acredact.specs.Tables.{secrets_of}
 use Rattle.acredact.proofs.Calls.{tells_counts, tells_line}
+use Rattle.acredact.proofs.run.tell_totals.Goals.{else-has, else-has-2, then-has+in_ok-put_counts, then-has-2+in_ok-put_summary}
 use Rattle.acredact.proofs.run.tell_totals.Goals as goal
 
 pub returns : goal.returns
