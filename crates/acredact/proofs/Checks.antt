@@ -20,8 +20,8 @@ use Rattle.acredact.specs.declared.look.Look.TheVariants.{Clean, Found, Unread}
 use Rattle.acredact.proofs.Calls.{none_are, tells_both, tells_same, tells_weaker}
 use Rattle.acredact.proofs.Done.{both_so, concat_both, none_both}
 use Rattle.acredact.proofs.LookedFiles.{verdicts_joined}
-use Rattle.acredact.proofs.OneFile.{known_read, of_folder}
-use Rattle.acredact.proofs.RuledFiles.{IsFileRead, told_as, told_more}
+use Rattle.acredact.proofs.OneFile.{IsFileRead, known_read, of_folder}
+use Rattle.acredact.proofs.RuledFiles.{told_as, told_more}
 use Rattle.acredact.proofs.Turns.{also}
 use Rattle.acredact.proofs.Warned.{doubts_tell}
 

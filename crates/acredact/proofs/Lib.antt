@@ -30,6 +30,8 @@ mod Loaded
 -- how many bytes a source gives
 mod Metering
 mod Bounded
+-- what comes of the files of a job
+mod Jobs
 mod Limits
 -- which pieces are clean, and what follows
 mod Flaws

@@ -16,8 +16,8 @@ use Rattle.acredact.specs.RunCounts.{HasLineRuns}
 use Rattle.acredact.specs.declared.look.Look.TheVariants.{Unread}
 use Rattle.acredact.proofs.Calls.{tells_same}
 use Rattle.acredact.proofs.Done.{both_so}
-use Rattle.acredact.proofs.OneFile.{begun_nothing, each_none, known_begun, name_unread}
-use Rattle.acredact.proofs.RuledFiles.{IsFileRead, of_first, told_any, told_more}
+use Rattle.acredact.proofs.OneFile.{IsFileRead, begun_nothing, each_none, known_begun, name_unread}
+use Rattle.acredact.proofs.RuledFiles.{of_first, told_any, told_more}
 use Rattle.acredact.proofs.RuledText.{known_line_runs}
 use Rattle.acredact.proofs.Turns.{Joins, also}
 

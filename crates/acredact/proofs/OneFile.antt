@@ -10,6 +10,10 @@ use Rattle.acredact.specs.Secrets.{BeginsRedaction, Redactor}
 use Rattle.acredact.specs.Streams.{ReachesStream, RedactsStream, StartsStream}
 use Rattle.acredact.proofs.Redactions.{begins_nothing}
 
+-- what is so of a source or a sink is so of it where it was left
+pub so_there : {R : Type 0} (there there' : R) (Is : R → Type 0) → there ≡ there' → Is there → Is there'
+so_there there there' Is same is = subst Is same is
+
 -- a stream that has seen no end before is at its end where it sees one
 pub ends_by : {P : Type 0} (before after : ℕ) (ended : Bool) → before ≡ 0 → (after ≢ 0 → P) → after ≡ counted ended before → ended ≡ true → P
 ends_by before after ended none ends count is =
@@ -178,6 +182,18 @@ pub of_folder : (holds : List ℕ → Option (List ℕ)) (name : List ℕ) (Read
 of_folder holds name Reads left left' is same rest reads =
     subst (λ (b : Bool). MatchBool b (Reads left left') ((left' ≡ left) × (rest : Option (List ℕ)) × Reads (holds name) rest)) (sym is) (same, rest, reads)
 
+-- the file of a name was read from what was given of it to a rest: that of the input, or one of the folder, which may have told it
+pub record IsFileRead (holds : List ℕ → Option (List ℕ)) (name : List ℕ) (given rest left left' : Option (List ℕ)) : Type 1 where
+  pub known : Option (List ℕ)
+  pub kept : Keeps known given
+  pub of : (Reads : Option (List ℕ) → Option (List ℕ) → Type 0) → Reads known rest → OfName holds name Reads left left'
+
+pub read_input : {holds : List ℕ → Option (List ℕ)} {name : List ℕ} {left left' : Option (List ℕ)} → is_input name ≡ true → IsFileRead holds name left left' left left'
+read_input {holds} {name} {left} {left'} is = record { known = left; kept = Keeps-refl left; of = λ Reads reads. of_input holds name Reads left left' is reads }
+
+pub read_opened : {holds : List ℕ → Option (List ℕ)} {name : List ℕ} {given rest left : Option (List ℕ)} → is_input name ≡ false → Keeps (holds name) given → IsFileRead holds name given rest left left
+read_opened {holds} {name} {given} {rest} {left} is kept = record { known = holds name; kept = kept; of = λ Reads reads. of_folder holds name Reads left left is refl rest reads }
+
 -- what is so of whatever was not read
 pub name_unread : (holds : List ℕ → Option (List ℕ)) (name : List ℕ) (Reads : Option (List ℕ) → Option (List ℕ) → Type 0) (left : Option (List ℕ)) → ((l : Option (List ℕ)) → Reads l l) → OfName holds name Reads left left
 name_unread holds name Reads left none = by (is_input name) refl
@@ -202,22 +218,11 @@ module _ (work : Work) (name : List ℕ) (left left' held held' : Option (List �
   abbrev Reaches : (l l' : Option (List ℕ)) → Type 0
   Reaches l l' = ReachesText work.redactor l l' held held'
 
-  pub comes_input : (result : Result (Option Reason) StreamError) → is_input name ≡ true → ComesOfText work.redactor result left left' held held' → ComesOfFile work name result left left' held held'
-  comes_input (Ok None) is text = of_input work.holds name Redacts left left' is text
-  comes_input (Ok (Some reason)) is (read, begun, near) =
-      inl (read, of_input work.holds name Begins left left' is begun, λ covers. of_input work.holds name Reaches left left' is (near covers))
-  comes_input (Err error) is text = of_input work.holds name Begins left left' is text
-
-  pub comes_opened : (result : Result (Option Reason) StreamError) → is_input name ≡ false → left' ≡ left → (opened rest : Option (List ℕ)) → Keeps (work.holds name) opened
-      → ComesOfText work.redactor result opened rest held held' → ComesOfFile work name result left left' held held'
-  comes_opened (Ok None) is same opened rest kept text = of_folder work.holds name Redacts left left' is same rest (known_text (work.holds name) opened rest held held' kept text)
-  comes_opened (Ok (Some reason)) is same opened rest kept (read, begun, near) =
-      inl (
-        read,
-        of_folder work.holds name Begins left left' is same rest (known_begun (work.holds name) opened rest held held' kept begun),
-        λ covers. of_folder work.holds name Reaches left left' is same rest (known_reaches (work.holds name) opened rest held held' kept (near covers)),
-      )
-  comes_opened (Err error) is same opened rest kept text = of_folder work.holds name Begins left left' is same rest (known_begun (work.holds name) opened rest held held' kept text)
+  pub comes_file : {given rest : Option (List ℕ)} (result : Result (Option Reason) StreamError) → IsFileRead work.holds name given rest left left' → ComesOfText work.redactor result given rest held held' → ComesOfFile work name result left left' held held'
+  comes_file {given} {rest} (Ok None) file text = file.of Redacts (known_text file.known given rest held held' file.kept text)
+  comes_file {given} {rest} (Ok (Some reason)) file (read, begun, near) =
+      inl (read, file.of Begins (known_begun file.known given rest held held' file.kept begun), λ covers. file.of Reaches (known_reaches file.known given rest held held' file.kept (near covers)))
+  comes_file {given} {rest} (Err error) file text = file.of Begins (known_begun file.known given rest held held' file.kept text)
 
 -- nothing was read and written of any
 pub named_none : (work : Work) → 1 ≤ shortest (map length work.redactor.patterns.words) → (name : List ℕ) (left held : Option (List ℕ)) → BeginsNamed work name left left held held

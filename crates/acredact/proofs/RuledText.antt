@@ -10,7 +10,7 @@ use Rattle.secret_rules.specs.Ready.{CoversTheSame}
 use Rattle.secret_rules.specs.Writing.{line_cover}
 use Rattle.secret_rules.specs.declared.rule.Rule.{Rule}
 use Rattle.secret_rules.proofs.LineRuns.{lines_cover-append}
-use Rattle.acredact.specs.Ruled.{BeginsLinesText, IsLined, LeavesLined, LinesOutcome, RedactsLines, Ruling, WritesLines, ruling_as, unread_of}
+use Rattle.acredact.specs.Ruled.{BeginsLinesText, IsLined, LinesOutcome, RedactsLines, Ruling, WritesLines, ruling_as, unread_of}
 use Rattle.acredact.specs.RunCounts.{CountsTextRuns, HasLineRuns, HasRuns}
 use Rattle.acredact.specs.declared.ruled_files.Lined.{Lined}
 use Rattle.acredact.proofs.OneFile.{begun_writing, ended_text, known_read}
@@ -126,11 +126,6 @@ module _ {Q R W : Type 0} (P : SourceGhosts Q) (S : SourceGhosts R) (K : SinkGho
         writes = whole.writes;
         counted = whole.counted;
       }
-
--- a source is as it was left
-pub leaves_there : {A P R W : Type 0} (G : Automata A) (Q : PieceGhosts P) (S : SourceGhosts R) (K : SinkGhosts W) (lined : Lined A P) (result : Result (Unit {0}) LineError) (counts counts' : List ℕ) (source there there' : R) (sink sink' : W)
-    → there ≡ there' → LeavesLined G Q S K lined result counts counts' source there sink sink' → LeavesLined G Q S K lined result counts counts' source there' sink sink'
-leaves_there G Q S K lined result counts counts' source there there' sink sink' same leaves = subst (λ s. LeavesLined G Q S K lined result counts counts' source s sink sink') same leaves
 
 -- it covers lines as before
 pub still_lined : {A P : Type 0} (G : Automata A) (Q : PieceGhosts P) (old new : Lined A P) (ruling : Ruling) → CanCoverLines G new.cover → CoversTheSame old.cover new.cover

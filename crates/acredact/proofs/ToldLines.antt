@@ -1,14 +1,14 @@
 -- What is told of lines, one after another, by what a visitor of them leaves.
-use Rattle.acredact.proofs.Common.{Appends, Appends-nil, Appends-trans, Covering, IfOk-weaker, IsAtEnd, Line, LineError, MutBor, Occurrence, Patterns, PositionLimit, Read, SinkGhosts, SourceGhosts, StartsWith, Stream, StreamError, covering_by, or-false, or_assoc, stream_lines, take-length}
+use Rattle.acredact.proofs.Common.{Appends, Appends-nil, Appends-trans, IsAtEnd, Line, LineError, MutBor, Occurrence, Patterns, PositionLimit, Read, SinkGhosts, SourceGhosts, StartsWith, Stream, StreamError, covering_by, on_ok_weaker, or-false, or_assoc, stream_lines, take-length}
 use Rattle.std.proofs.Common.{◌++◌, ◌∙◌, ◌∷◌, ◌≡◌, ◌≢◌, List, Option, [], ap, append-nil, append_assoc, drop, false, inl, inr, refl, subst, sym, take, true, ℕ}
-use Rattle.std.specs.Prelude.{Bool, ◌||◌, Result, Ok, Err, IfOk}
+use Rattle.std.specs.Prelude.{Bool, ◌||◌, Result, Ok, Err, IfOk, OnOk}
 use Rattle.std.proofs.lemmas.List.{take-append-drop}
 use Rattle.aho_cover.proofs.Copied.{begins_with}
 use Rattle.secret_rules.specs.Visits.{BeginsVisiting, LeavesVisited, StopsWithin, VisitsEach, VisitsLines, taken_line}
 use Rattle.secret_rules.specs.declared.rule.Rule.{Rule}
 use Rattle.secret_rules.specs.declared.visitor.LineVisitor.{Ghosts as VisitorGhosts}
 use Rattle.acredact.specs.Looks.{verdict_of}
-use Rattle.acredact.specs.RuledChecks.{BeginsGiven, IsAtFirst, LookedText, SeesText, StopsTelling, TellsGiven, TellsLine, SaysLines, findings_behind, findings_of, found_of, is_some_line, is_some_run, labels_of, lines_findings, look_of_lines}
+use Rattle.acredact.specs.RuledChecks.{BeginsTelling, IsAtFirst, LookedText, SeesText, StopsTelling, TellsLine, findings_behind, findings_of, is_some_line, is_some_run, labels_of, lines_findings, look_of_lines}
 use Rattle.acredact.specs.declared.findings.Findings.{Findings}
 use Rattle.acredact.proofs.OneFile.{begun_writing, ended_text}
 use Rattle.acredact.proofs.RuledText.{begins_behind}
@@ -31,6 +31,14 @@ findings_append findings (own ∷ first) more =
     let next = findings_behind findings own in
     ap (λ l. findings_of findings own ++ l) (findings_append next first more)
     ∙ sym (append_assoc (findings_of findings own) (all_findings next first) (all_findings (all_behind next first) more))
+
+-- where a file was read to its end this is so of whether something was found
+looks : (P : Bool → Type 0) (done : Result (Unit {0}) LineError) (found : Bool) → OnOk done (P found) → IfOk (look_of_lines done found) (λ look. (verdict_of look).all ≡ true → P (verdict_of look).found)
+looks P (Ok tt) true is = λ all. is
+looks P (Ok tt) false is = λ all. is
+looks P (Err (Stream (Read fault))) found is = λ (all : false ≡ true). absurd (cc)
+looks P (Err (Stream PositionLimit)) found is = λ (all : false ≡ true). absurd (cc)
+looks P (Err error) found is = tt
 
 module _ {V W : Type 0} (L : VisitorGhosts V) (K : SinkGhosts W) (most : ℕ) (output_of : V → MutBor W) (found_in : V → Findings)
     (tells : (visitor visitor' : V) (line : Line) (runs : List Occurrence) → L.visits visitor visitor' line runs → TellsLine K (output_of visitor) (output_of visitor') (found_in visitor) (found_in visitor') runs)
@@ -84,103 +92,65 @@ module _ {V W : Type 0} (L : VisitorGhosts V) (K : SinkGhosts W) (most : ℕ) (o
         written = Appends-trans (K.taken (output_of visitor).now) (K.taken (output_of last.between).now) (K.taken (output_of visitor').now) front (take stop.begun.0 mine) each.told stop.begun.2;
       }
 
-  module _ {R : Type 0} (S : SourceGhosts R) (Searched : Patterns → Type 0) (words : Bool) (rules : List Rule) (p : Patterns) (sought : Searched p) (source source' : R) (visitor visitor' : V)
-      (findings : Findings) (fresh : IsAtFirst findings) (is : found_in visitor ≡ findings) where
+  module _ {R : Type 0} (S : SourceGhosts R) (Searched : Patterns → Type 0) (words : Bool) (rules : List Rule) (p : Patterns) (sought : Searched p) (source source' : R) (visitor visitor' : V) (findings : Findings) (fresh : IsAtFirst findings)
+      (is : found_in visitor ≡ findings) (before : Option (List ℕ)) (left : S.remaining source ≡ before) (none : S.empty_reads source ≡ 0) (ends : S.empty_reads source' ≢ 0 → IsAtEnd (S.remaining source')) where
+    abbrev Begun : Type 0
+    Begun = BeginsTelling (covering_by words rules most p) (labels_of findings.legend) findings.name.now before (S.remaining source') (K.taken (output_of visitor).now) (K.taken (output_of visitor').now)
+
+    abbrev Told : List (List Occurrence) → List ℕ
+    Told runs = lines_findings (labels_of findings.legend) findings.name.now 1 runs
+
     -- from the first line on
-    from_first : (runs : List (List Occurrence)) → all_findings (found_in visitor) runs ≡ lines_findings (labels_of findings.legend) findings.name.now 1 runs
+    from_first : (runs : List (List Occurrence)) → all_findings (found_in visitor) runs ≡ Told runs
     from_first runs = ap (λ (f : Findings). all_findings f runs) is ∙ ap (λ (n : ℕ). lines_findings (labels_of findings.legend) findings.name.now n runs) fresh.0
 
-    begun_whole : VisitsLines S L Searched words rules most source source' visitor visitor'
-        → BeginsGiven S K findings source source' (output_of visitor).now (output_of visitor').now (covering_by words rules most p)
-    begun_whole whole =
-        let each = each_told visitor visitor' (stream_lines whole.given) whole.runs whole.visits in
-        let told = lines_findings (labels_of findings.legend) findings.name.now 1 whole.runs in
-        record {
-          given = whole.given;
-          ended = true;
-          gives = whole.gives;
-          part = told;
-          begins = record {
-            lines = stream_lines whole.given;
-            runs = whole.runs;
-            are = whole.runs_are p sought;
-            first = λ bytes may. ([], ap stream_lines (may.1 ∙ ap (λ l. whole.given ++ l) may.2 ∙ append-nil whole.given) ∙ sym (append-nil (stream_lines whole.given)));
-            begins = take-length told;
-          };
-          written = subst (Appends (K.taken (output_of visitor).now) (K.taken (output_of visitor').now)) (from_first whole.runs) each.told;
-        }
+    lines_written : (lines : List Line) (runs : List (List Occurrence)) → VisitsEach L most visitor visitor' lines runs → Appends (K.taken (output_of visitor).now) (K.taken (output_of visitor').now) (Told runs)
+    lines_written lines runs visits = subst (Appends (K.taken (output_of visitor).now) (K.taken (output_of visitor').now)) (from_first runs) (each_told visitor visitor' lines runs visits).told
 
-    lines_ended : VisitsLines S L Searched words rules most source source' visitor visitor'
-        → SaysLines S K findings (Ok (found_in visitor').found) source source' (output_of visitor).now (output_of visitor').now (covering_by words rules most p)
-    lines_ended whole =
-        let each = each_told visitor visitor' (stream_lines whole.given) whole.runs whole.visits in
-        record {
-          whole = record {
-            text = whole.given;
-            gives = whole.gives;
-            runs = whole.runs;
-            are = whole.runs_are p sought;
-            found_is = ap (λ (f : Findings). f.found) each.behind ∙ found_behind (found_in visitor) whole.runs
-                ∙ ap (λ (b : Bool). b || is_some_line whole.runs) (ap (λ (f : Findings). f.found) is ∙ fresh.1);
-            told = subst (Appends (K.taken (output_of visitor).now) (K.taken (output_of visitor').now)) (from_first whole.runs) each.told;
-          };
-          begun = begun_whole whole;
-        }
+    lines_seen : VisitsLines S L Searched words rules most source source' visitor visitor'
+        → SeesText (covering_by words rules most p) (labels_of findings.legend) findings.name.now (found_in visitor').found before (S.remaining source') (K.taken (output_of visitor).now) (K.taken (output_of visitor').now)
+    lines_seen whole = record {
+      runs = whole.runs;
+      has = record { text = whole.given; reads = ended_text S source source' before left none ends whole.given whole.gives; are = whole.runs_are p sought };
+      found_is = ap (λ (f : Findings). f.found) (each_told visitor visitor' (stream_lines whole.given) whole.runs whole.visits).behind ∙ found_behind (found_in visitor) whole.runs
+          ∙ ap (λ (b : Bool). b || is_some_line whole.runs) (ap (λ (f : Findings). f.found) is ∙ fresh.1);
+      told = lines_written (stream_lines whole.given) whole.runs whole.visits;
+    }
 
-    lines_stopped : (error : LineError) → BeginsVisiting S L Searched words rules most source source' visitor visitor' error
-        → SaysLines S K findings (Err error) source source' (output_of visitor).now (output_of visitor').now (covering_by words rules most p)
-    lines_stopped error begun =
+    begun_seen : VisitsLines S L Searched words rules most source source' visitor visitor' → Begun
+    begun_seen whole =
+        begun_writing S source source' before left none ends (K.taken (output_of visitor).now) (K.taken (output_of visitor').now) whole.given true (Told whole.runs) whole.gives
+        (record {
+          lines = stream_lines whole.given;
+          runs = whole.runs;
+          are = whole.runs_are p sought;
+          first = λ bytes may. ([], ap stream_lines (may.1 ∙ ap (λ l. whole.given ++ l) may.2 ∙ append-nil whole.given) ∙ sym (append-nil (stream_lines whole.given)));
+          begins = take-length (Told whole.runs);
+        })
+        (lines_written (stream_lines whole.given) whole.runs whole.visits)
+
+    begun_stopped : (error : LineError) → BeginsVisiting S L Searched words rules most source source' visitor visitor' error → Begun
+    begun_stopped error begun =
         let stop = stops_told visitor visitor' begun.lines begun.runs error begun.stops in
-        record {
-          whole = tt;
-          begun = record {
-            given = begun.given;
-            ended = begun.ended;
-            gives = begun.gives;
-            part = stop.part;
-            begins = record { lines = begun.lines; runs = begun.runs; are = begun.runs_are p sought; first = begun.first; begins = subst (λ l. StartsWith l stop.part) (from_first begun.runs) stop.begins };
-            written = stop.written;
-          };
-        }
+        begun_writing S source source' before left none ends (K.taken (output_of visitor).now) (K.taken (output_of visitor').now) begun.given begun.ended stop.part begun.gives
+        (record { lines = begun.lines; runs = begun.runs; are = begun.runs_are p sought; first = begun.first; begins = subst (λ l. StartsWith l stop.part) (from_first begun.runs) stop.begins })
+        stop.written
 
-    pub told_lines : (done : Result (Unit {0}) LineError) → LeavesVisited S L Searched words rules most source source' visitor visitor' done
-        → SaysLines S K findings (found_of done (found_in visitor').found) source source' (output_of visitor).now (output_of visitor').now (covering_by words rules most p)
-    told_lines (Ok tt) leaves = lines_ended leaves.visited
-    told_lines (Err error) leaves = lines_stopped error leaves.begun
+    -- what comes of a text, by what the visits of its lines leave
+    pub looked_lines : (done : Result (Unit {0}) LineError) → LeavesVisited S L Searched words rules most source source' visitor visitor' done
+        → LookedText (covering_by words rules most p) (labels_of findings.legend) findings.name.now (look_of_lines done (found_in visitor').found) before (S.remaining source') (K.taken (output_of visitor).now) (K.taken (output_of visitor').now)
+    looked_lines done leaves = record {
+      whole = looks (λ found. SeesText (covering_by words rules most p) (labels_of findings.legend) findings.name.now found before (S.remaining source') (K.taken (output_of visitor).now) (K.taken (output_of visitor').now))
+          done (found_in visitor').found (on_ok_weaker done lines_seen leaves.visited);
+      begun = by done leaves;
+    }
+      where
+        by : (done : Result (Unit {0}) LineError) → LeavesVisited S L Searched words rules most source source' visitor visitor' done → Begun
+        by (Ok tt) leaves = begun_seen leaves.visited
+        by (Err error) leaves = begun_stopped error leaves.begun
 
   -- to the same output
   pub told_same : {R : Type 0} (S : SourceGhosts R) (Searched : Patterns → Type 0) (words : Bool) (rules : List Rule) (source source' : R) (visitor visitor' : V) (done : Result (Unit {0}) LineError)
       → LeavesVisited S L Searched words rules most source source' visitor visitor' done → (output_of visitor').ghost_name ≡ (output_of visitor).ghost_name
   told_same S Searched words rules source source' visitor visitor' (Ok tt) leaves = (each_told visitor visitor' (stream_lines leaves.visited.given) leaves.visited.runs leaves.visited.visits).same
   told_same S Searched words rules source source' visitor visitor' (Err error) leaves = (stops_told visitor visitor' leaves.begun.lines leaves.begun.runs error leaves.begun.stops).same
-
--- what comes of a text, by what is told of the lines of its source
-module _ {R W : Type 0} (S : SourceGhosts R) (K : SinkGhosts W) (findings : Findings) (covering : Covering) (source source' : R) (output output' : W) (before : Option (List ℕ))
-    (left : S.remaining source ≡ before) (none : S.empty_reads source ≡ 0) (ends : S.empty_reads source' ≢ 0 → IsAtEnd (S.remaining source')) where
-  sees_text : (found : Bool) → TellsGiven S K findings found source source' output output' covering
-      → SeesText covering (labels_of findings.legend) findings.name.now found before (S.remaining source') (K.taken output) (K.taken output')
-  sees_text found whole = record {
-    runs = whole.runs;
-    has = record {
-      text = whole.text;
-      reads = ended_text S source source' before left none ends whole.text whole.gives;
-      are = whole.are;
-    };
-    found_is = whole.found_is;
-    told = whole.told;
-  }
-
-  looks : (P : Bool → Type 0) (result : Result Bool LineError) → IfOk result P → IfOk (look_of_lines result) (λ look. (verdict_of look).all ≡ true → P (verdict_of look).found)
-  looks P (Ok true) is = λ all. is
-  looks P (Ok false) is = λ all. is
-  looks P (Err (Stream (Read fault))) is = λ (all : false ≡ true). absurd (cc)
-  looks P (Err (Stream PositionLimit)) is = λ (all : false ≡ true). absurd (cc)
-  looks P (Err error) is = tt
-
-  pub looked_text : (result : Result Bool LineError) → SaysLines S K findings result source source' output output' covering
-      → LookedText covering (labels_of findings.legend) findings.name.now (look_of_lines result) before (S.remaining source') (K.taken output) (K.taken output')
-  looked_text result tells = record {
-    whole = looks (λ found. SeesText covering (labels_of findings.legend) findings.name.now found before (S.remaining source') (K.taken output) (K.taken output')) result
-        (IfOk-weaker result _ _ sees_text tells.whole);
-    begun = begun_writing S source source' before left none ends (K.taken output) (K.taken output') tells.begun.given tells.begun.ended tells.begun.part tells.begun.gives tells.begun.begins tells.begun.written;
-  }

@@ -206,7 +206,6 @@ module _ {W : Type 0} (Writes : Writers W) where
         pub done : IfOk result (λ whole. (lines : List (List ℕ)) × (whole ≡ are_none lines) × Does streams streams' (IsDone work name lines) lines)
         pub cut : OnErr result (Does streams streams' (BeginsNamed work name) [])
         pub quiet : result ≡ Ok true → streams'.errors ≡ streams.errors
-        pub untold : OnErr result (streams'.errors ≡ streams.errors)
         pub fails : FailsByOutput result streams.output streams'.output
 
       -- what comes of all files

@@ -169,7 +169,7 @@ fn redact_flushed<X: Way, F: Folder, I: Read, W: Write, E: Sink>(
     let mut rest = job.names;
     while !rest.is_empty() {
         let whole = redact_told(way, job, rest[0], counts, volume, streams)?;
-        add_file(volume, whole);
+        add_file(&mut volume.files, whole);
         all = both(all, whole);
         rest = &rest[1..];
     }
@@ -279,7 +279,7 @@ pub fn is_input(name: &str) -> bool
     name == "-"
 }
 
-/// Redacts the input to its end, and answers why it cannot be read to that, where it cannot.
+/// Redacts the input to its end, counts its bytes, and answers why it cannot be read to that, where it cannot.
 fn redact_input<X: Way, I: Read, W: Write>(
     way: &mut X,
     counts: &mut [u64],
@@ -300,7 +300,17 @@ fn redact_input<X: Way, I: Read, W: Write>(
     ensures failed { input.new.failures ≡ counted (is_unread result) input.old.failures }
 {
     input.restart();
-    reading_of(redact_metered(way, counts, volume, input, output))
+    let taken = redact_with::<Brand, X, FromRead<I>, FromWrite<W>>(
+        way,
+        counts,
+        Lent { source: input },
+        volume.bytes,
+        output,
+    );
+    volume.bytes = taken.bytes;
+    let Taken { lent, done, .. } = taken;
+    let _source = lent.source;
+    reading_of(done)
 }
 
 /// Redacts a source, and counts its bytes, of which all that it gives are known to be these.
@@ -335,44 +345,12 @@ fn redact_with<'s, K: Known, X: Way, S: Source, W: Sink>(
     Taken { lent, bytes, done }
 }
 
-/// Redacts what the input gives, and counts its bytes.
-fn redact_metered<X: Way, I: Read, W: Write>(
-    way: &mut X,
-    counts: &mut [u64],
-    volume: &mut Volume,
-    input: &mut FromRead<I>,
-    output: &mut FromWrite<W>,
-) -> Result<(), StreamError>
-    requires ready { (r : Redactor) × X.by way.old r }
-    ensures done { IfBy X.Way way.old (DoesStream ⟦<FromRead<I> as Source>⟧ ⟦<FromWrite<W> as Sink>⟧ result
-        input.old input.new output.old output.new counts.old counts.new) }
-    ensures read { OnOk result (AddsStream ⟦<FromRead<I> as Source>⟧ input.old input.new
-        volume.old.bytes volume.new.bytes) }
-    ensures most { NumbersGiven ⟦<FromRead<I> as Source>⟧ input.old input.new
-        counts.old counts.new volume.old.bytes volume.new.bytes }
-    ensures files { volume.new.files ≡ volume.old.files }
-    ensures still { IfBy X.Way way.old (X.by way.new) }
-{
-    let taken = redact_with::<Brand, X, FromRead<I>, FromWrite<W>>(
-        way,
-        counts,
-        Lent { source: input },
-        volume.bytes,
-        output,
-    );
-    volume.bytes = taken.bytes;
-    let Taken { lent, done, .. } = taken;
-    let _source = lent.source;
-    done
-}
-
 /// One file more, if it was read to its end.
-pub fn add_file(volume: &mut Volume, whole: bool)
-    ensures files { volume.new.files ≡ files_with whole volume.old.files }
-    ensures bytes { volume.new.bytes ≡ volume.old.bytes }
+pub fn add_file(files: &mut u64, whole: bool)
+    ensures files { files.new ≡ files_with whole files.old }
 {
     if whole {
-        volume.files = volume.files.saturating_add(1);
+        *files = files.saturating_add(1);
     }
 }
 

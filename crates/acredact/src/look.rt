@@ -2,10 +2,7 @@
 
 ghost use Rattle.std.specs.Prelude.{◌≡◌, ◌<◌, ◌≤◌, ℕ, IfErr, IfOk, false, length, slice_index, true};
 ghost use Rattle.std.specs.List.{concat};
-ghost use Rattle.aho_core.specs.Patterns.{Patterns};
 ghost use Rattle.aho_devices.specs.Counts.{counted};
-ghost use Rattle.aho_stream.specs.FindRuns.{FindsAlong};
-ghost use Rattle.aho_stream.specs.Iterators.{CanGoOn, automaton_of};
 ghost use Rattle.tool_parts.specs.Streams.{bytes_left};
 ghost use Rattle.tool_parts.specs.Telling.{TellsBytes};
 ghost use Rattle.acredact.specs.Checks.{IsLookOf, SeesSearched, look_lines, quest_of};
@@ -16,7 +13,7 @@ ghost use Rattle.acredact.specs.Secrets.{IfOf};
 use crate::failure::tell_unread;
 use crate::files::{is_input, opened};
 use crate::folder::Folder;
-use chromesquid::any::{PatternPieces, StreamCoverStart, StreamFindIter, StreamStart, cover_with};
+use chromesquid::any::{PatternPieces, StreamCoverStart, StreamStart, cover_with};
 use chromesquid::{Automaton, FromRead, Nowhere, Sink, Source, StreamError};
 use std::alloc::{AllocError, Global};
 use std::io::Read;
@@ -259,23 +256,9 @@ fn occurs_in<A: Automaton, R: Source>(
     // Not by `try_stream_find_iter`, which does not say that a refusal leaves the source as it was.
     let start = StreamStart::new(alloc, automaton)?;
     let mut finds = start.finds(source);
-    let occurs = has_next(&mut finds);
+    let first = finds.next();
     let _source = finds.into_source();
-    occurs
-}
-
-/// Whether the iterator has a match to give.
-fn has_next<'a, 'r, A: Automaton, R: Source>(
-    finds: &mut StreamFindIter<'a, 'r, A, R>,
-) -> Result<bool, StreamError>
-    requires ready { CanGoOn A.Automaton finds.old.chunks }
-    requires along { (p : Patterns) → A.is_of (automaton_of finds.old.chunks) p → FindsAlong R.Source
-        ⟦<StreamFindIter<'a, 'r, A, R> as Iterator>⟧.next_gives p finds.old }
-    ensures same_source { finds.new.chunks.source.ghost_name ≡ finds.old.chunks.source.ghost_name }
-    ensures looks { (p : Patterns) → A.is_of (automaton_of finds.old.chunks) p →
-        LooksAt R.Source (sought p false) result finds.old.chunks.source.now finds.new.chunks.source.now }
-{
-    match finds.next() {
+    match first {
         None => Ok(false),
         Some(Ok(_)) => Ok(true),
         Some(Err(error)) => Err(error),

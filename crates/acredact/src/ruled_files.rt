@@ -110,7 +110,7 @@ pub fn cover_files<A: Automaton, P: Pieces, F: Folder, I: Read, W: Write, E: Sin
     let mut rest = names;
     while !rest.is_empty() {
         let whole = cover_told(lined, folder, rest[0], counts, volume, streams)?;
-        add_file(volume, whole);
+        add_file(&mut volume.files, whole);
         all = both(all, whole);
         rest = &rest[1..];
     }
@@ -186,7 +186,7 @@ fn cover_file<A: Automaton, P: Pieces, F: Folder, I: Read, W: Write>(
     }
 }
 
-/// Redacts the input to its end, and answers why it cannot be read to that, where it cannot.
+/// Redacts the input to its end, counts its bytes, and answers why it cannot be read to that, where it cannot.
 fn cover_input<A: Automaton, P: Pieces, I: Read, W: Write>(
     lined: &mut Lined<'_, '_, A, P>,
     counts: &mut [u64],
@@ -202,25 +202,6 @@ fn cover_input<A: Automaton, P: Pieces, I: Read, W: Write>(
     ensures still { StaysLined A.Automaton P.Pieces lined.old lined.new }
 {
     input.restart();
-    unread_of(cover_metered(lined, counts, volume, input, output))
-}
-
-/// Redacts what the input gives, and counts its bytes.
-fn cover_metered<A: Automaton, P: Pieces, I: Read, W: Write>(
-    lined: &mut Lined<'_, '_, A, P>,
-    counts: &mut [u64],
-    volume: &mut Volume,
-    input: &mut FromRead<I>,
-    output: &mut FromWrite<W>,
-) -> Result<(), LineError>
-    requires ready { IsAnyLined A.Automaton P.Pieces lined.old }
-    ensures leaves { LeavesLined A.Automaton P.Pieces ⟦<FromRead<I> as Source>⟧ ⟦<FromWrite<W> as Sink>⟧ lined.old
-        result counts.old counts.new input.old input.new output.old output.new }
-    ensures read { OnOk result (AddsStream ⟦<FromRead<I> as Source>⟧ input.old input.new
-        volume.old.bytes volume.new.bytes) }
-    ensures files { volume.new.files ≡ volume.old.files }
-    ensures still { StaysLined A.Automaton P.Pieces lined.old lined.new }
-{
     let taken = cover_with::<Brand, A, P, FromRead<I>, FromWrite<W>>(
         lined,
         counts,
@@ -231,7 +212,7 @@ fn cover_metered<A: Automaton, P: Pieces, I: Read, W: Write>(
     volume.bytes = taken.bytes;
     let Taken { lent, done, .. } = taken;
     let _source = lent.source;
-    done
+    unread_of(done)
 }
 
 /// Redacts a source, and counts its bytes, of which all that it gives are known to be these.
