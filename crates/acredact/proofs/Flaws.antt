@@ -1,42 +1,23 @@
 -- Why a piece is not clean, and that it is clean where nothing is found.
-use Rattle.acredact.proofs.Common.{ArePatterns, Bor, IsCleanPiece, IsMember, NoneHolds, Patterns, Rule, folded_by, get_or-map, length-map, pattern_at, pieces_of}
-use Rattle.std.proofs.Common.{◌≡◌, inl, inr, ℕ, zero, suc, ◌+◌, ◌-◌, ◌<◌, ◌≤◌, List, [], ◌∷◌, ◌++◌, true, false, length, get_or, set, refl, sym, ap, subst, ◌∙◌, arith, length-append, map}
+use Rattle.acredact.proofs.Common.{All, All-head, All-tail, ArePatterns, Bor, IsCleanPiece, IsMember, NoneHolds, Patterns, Rule, folded_by, get_or-map, length-map, pattern_at, pieces_of}
+use Rattle.std.proofs.Common.{◌≡◌, inl, inr, ℕ, ◌+◌, ◌-◌, ◌<◌, ◌≤◌, List, [], ◌∷◌, ◌++◌, true, false, length, get_or, set, refl, sym, ap, subst, ◌∙◌, arith, length-append, map}
 use Rattle.std.specs.Prelude.{Bool}
 use Rattle.std.proofs.Math.Seq.{get_or-append_seam}
 use Rattle.std.proofs.lemmas.Bool.{cases_eq}
 use Rattle.std.proofs.lemmas.List.{get_or-set_other, get_or-set_same}
 use Rattle.aho_laws.specs.CoverLaws.{AreClean}
-use Rattle.acredact.specs.Pieces.{HoldNone, IsFlaw, IsHolder, IsMarked, IsUnclean, WordsAreMarked}
+use Rattle.acredact.specs.Pieces.{HoldNone, IsFlaw, IsHolder, IsUnclean, WordsAreMarked}
 use Rattle.acredact.specs.Secrets.{NoneOccurs}
 use Rattle.acredact.specs.Spelling.{HoldsByte}
 use Rattle.acredact.specs.Tables.{piece_by, secret_of, secrets_of}
 use Rattle.acredact.specs.declared.clean.Flaw.{Flaw}
 use Rattle.acredact.specs.declared.clean.Flaw.TheVariants.{Empty, Pseudonym, Spells}
 
--- what stands at a place is a member, and each member stands at one
-pub member_at : (xs : List ℕ) (place : ℕ) → place < length xs → IsMember xs (get_or xs place 0)
-member_at [] place below = absurd (omega (arith, below))
-member_at (x ∷ xs) zero below = inl refl
-member_at (x ∷ xs) (suc place) below = inr (member_at xs place (omega (arith, below)))
-
-pub place_of : (xs : List ℕ) (x : ℕ) → IsMember xs x → (place : ℕ) × (place < length xs) × (get_or xs place 0 ≡ x)
-place_of [] x member = absurd member
-place_of (y ∷ ys) x (inl is) = (0, omega arith, sym is)
-place_of (y ∷ ys) x (inr member) = let (place, below, is) = place_of ys x member in (suc place, omega (arith, below), is)
-
--- the bytes of a word, one by one
-pub word_holds : (ignore_case : Bool) (word : List ℕ) (byte place : ℕ) → place < length word → folded_by ignore_case (get_or word place 0) ≡ folded_by ignore_case byte → HoldsByte ignore_case word byte
-word_holds ignore_case word byte place below same = (get_or word place 0, member_at word place below, same)
-
-pub word_holds_none : (ignore_case : Bool) (word : List ℕ) (byte : ℕ) → ((place : ℕ) → place < length word → folded_by ignore_case (get_or word place 0) ≡ folded_by ignore_case byte → ⊥) → HoldsByte ignore_case word byte → ⊥
-word_holds_none ignore_case word byte none (other, member, same) =
-    let (place, below, is) = place_of word other member in
-    none place below (ap (folded_by ignore_case) is ∙ same)
-
-pub word_marked : (ignore_case : Bool) (word : List ℕ) (marks : List Bool) → ((place : ℕ) → place < length word → get_or marks (folded_by ignore_case (get_or word place 0)) false ≡ true) → IsMarked ignore_case word marks
-word_marked ignore_case word marks are byte member =
-    let (place, below, is) = place_of word byte member in
-    ap (λ (b : ℕ). get_or marks (folded_by ignore_case b) false) (sym is) ∙ are place below
+-- what is so of all is so of each member
+pub every_member : (P : ℕ → Type 0) (xs : List ℕ) (x : ℕ) → All P xs → IsMember xs x → P x
+every_member P [] x are member = absurd member
+every_member P (y ∷ ys) x are (inl is) = subst P (sym is) (All-head P y ys are)
+every_member P (y ∷ ys) x are (inr member) = every_member P ys x (All-tail P y ys are) member
 
 -- a mark more, and those before stay
 pub marked_here : (marks : List Bool) (at place : ℕ) → at < length marks → place ≡ at → get_or (set marks at true) place false ≡ true
@@ -50,8 +31,9 @@ marked_still marks at place below is = elim (cases_eq place at) [
 
 -- a byte that is not marked is held by no word
 pub unmarked : (ignore_case : Bool) (words : List (List ℕ)) (marks : List Bool) (byte place : ℕ) → WordsAreMarked ignore_case words marks → place ≡ folded_by ignore_case byte → get_or marks place false ≡ false → HoldNone ignore_case words byte
-unmarked ignore_case words marks byte place marked is not number numbered (other, member, same) =
-    let clash : true ≡ false = sym (marked number numbered other member) ∙ ap (λ (n : ℕ). get_or marks n false) (same ∙ sym is) ∙ not in cc
+unmarked ignore_case words marks byte place marked is not number d numbered (other, member, same) =
+    let held = every_member (λ b. get_or marks (folded_by ignore_case b) false ≡ true) (get_or words number d) other (marked number d numbered) member in
+    let clash : true ≡ false = sym held ∙ ap (λ (n : ℕ). get_or marks n false) (same ∙ sym is) ∙ not in cc
 
 -- the first and the last byte of a piece
 pub first_is : (piece rest : List ℕ) (byte : ℕ) → piece ≡ byte ∷ rest → get_or piece 0 0 ≡ byte
@@ -86,7 +68,7 @@ module _ (p : Patterns) (ignore_case : Bool) (words : List (List ℕ)) (are : Ar
 
   none_holds : (byte : ℕ) → HoldNone ignore_case words byte → NoneHolds p byte
   none_holds byte none number other numbered member same =
-      none number (subst (λ (l : List (List ℕ)). number < length l) are.words_are numbered)
+      none number [] (subst (λ (l : List (List ℕ)). number < length l) are.words_are numbered)
       (other, subst (λ (l : List (List ℕ)). IsMember (get_or l number []) other) are.words_are member, subst (λ (b : Bool). folded_by b other ≡ folded_by b byte) are.rule same)
 
   -- a pattern holds the first byte, or the last

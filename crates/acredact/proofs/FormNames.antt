@@ -1,8 +1,8 @@
 -- Texts that a sign parts, and names of forms of forms.
-use Rattle.acredact.proofs.Common.{All-head, All-tail, Nested, eq-eqb}
+use Rattle.acredact.proofs.Common.{All-head, All-tail, eq-eqb}
 use Rattle.std.proofs.Common.{◌≡◌, ℕ, Bool, false, List, [], ◌∷◌, ◌++◌, Option, refl, ap, ◌∙◌}
-use Rattle.std.specs.Prelude.{None, Some, nat_eq, option_and_then, option_map, if◌then◌else◌}
-use Rattle.acredact.specs.Forms.{form_called, nested_by, nested_called, split_first}
+use Rattle.std.specs.Prelude.{None, Some, nat_eq, option_map, if◌then◌else◌}
+use Rattle.acredact.specs.Forms.{split_first}
 use Rattle.acredact.specs.Tables.{IsWithout}
 
 -- the first of its places parts a text
@@ -20,13 +20,3 @@ parted_none sign [] without = refl
 parted_none sign (byte ∷ text) without =
     ap (λ (b : Bool). if b then Some ([], text) else with_first byte (split_first sign text)) (All-head (λ b. nat_eq b sign ≡ false) byte text without)
     ∙ ap (with_first byte) (parted_none sign text (All-tail (λ b. nat_eq b sign ≡ false) byte text without))
-
--- so a form of a form is called by what stands before it and behind it
-abbrev of_parts : List ℕ × List ℕ → Option Nested
-of_parts parts = nested_by (form_called parts.0) (form_called parts.1)
-
-pub nested_at : (name front rest : List ℕ) → name ≡ front ++ (43 ∷ rest) → IsWithout 43 front → nested_called name ≡ nested_by (form_called front) (form_called rest)
-nested_at name front rest is without = ap nested_called is ∙ ap (option_and_then of_parts) (parted_at 43 front rest without)
-
-pub nested_none : (name : List ℕ) → IsWithout 43 name → nested_called name ≡ None
-nested_none name without = ap (option_and_then of_parts) (parted_none 43 name without)

@@ -47,7 +47,6 @@ mod Statuses
 -- what is seen of files
 mod Looks
 mod Checks
-mod LongNames
 -- files whose names are not UTF-8
 mod SetApart
 mod Readings

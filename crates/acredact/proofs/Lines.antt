@@ -1,12 +1,11 @@
 -- Lines of a text that are added one after another.
-use Rattle.acredact.proofs.Common.{Form, eq-eqb, ne_eqb, slice_split, strip_last}
-use Rattle.std.proofs.Common.{◌≡◌, ◌≢◌, ℕ, ◌+◌, ◌-◌, ◌^◌, ◌≤◌, List, [], ◌∷◌, ◌++◌, length, refl, sym, ap, ◌∙◌, append_assoc, arith}
-use Rattle.std.specs.Prelude.{Result, Ok, Err, IfErr, drop, min, nat_eq, slice_index}
+use Rattle.acredact.proofs.Common.{Form, ne_eqb}
+use Rattle.std.proofs.Common.{◌≡◌, ◌≢◌, ℕ, ◌+◌, ◌-◌, ◌^◌, ◌≤◌, List, [], ◌∷◌, ◌++◌, length, ap, ◌∙◌, append_assoc, arith}
+use Rattle.std.specs.Prelude.{drop, min, slice_index}
 use Rattle.std.specs.List.{AllZip}
-use Rattle.std.proofs.lemmas.List.Splits.{slice_split_at, slice_split_none}
 use Rattle.std.proofs.lemmas.Slice.Zip.{AllZip-long}
 use Rattle.acredact.specs.LineFaults.{IsLineFaultBy, IsListFault, NamesNone}
-use Rattle.acredact.specs.Tables.{HaveLines, HoldsBy, IsAdded, IsAddedList, IsWithout, Secret, lines_in}
+use Rattle.acredact.specs.Tables.{HaveLines, HoldsBy, IsAdded, IsAddedList, Secret}
 use Rattle.acredact.specs.declared.patterns.BadLine.{BadLine}
 use Rattle.acredact.specs.declared.patterns.Place.{Place}
 
@@ -37,28 +36,6 @@ added_line form place old mid new front line at first second =
       numbered = numbered_more 0 first.more second.secret first.numbered (second.stands.line_is ∙ at ∙ ap (λ (n : ℕ). min n (2 ^ 64 - 1)) e);
     }
 
--- the first part of what is left, up to the first of the bytes that part a text, and the last one
-pub line_at : (byte : ℕ) (rest line more : List ℕ) → rest ≡ line ++ (byte ∷ more) → IsWithout byte line → slice_split (λ b. nat_eq b byte) rest ≡ line ∷ slice_split (λ b. nat_eq b byte) more
-line_at byte rest line more is without = ap (slice_split (λ b. nat_eq b byte)) is ∙ slice_split_at (λ b. nat_eq b byte) line byte more without (eq-eqb byte byte refl)
-
-pub line_end : (byte : ℕ) (rest : List ℕ) → IsWithout byte rest → slice_split (λ b. nat_eq b byte) rest ≡ rest ∷ []
-line_end byte rest without = slice_split_none (λ b. nat_eq b byte) rest without
-
--- a line stands in front of what is left
-pub line_more : (all front : List (List ℕ)) (rest line more : List ℕ) → all ≡ front ++ slice_split (λ b. nat_eq b 10) rest → rest ≡ line ++ (10 ∷ more) → IsWithout 10 line
-    → all ≡ (front ++ (line ∷ [])) ++ slice_split (λ b. nat_eq b 10) more
-line_more all front rest line more is parts without =
-    is ∙ ap (λ l. front ++ l) (line_at 10 rest line more parts without) ∙ sym (append_assoc front (line ∷ []) (slice_split (λ b. nat_eq b 10) more))
-
--- what is left is the last line
-pub line_last : (all front : List (List ℕ)) (rest : List ℕ) → all ≡ front ++ slice_split (λ b. nat_eq b 10) rest → IsWithout 10 rest → all ≡ front ++ (rest ∷ [])
-line_last all front rest is without = is ∙ ap (λ l. front ++ l) (line_end 10 rest without)
-
--- a text that is not empty has lines
-pub lines_of_some : (text : List ℕ) → 1 ≤ length text → lines_in text ≡ slice_split (λ b. nat_eq b 10) (strip_last 10 text)
-lines_of_some [] some = absurd (omega (arith, some))
-lines_of_some (byte ∷ bytes) some = refl
-
 -- the line behind some others is at fault
 pub fault_at : (form : Form) (lines front rest : List (List ℕ)) (line : List ℕ) (number : ℕ) (bad : BadLine) → lines ≡ front ++ (line ∷ rest) → number ≡ min (length front + 1) (2 ^ 64 - 1)
     → bad.number ≡ number → IsLineFaultBy form line bad.fault → IsListFault form lines bad
@@ -69,11 +46,6 @@ fault_at form lines front rest line number bad are counts is fault =
 pub cons_of : (text : List ℕ) (byte : ℕ) → 1 ≤ length text → slice_index text 0 ≡ byte → text ≡ byte ∷ drop 1 text
 cons_of [] byte some is = absurd (omega (arith, some))
 cons_of (b ∷ bytes) byte some is = ap (λ (x : ℕ). x ∷ bytes) is
-
--- both are so of a failure
-pub err_both : {T E : Type 0} (r : Result T E) (P Q : E → Type 0) → IfErr r P → IfErr r Q → IfErr r (λ e. P e × Q e)
-err_both (Ok x) P Q p q = tt
-err_both (Err e) P Q p q = (p, q)
 
 -- a byte behind the first names none
 pub names_none : (text : List ℕ) → slice_index text 1 ≢ 116 → slice_index text 1 ≢ 110 → slice_index text 1 ≢ 92 → NamesNone (drop 1 text)

@@ -1,22 +1,21 @@
 -- What a pseudonym can spell, and that nothing occurs in a cover where no pattern is like one.
 use Rattle.acredact.proofs.Common.{All, All-append, All-cons, All-nil, ArePatterns, IsCleanPiece, IsMember, NoneHolds, Patterns, cases_lt, folded_by, folded_word, pattern_at}
-use Rattle.std.proofs.Common.{◌≡◌, inl, inr, ℕ, zero, suc, ◌-◌, ◌<◌, ◌/◌, ◌%◌, List, [], ◌∷◌, ◌++◌, Option, true, false, length, drop, get_or, refl, sym, ap, subst, ◌∙◌, arith}
+use Rattle.std.proofs.Common.{◌≡◌, inl, inr, ℕ, zero, suc, ◌-◌, ◌<◌, ◌/◌, ◌%◌, List, Option, true, false, length, drop, get_or, refl, sym, ap, subst, ◌∙◌, arith}
 use Rattle.std.specs.Prelude.{Bool, None, Some, ◌⊎◌, slice_range}
 use Rattle.std.specs.Int.{bytes_high_first, byte_at}
 use Rattle.std.proofs.Math.Nat.{mod-lt}
 use Rattle.std.proofs.lemmas.List.{get_or_past}
-use Rattle.std.proofs.lemmas.List.Elements.{All-get_or}
+use Rattle.std.proofs.lemmas.List.Elements.{All-drop, All-from_recursion, All-get_or, All-take}
 use Rattle.aho_core.specs.Bytes.{folded}
 use Rattle.aho_laws.proofs.Members.{member-map, member-of_map}
-use Rattle.secret_rules.proofs.Members.{member-take}
 use Rattle.sha2.specs.Sha256.{digest_bytes, sha256}
 use Rattle.acredact.specs.Hmac.{hmac_sha256}
-use Rattle.acredact.specs.Pseudonyms.{as_compared, hex_at, hex_digit, piece_of_digest, pseudonym_rule}
+use Rattle.acredact.specs.Pseudonyms.{as_compared, hex_digit, piece_of_digest, pseudonym_rule}
 use Rattle.acredact.specs.Pieces.{IsJudgedBy}
 use Rattle.acredact.specs.Secrets.{NoneOccurs}
 use Rattle.acredact.specs.Spelling.{IsFirstSpelled, NoneAreSpelled, is_inside}
 use Rattle.acredact.specs.declared.clean.Unclean.{Unclean}
-use Rattle.acredact.proofs.Flaws.{first_is, last_is}
+use Rattle.acredact.proofs.Flaws.{every_member, first_is, last_is}
 
 -- a digest is of bytes
 abbrev IsByte : ℕ → Type 0
@@ -61,48 +60,48 @@ digit_quiet value below = (refl, refl)
 abbrev IsOfPiece : ℕ → Type 0
 IsOfPiece byte = (byte ≡ 91) ⊎ ((byte ≡ 93) ⊎ IsQuiet byte)
 
-abbrev AreOfPiece : List ℕ → Type 0
-AreOfPiece bytes = (byte : ℕ) → IsMember bytes byte → IsOfPiece byte
-
-all_none : AreOfPiece []
-all_none byte member = absurd member
-
-all_more : (byte : ℕ) (bytes : List ℕ) → IsOfPiece byte → AreOfPiece bytes → AreOfPiece (byte ∷ bytes)
-all_more byte bytes is are other (inl same) = subst IsOfPiece (sym same) is
-all_more byte bytes is are other (inr there) = are other there
-
-hex_all : (digest : List ℕ) (at : ℕ) → get_or digest at 0 < 256 → (bytes : List ℕ) → AreOfPiece bytes → AreOfPiece (hex_at digest at ++ bytes)
-hex_all digest at below bytes are =
-    let high = hex_digit (get_or digest at 0 / 16) in
-    let low = hex_digit (get_or digest at 0 % 16) in
-    all_more high (low ∷ bytes) (inr (inr (digit_quiet (get_or digest at 0 / 16) (omega (arith, below)))))
-    (all_more low bytes (inr (inr (digit_quiet (get_or digest at 0 % 16) (mod-lt (get_or digest at 0) (omega arith))))) are)
-
-piece_all : (digest : List ℕ) → ((at : ℕ) → get_or digest at 0 < 256) → AreOfPiece (piece_of_digest digest)
+piece_all : (digest : List ℕ) → ((at : ℕ) → get_or digest at 0 < 256) → All IsOfPiece (piece_of_digest digest)
 piece_all digest below =
-    let last : AreOfPiece (93 ∷ []) = all_more 93 [] (inr (inl refl)) all_none in
-    let bytes5 = hex_at digest 5 ++ (93 ∷ []) in
-    let digits5 : AreOfPiece bytes5 = hex_all digest 5 (below 5) (93 ∷ []) last in
-    let bytes4 = hex_at digest 4 ++ bytes5 in
-    let digits4 : AreOfPiece bytes4 = hex_all digest 4 (below 4) bytes5 digits5 in
-    let bytes3 = hex_at digest 3 ++ bytes4 in
-    let digits3 : AreOfPiece bytes3 = hex_all digest 3 (below 3) bytes4 digits4 in
-    let bytes2 = hex_at digest 2 ++ bytes3 in
-    let digits2 : AreOfPiece bytes2 = hex_all digest 2 (below 2) bytes3 digits3 in
-    let bytes1 = hex_at digest 1 ++ bytes2 in
-    let digits1 : AreOfPiece bytes1 = hex_all digest 1 (below 1) bytes2 digits2 in
-    let bytes0 = hex_at digest 0 ++ bytes1 in
-    let digits0 : AreOfPiece bytes0 = hex_all digest 0 (below 0) bytes1 digits1 in
-    all_more 91 (114 ∷ 101 ∷ 100 ∷ 97 ∷ 99 ∷ 116 ∷ 101 ∷ 100 ∷ 58 ∷ bytes0) (inl refl) (all_more 114 (101 ∷ 100 ∷ 97 ∷ 99 ∷ 116 ∷ 101 ∷ 100 ∷ 58 ∷ bytes0) (inr (inr (refl, refl))) (all_more 101 (100 ∷ 97 ∷ 99 ∷ 116 ∷ 101 ∷ 100 ∷ 58 ∷ bytes0) (inr (inr (refl, refl))) (all_more 100 (97 ∷ 99 ∷ 116 ∷ 101 ∷ 100 ∷ 58 ∷ bytes0) (inr (inr (refl, refl))) (all_more 97 (99 ∷ 116 ∷ 101 ∷ 100 ∷ 58 ∷ bytes0) (inr (inr (refl, refl))) (all_more 99 (116 ∷ 101 ∷ 100 ∷ 58 ∷ bytes0) (inr (inr (refl, refl))) (all_more 116 (101 ∷ 100 ∷ 58 ∷ bytes0) (inr (inr (refl, refl))) (all_more 101 (100 ∷ 58 ∷ bytes0) (inr (inr (refl, refl))) (all_more 100 (58 ∷ bytes0) (inr (inr (refl, refl))) (all_more 58 (bytes0) (inr (inr (refl, refl))) (digits0))))))))))
-
--- what stands in a part stands in the whole
-member_drop : (n : ℕ) (xs : List ℕ) (x : ℕ) → IsMember (drop n xs) x → IsMember xs x
-member_drop (suc n) (y ∷ ys) x member = inr (member_drop n ys x member)
-member_drop n xs x member = member
+    let high : (at : ℕ) → IsOfPiece (hex_digit (get_or digest at 0 / 16)) = λ at. inr (inr (digit_quiet (get_or digest at 0 / 16) (omega (arith, below at)))) in
+    let low : (at : ℕ) → IsOfPiece (hex_digit (get_or digest at 0 % 16)) = λ at. inr (inr (digit_quiet (get_or digest at 0 % 16) (mod-lt (get_or digest at 0) (omega arith)))) in
+    All-from_recursion IsOfPiece (piece_of_digest digest) (
+      inl refl,
+      (
+        inr (inr (refl, refl)),
+        (
+          inr (inr (refl, refl)),
+          (
+            inr (inr (refl, refl)),
+            (
+              inr (inr (refl, refl)),
+              (
+                inr (inr (refl, refl)),
+                (
+                  inr (inr (refl, refl)),
+                  (
+                    inr (inr (refl, refl)),
+                    (
+                      inr (inr (refl, refl)),
+                      (
+                        inr (inr (refl, refl)),
+                        (
+                          high 0,
+                          (low 0, (high 1, (low 1, (high 2, (low 2, (high 3, (low 3, (high 4, (low 4, (high 5, (low 5, (inr (inl refl), tt)))))))))))),
+                        ),
+                      ),
+                    ),
+                  ),
+                ),
+              ),
+            ),
+          ),
+        ),
+      ),
+    )
 
 module _ (p : Patterns) (unlike : NoneAreSpelled p.ignore_case p.words) where
   -- nothing occurs in a pseudonym
-  none_within : (piece : List ℕ) → AreOfPiece piece → NoneOccurs p piece
+  none_within : (piece : List ℕ) → All IsOfPiece piece → NoneOccurs p piece
   none_within piece are m occurs =
       let word = pattern_at p m.pattern in
       let one = unlike m.pattern occurs.numbered in
@@ -110,7 +109,7 @@ module _ (p : Patterns) (unlike : NoneAreSpelled p.ignore_case p.words) where
       let there : IsMember (folded_word p (slice_range piece m.start m.end)) (folded p byte) =
       subst (λ (bytes : List ℕ). IsMember bytes (folded p byte)) occurs.same (member-map (folded p) word byte member) in
       let (other, in_part, same) = member-of_map (folded p) (slice_range piece m.start m.end) (folded p byte) there in
-      elim (are other (member_drop m.start piece other (member-take (drop m.start piece) (m.end - m.start) other in_part))) [
+      elim (every_member IsOfPiece (slice_range piece m.start m.end) other (All-take IsOfPiece (m.end - m.start) (drop m.start piece) (All-drop IsOfPiece m.start piece are)) in_part) [
         | inl first ↦ one.no_first (byte, member, same ∙ ap (folded p) first)
         | inr (inl last) ↦ one.no_last (byte, member, same ∙ ap (folded p) last)
         | inr (inr quiet) ↦ (let clash : false ≡ true = sym outside ∙ ap is_inside same ∙ quiet_by p.ignore_case other quiet in cc)

@@ -1,27 +1,10 @@
 -- Values of variables, one after another.
-use Rattle.acredact.proofs.Common.{Bor, Form, Rule, common_steps, get_or-map, length-map, pieces_of}
-use Rattle.std.proofs.Common.{◌≡◌, ℕ, ◌+◌, ◌-◌, ◌^◌, ◌<◌, Bool, true, List, [], ◌∷◌, ◌++◌, Option, length, get_or, refl, sym, ap, subst, ◌∙◌, append-nil, append_assoc, arith}
-use Rattle.std.specs.Prelude.{Some, None, min, nat_lt, slice_index_or}
-use Rattle.std.specs.List.{cons_option}
+use Rattle.acredact.proofs.Common.{Bor, Rule, common_steps, get_or-map, length-map, pieces_of}
+use Rattle.std.proofs.Common.{◌≡◌, ℕ, ◌<◌, Bool, true, List, [], ◌∷◌, ◌++◌, length, get_or, refl, sym, ap, subst, ◌∙◌, append-nil, append_assoc, arith}
+use Rattle.std.specs.Prelude.{nat_lt, slice_index_or}
 use Rattle.acredact.specs.Parts.{IsAddedSome}
-use Rattle.acredact.specs.Tables.{Secret, patterns_in, secret_of, secrets_of, stripped_by}
-use Rattle.acredact.specs.Values.{GiveEach, GivesValue, bad_or, fault_of_line, first_fault, values_with}
-use Rattle.acredact.specs.declared.patterns.LineFault.{LineFault}
-
--- a value more
-pub values_more : (values rest all : List (List ℕ)) (value : Option (List ℕ)) → values ++ cons_option value rest ≡ all → values_with values value ++ rest ≡ all
-values_more values rest all None is = is
-values_more values rest all (Some value) is = append_assoc values (value ∷ []) rest ∙ is
-
--- a line without a fault is passed, and one with a fault is the first
-module _ (allow_empty : Bool) (form : Form) (number : ℕ) (line : List ℕ) (lines : List (List ℕ)) where
-  pub fault_later : fault_of_line allow_empty (stripped_by form line) ≡ None
-      → first_fault allow_empty form number (line ∷ lines) ≡ first_fault allow_empty form (min (number + 1) (2 ^ 64 - 1)) lines
-  fault_later none = ap (λ (f : Option LineFault). bad_or number f (first_fault allow_empty form (min (number + 1) (2 ^ 64 - 1)) lines)) none
-
-  pub fault_here : (fault : LineFault) → fault_of_line allow_empty (stripped_by form line) ≡ Some fault
-      → first_fault allow_empty form number (line ∷ lines) ≡ Some (record { number = number; fault = fault })
-  fault_here fault some = ap (λ (f : Option LineFault). bad_or number f (first_fault allow_empty form (min (number + 1) (2 ^ 64 - 1)) lines)) some
+use Rattle.acredact.specs.Tables.{Secret, patterns_in, secret_of, secrets_of}
+use Rattle.acredact.specs.Values.{GiveEach, GivesValue}
 
 -- what the values so far gave, and what the others are to give, is what all give
 pub record ValuedSoFar (parts : Bool) (all rest : List (List ℕ)) (old new : List Secret) : Type 0 where

@@ -1,7 +1,8 @@
 -- What comes of a call whose pieces were looked at.
-use Rattle.acredact.proofs.Common.{All, All-cons, All-nil, Errors, Failure, FromWrite, IsMember, Patterns, Readers, SinkGhosts, Streams, Strict, Tells, Writers, bytes_left}
-use Rattle.std.proofs.Common.{◌≡◌, inl, inr, ℕ, List, [], ◌∷◌, Option, true, false, refl, sym, subst, ◌∙◌}
+use Rattle.acredact.proofs.Common.{Errors, Failure, FromWrite, IsMember, Patterns, Readers, SinkGhosts, Streams, Strict, Tells, Writers, bytes_left}
+use Rattle.std.proofs.Common.{◌≡◌, inl, inr, ℕ, List, Option, true, false, refl, sym, subst, ◌∙◌}
 use Rattle.std.specs.Prelude.{◌⊎◌, Bool, None, Some, Result, Ok, Err, Vec, is_some, option_map}
+use Rattle.secret_rules.proofs.Owners.{member-get_or}
 use Rattle.acredact.specs.Arguments.{Given, has}
 use Rattle.acredact.specs.Calls.{Call, CallOutcome, CalledAs, IsLineOf, IsWarningLine, IsWordLine, MayFail, OutputFails, RedactsEach, RestDone, RestOutcome, TellsAnyNumbers, TellsNumbers, WarnsLoaded, keyed_as, names_asked, reading_by, redactor_by_given, work_by}
 use Rattle.acredact.specs.Doubts.{TellsDoubts, all_doubt_lines}
@@ -33,16 +34,11 @@ pub judged_as : {Z : Type 0} (p : Patterns) (covers covers' named ignore_case : 
 judged_as p covers covers' named ignore_case key pieces pieces' answer by is same judged =
     judged_by p covers ignore_case key pieces answer (rw (by, is, same) at judged)
 
--- what holds of each member holds of all
-pub all_members : (Is : List ℕ → Type 0) (lines : List (List ℕ)) → ((line : List ℕ) → IsMember lines line → Is line) → All Is lines
-all_members Is [] each = All-nil Is
-all_members Is (line ∷ lines) each = All-cons Is line lines (each line (inl refl)) (all_members Is lines (λ other is. each other (inr is)))
-
 -- what is told of patterns of lists is one line after another
 pub doubts_tell : {E : Type 0} (K : SinkGhosts E) (IsLine : List ℕ → Type 0) (strict : Bool) (given : List Given) (secrets : List Secret) (old new : Errors E) → (strict ≡ false → (line : List ℕ) → IsMember (all_doubt_lines given secrets) line → IsLine line)
     → TellsDoubts K strict given secrets old new → Tells K IsLine old new
 doubts_tell K IsLine true given secrets old new may doubts = tells_same K IsLine old new doubts.1
-doubts_tell K IsLine false given secrets old new may doubts = record { told = all_doubt_lines given secrets; are_lines = all_members IsLine (all_doubt_lines given secrets) (may refl); written = doubts }
+doubts_tell K IsLine false given secrets old new may doubts = record { told = all_doubt_lines given secrets; are_lines = λ number d within. may refl _ (member-get_or (all_doubt_lines given secrets) number d within); written = doubts }
 
 -- it may be told, where such a line may be
 module _ {E : Type 0} (K : SinkGhosts E) (call : Call) (IsLine : List ℕ → Type 0) (may : (line : List ℕ) → IsWarningLine call line → IsLine line)

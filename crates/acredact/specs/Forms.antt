@@ -1,12 +1,12 @@
 -- Forms of patterns: which are asked for, and which patterns they are.
 use Rattle.acredact.specs.Common.{All, bytes_eq, slice_split}
-use Rattle.std.specs.Prelude.{◌≡◌, ℕ, ◌+◌, ◌≤◌, ◌||◌, Bool, List, [], ◌∷◌, ◌++◌, Option, Some, None, codes, flat_map, is_some, length, map, nat_eq, nat_lt, option_and_then, option_map, if◌then◌else◌}
+use Rattle.std.specs.Prelude.{◌≡◌, ℕ, ◌+◌, ◌≤◌, ◌||◌, Bool, List, [], ◌∷◌, ◌++◌, Option, Some, None, Vec, codes, flat_map, is_some, length, map, nat_eq, nat_lt, option_and_then, option_map, if◌then◌else◌}
 use Rattle.std.specs.List.{filter, filter_map, list_all, list_any}
 use Rattle.secret_forms.specs.Forms.{HidesForm, HidesNested, form_patterns, forms_patterns, inner_patterns, nested_patterns}
 use Rattle.secret_forms.specs.Patterns.{added_all}
 use Rattle.secret_forms.specs.declared.form.Form.{Form as SecretForm}
 use Rattle.secret_forms.specs.declared.form.Form.TheVariants.{Base64, Hex, Url, Json, Xml, Shell, Lines}
-use Rattle.acredact.specs.Tables.{Secret, secrets_of}
+use Rattle.acredact.specs.Tables.{Secret, secret_of, secrets_of}
 use Rattle.acredact.specs.declared.forms.Asked.{Asked}
 use Rattle.acredact.specs.declared.forms.Nested.{Nested}
 use Rattle.acredact.specs.declared.patterns.Rule.{Rule}
@@ -109,6 +109,11 @@ asked_form_patterns asked pattern = once_patterns asked.forms pattern ++ flat_ma
 abbrev pub form_secret : ℕ → Secret → List ℕ → Secret
 form_secret number secret pattern =
     record { pattern = pattern; replacement = secret.replacement; list = secret.list; line = 0; form_of = Some number }
+
+-- such patterns of a rule are added
+abbrev pub AddsFormsOf : {Z : Type 0} → Rule → ℕ → List (List ℕ) → (rules rules' : Vec Rule Z) → Type 0
+AddsFormsOf rule number patterns rules rules' =
+    secrets_of rules'.items ≡ secrets_of rules.items ++ map (form_secret number (secret_of rule)) (filled patterns)
 
 -- the forms of a secret that has this number; one of fewer than four bytes has none
 abbrev pub forms_of : AskedForms → ℕ → Secret → List Secret

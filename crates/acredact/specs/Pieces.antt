@@ -1,10 +1,10 @@
 -- Which of the texts that are written in the place of patterns are clean, so that with what stands beside them they spell no pattern.
-use Rattle.acredact.specs.Common.{Errors, IsMember, Occurrence, Patterns, SinkGhosts, TellsBytes, folded_by, pieces_of}
+use Rattle.acredact.specs.Common.{All, Errors, Occurrence, Patterns, SinkGhosts, TellsBytes, folded_by, pieces_of}
 use Rattle.std.specs.Prelude.{◌≡◌, ◌⊎◌, ℕ, ◌+◌, ◌<◌, Bool, true, false, List, [], ◌∷◌, ◌++◌, Option, Some, None, is_some, length, map, slice_index_or}
 use Rattle.aho_core.specs.Occurs.{OccursIn}
 use Rattle.aho_core.specs.Patterns.{pattern_at}
 use Rattle.aho_core.specs.Search.{plain_search}
-use Rattle.aho_laws.specs.CoverLaws.{AreClean, IsCleanPiece}
+use Rattle.aho_laws.specs.CoverLaws.{IsCleanPiece}
 use Rattle.tool_parts.specs.Asked.{ArePatterns}
 use Rattle.acredact.specs.Messages.{unclean_line}
 use Rattle.acredact.specs.Secrets.{AreCleanBy, Redactor}
@@ -25,7 +25,7 @@ pieces_by judge = map (piece_by judge.usual.now) (secrets_of judge.rules.now)
 
 -- no word does
 abbrev pub HoldNone : Bool → List (List ℕ) → ℕ → Type 0
-HoldNone ignore_case words byte = (number : ℕ) → number < length words → HoldsByte ignore_case (slice_index_or words number []) byte → ⊥
+HoldNone ignore_case words byte = All (λ word. HoldsByte ignore_case word byte → ⊥) words
 
 -- this one does, told by its number from 1 on
 abbrev pub IsHolder : Bool → List (List ℕ) → ℕ → ℕ → Type 0
@@ -34,12 +34,11 @@ IsHolder ignore_case words byte told = (number : ℕ) × (told ≡ number + 1) �
 
 -- the bytes of a word are marked, as they are compared
 abbrev pub IsMarked : Bool → List ℕ → List Bool → Type 0
-IsMarked ignore_case word marks = (byte : ℕ) → IsMember word byte → slice_index_or marks (folded_by ignore_case byte) false ≡ true
+IsMarked ignore_case word marks = All (λ byte. slice_index_or marks (folded_by ignore_case byte) false ≡ true) word
 
 -- and those of all words
 abbrev pub WordsAreMarked : Bool → List (List ℕ) → List Bool → Type 0
-WordsAreMarked ignore_case words marks = (number : ℕ) → number < length words
-    → IsMarked ignore_case (slice_index_or words number []) marks
+WordsAreMarked ignore_case words marks = All (λ word. IsMarked ignore_case word marks) words
 
 -- what was marked stays so
 abbrev pub StayMarked : List Bool → List Bool → Type 0
@@ -71,11 +70,6 @@ pub record IsUnclean (p : Patterns) (pieces : List (List ℕ)) (unclean : Unclea
   pub before : (other : ℕ) → other < number → IsCleanPiece p (slice_index_or pieces other [])
   pub flaw : IsFlaw p (slice_index_or pieces number []) unclean.flaw
   pub is_not : IsCleanPiece p (slice_index_or pieces number []) → ⊥
-
--- what is answered of pieces: that, and nothing where all are clean
-abbrev pub IsFirstOrNone : Patterns → List (List ℕ) → Option Unclean → Type 0
-IsFirstOrNone p pieces None = AreClean p pieces
-IsFirstOrNone p pieces (Some unclean) = IsUnclean p pieces unclean
 
 -- the first pattern whose piece is not clean, or that a pseudonym can spell
 abbrev pub IsUncleanBy : (named : Bool) → Patterns → List (List ℕ) → Unclean → Type 0

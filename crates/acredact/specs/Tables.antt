@@ -1,5 +1,5 @@
 -- What the lines of a file of patterns and of a table hold.
-use Rattle.acredact.specs.Common.{All, ends_with_byte, flat_map, slice_split, strip_last}
+use Rattle.acredact.specs.Common.{All, Bor, ends_with_byte, flat_map, slice_split, strip_last}
 use Rattle.std.specs.Prelude.{◌≡◌, ℕ, ◌+◌, ◌-◌, ◌^◌, ◌≤◌, min, Bool, true, false, List, [], ◌∷◌, ◌++◌, Option, Some, None, Vec, codes, length, map, nat_eq, option_map, unwrap_or, if◌then◌else◌}
 use Rattle.std.specs.List.{AllZip}
 use Rattle.acredact.specs.declared.patterns.Form.{Form}
@@ -69,6 +69,11 @@ stripped_by form line = if form.crlf then strip_last 13 line else line
 -- a byte does not stand in a text
 abbrev pub IsWithout : ℕ → List ℕ → Type 0
 IsWithout byte text = All (λ b. nat_eq b byte ≡ false) text
+
+-- the parts that are left of a text where this byte stands between them: none where nothing is left
+abbrev pub parts_left : ℕ → Option (Bor (List ℕ)) → List (List ℕ)
+parts_left byte None = []
+parts_left byte (Some text) = slice_split (λ b. nat_eq b byte) text.now
 
 -- a line of a file holds a secret: there is no zero byte in it, and a pattern of a file of patterns ends in no carriage return
 pub record HoldsBy (form : Form) (line : List ℕ) (secret : Secret) : Type 0 where

@@ -4,15 +4,14 @@
 //! A pseudonym begins with `[`, ends with `]`, and between them it holds no other bytes than those of `redacted:` and hexadecimal digits. So
 //! it cannot spell a pattern with what stands beside it where each pattern holds a byte that is none of these, and neither `[` nor `]`.
 
-ghost use Rattle.std.specs.Prelude.{◌≡◌, MatchBool, IfNone, IfSome, IsOk, length, true};
+ghost use Rattle.std.specs.Prelude.{◌≡◌, MatchBool, IfNone, IfSome, IsOk, length};
 ghost use Rattle.aho_core.specs.Bytes.{folded_by};
 ghost use Rattle.aho_core.specs.Occurs.{OccursIn};
 ghost use Rattle.aho_core.specs.Patterns.{Patterns};
 ghost use Rattle.aho_core.specs.Replacement.{pieces_of};
 ghost use Rattle.aho_core.specs.Search.{plain_search};
 ghost use Rattle.aho_core.specs.declared.search.Anchored.TheVariants.{No};
-ghost use Rattle.aho_laws.specs.CoverLaws.{IsCleanPiece};
-ghost use Rattle.acredact.specs.Pieces.{HoldNone, IsFirstOrNone, IsFlawOrNone, IsHolder, IsJudgeOf, IsJudgedBy, IsMarked, StayMarked, WordsAreMarked, pieces_by};
+ghost use Rattle.acredact.specs.Pieces.{HoldNone, IsFlawOrNone, IsHolder, IsJudgeOf, IsJudgedBy, IsMarked, StayMarked, WordsAreMarked, pieces_by};
 ghost use Rattle.acredact.specs.Secrets.{IfOf, NoneOccurs};
 ghost use Rattle.acredact.specs.Spelling.{HoldsByte, IsFirstSpelled, IsUnlike, LiesInside, MayBeSpelled, StandsOutside, is_inside};
 ghost use Rattle.acredact.specs.Tables.{piece_by, secret_of};
@@ -76,28 +75,10 @@ pub fn unclean_of<A: Automaton>(
         return first_spelled(judge.words, judge.ignore_case);
     }
     let marks = marks_of(judge.words, judge.ignore_case);
-    first_unclean(automaton, judge, &marks)
-}
-
-/// The first pattern whose piece is not clean.
-fn first_unclean<A: Automaton>(
-    automaton: &A,
-    judge: &Judge<'_, '_>,
-    marks: &[bool],
-) -> Option<Unclean>
-    requires of { (p : Patterns) × A.is_of automaton.now p }
-    requires starts { IsOk (A.start automaton.now No) }
-    requires one_each { length judge.now.rules.now ≡ length judge.now.words.now }
-    requires sized { length marks.now ≡ 256 }
-    requires marked { WordsAreMarked judge.now.ignore_case (pieces_of judge.now.words.now) marks.now }
-    ensures first { IfOf A.Automaton automaton.now (λ p.
-        IsJudgeOf judge.now p →
-        IsFirstOrNone p (pieces_by judge.now) result) }
-{
-    let usual = flaw_of(automaton, judge, marks, judge.usual).is_none();
+    let usual = flaw_of(automaton, judge, &marks, judge.usual);
     let mut at = 0;
     while at < judge.rules.len() {
-        match flaw_of_rule(automaton, judge, marks, &judge.rules[at], usual) {
+        match flaw_of_rule(automaton, judge, &marks, &judge.rules[at], usual) {
             Some(flaw) => {
                 return Some(Unclean {
                     number: at + 1,
@@ -110,13 +91,13 @@ fn first_unclean<A: Automaton>(
     None
 }
 
-/// Why the piece of a rule is not clean, where it is not. The usual one is not looked at again where that is known to be clean.
+/// Why the piece of a rule is not clean, where it is not, by what was found of the usual one.
 fn flaw_of_rule<A: Automaton>(
     automaton: &A,
     judge: &Judge<'_, '_>,
     marks: &[bool],
     rule: &Rule,
-    usual: bool,
+    usual: Option<Flaw>,
 ) -> Option<Flaw>
     requires of { (p : Patterns) × A.is_of automaton.now p }
     requires starts { IsOk (A.start automaton.now No) }
@@ -124,19 +105,14 @@ fn flaw_of_rule<A: Automaton>(
     requires marked { WordsAreMarked judge.now.ignore_case (pieces_of judge.now.words.now) marks.now }
     requires usual { IfOf A.Automaton automaton.now (λ p.
         IsJudgeOf judge.now p →
-        usual ≡ true → IsCleanPiece p judge.now.usual.now) }
+        IsFlawOrNone p judge.now.usual.now usual) }
     ensures flaw { IfOf A.Automaton automaton.now (λ p.
         IsJudgeOf judge.now p →
         IsFlawOrNone p (piece_by judge.now.usual.now (secret_of rule.now)) result) }
 {
     match &rule.replacement {
         Some(own) => flaw_of(automaton, judge, marks, own.as_slice()),
-        None => {
-            if usual {
-                return None;
-            }
-            flaw_of(automaton, judge, marks, judge.usual)
-        }
+        None => usual,
     }
 }
 

@@ -60,10 +60,9 @@ fn refuse_doubtful<'a>(given: &[Item<'a>], rules: &[Rule]) -> Result<(), Failure
     ensures none { OnOk result (AreUndoubted (secrets_of rules.now)) }
     ensures refused { IfErr result (RefusesFirstDoubt (all_given given.now) (secrets_of rules.now)) }
 {
-    let mut rest = rules;
-    while let Some((rule, more)) = rest.split_first() {
+    for rule in rules {
         match refuse_doubt(given, rule) {
-            Ok(()) => rest = more,
+            Ok(()) => {}
             Err(failure) => return Err(failure),
         }
     }
@@ -89,10 +88,8 @@ fn refuse_doubt<'a>(given: &[Item<'a>], rule: &Rule) -> Result<(), Failure<'a>>
 fn tell_doubtful<E: Sink>(errors: &mut Errors<'_, E>, given: &[Item<'_>], rules: &[Rule])
     ensures told { TellsBytes E.Sink errors.old errors.new (concat (list_doubt_lines (all_given given.now) (secrets_of rules.now))) }
 {
-    let mut rest = rules;
-    while let Some((rule, more)) = rest.split_first() {
+    for rule in rules {
         tell_doubt(errors, given, rule);
-        rest = more;
     }
 }
 

@@ -1,14 +1,12 @@
 //! Forms of patterns: how a secret that is encoded gets into a log. Which patterns a form has is told by `secret_forms`.
 
-ghost use Rattle.std.specs.Prelude.{◌≡◌, ◌∷◌, ◌++◌, ◌≤◌, [], IfOk, OnOk, Some, flat_map, length, map};
-ghost use Rattle.std.specs.List.{filter, filter_map, list_all};
-ghost use Rattle.acredact.specs.Forms.{HaveForms, HideSecrets, HidesOnce, HidesSecret, HidesTwice, are_forms, asked_forms, asks_for, filled, form_called, form_secret, forms_asked, forms_from, forms_named, forms_of, is_all, is_asked, is_called, name_of, names_form, names_in, nested_by, nested_called, nested_named, once_patterns, twice_patterns};
-ghost use Rattle.acredact.specs.Parts.{AddsSome};
+ghost use Rattle.std.specs.Prelude.{◌≡◌, ◌++◌, IfOk, OnOk, Some, flat_map};
+ghost use Rattle.acredact.specs.Forms.{AddsFormsOf, HaveForms, HideSecrets, HidesSecret, HidesTwice, are_forms, asked_forms, asks_for, form_called, form_secret, forms_asked, forms_from, forms_named, forms_of, is_all, is_asked, is_called, name_of, names_form, nested_by, nested_called, nested_named, twice_patterns};
 ghost use Rattle.acredact.specs.Tables.{secret_of, secrets_of};
 ghost use Rattle.secret_forms.specs.Patterns.{pattern_bytes};
 
-use crate::patterns::{Rule, copy_of, split_at};
-use secret_forms::{Form, FormError, forms, nested_forms};
+use crate::patterns::{Rule, copy_of, part_of};
+use secret_forms::{Form, forms, nested_forms};
 use std::alloc::{AllocError, Global};
 
 /// A pattern of fewer bytes has no forms.
@@ -87,9 +85,9 @@ fn nested_by(inner: Option<Form>, outer: Option<Form>) -> Option<Nested>
 fn nested_called(name: &[u8]) -> Option<Nested>
     ensures called { result ≡ nested_called name.now }
 {
-    match split_at(name, b'+') {
-        Some((inner, outer)) => nested_by(form_called(inner), form_called(outer)),
-        None => None,
+    match part_of(name, b'+') {
+        (inner, Some(outer)) => nested_by(form_called(inner), form_called(outer)),
+        (_, None) => None,
     }
 }
 
@@ -111,21 +109,15 @@ fn is_asked(name: &[u8]) -> bool
 pub fn are_forms(value: &str) -> bool
     ensures are { result ≡ are_forms value.now }
 {
-    are_names(value.as_bytes())
-}
-
-/// The same, of the value's bytes.
-fn are_names(value: &[u8]) -> bool
-    ensures are { result ≡ list_all is_asked (names_in value.now) }
-{
-    let mut rest = value;
-    while let Some((name, behind)) = split_at(rest, b',') {
+    let mut left = Some(value.as_bytes());
+    while let Some(rest) = left {
+        let (name, more) = part_of(rest, b',');
         if !is_asked(name) {
             return false;
         }
-        rest = behind;
+        left = more;
     }
-    is_asked(rest)
+    true
 }
 
 /// Whether this names the form, by itself or with all.
@@ -139,14 +131,15 @@ fn names_form(name: &[u8], form: Form) -> bool
 fn asks_for(value: &[u8], form: Form) -> bool
     ensures asks { result ≡ asks_for value.now form }
 {
-    let mut rest = value;
-    while let Some((name, behind)) = split_at(rest, b',') {
+    let mut left = Some(value);
+    while let Some(rest) = left {
+        let (name, more) = part_of(rest, b',');
         if names_form(name, form) {
             return true;
         }
-        rest = behind;
+        left = more;
     }
-    names_form(rest, form)
+    false
 }
 
 /// The forms that a value names, each once.
@@ -163,23 +156,12 @@ fn forms_by(alloc: Global, value: &[u8]) -> Result<Vec<Form>, AllocError>
         Form::Lines,
     ];
     let mut forms = Vec::new(alloc);
-    let mut rest = all.as_slice();
-    while !rest.is_empty() {
-        push_asked(&mut forms, value, rest[0])?;
-        rest = &rest[1..];
+    for form in all.as_slice() {
+        if asks_for(value, *form) {
+            forms.push(*form)?;
+        }
     }
     Ok(forms)
-}
-
-/// Adds a form, if the value names it.
-fn push_asked(forms: &mut Vec<Form>, value: &[u8], form: Form) -> Result<(), AllocError>
-    ensures pushed { OnOk result (forms.new.items
-        ≡ forms.old.items ++ filter (asks_for value.now) (form ∷ [])) }
-{
-    if asks_for(value, form) {
-        forms.push(form)?;
-    }
-    Ok(())
 }
 
 /// The forms of forms that a value names, in order.
@@ -187,24 +169,15 @@ fn nested_named(alloc: Global, value: &[u8]) -> Result<Vec<Nested>, AllocError>
     ensures nested { IfOk result (λ v. v.items ≡ nested_named value.now) }
 {
     let mut nested = Vec::new(alloc);
-    let mut rest = value;
-    while let Some((name, behind)) = split_at(rest, b',') {
-        push_nested(&mut nested, name)?;
-        rest = behind;
+    let mut left = Some(value);
+    while let Some(rest) = left {
+        let (name, more) = part_of(rest, b',');
+        if let Some(one) = nested_called(name) {
+            nested.push(one)?;
+        }
+        left = more;
     }
-    push_nested(&mut nested, rest)?;
     Ok(nested)
-}
-
-/// Adds the form of a form that is called so, if one is.
-fn push_nested(nested: &mut Vec<Nested>, name: &[u8]) -> Result<(), AllocError>
-    ensures pushed { OnOk result (nested.new.items
-        ≡ nested.old.items ++ filter_map nested_called (name.now ∷ [])) }
-{
-    if let Some(one) = nested_called(name) {
-        nested.push(one)?;
-    }
-    Ok(())
 }
 
 /// Which forms are asked for.
@@ -228,7 +201,8 @@ pub fn add_forms(alloc: Global, rules: &mut Vec<Rule>, value: &str) -> Result<()
         nested: nested.as_slice(),
     };
     let mut more = forms_of_rules(alloc, rules.as_slice(), asked)?;
-    rules.append(&mut more)
+    rules.append(&mut more)?;
+    Ok(())
 }
 
 /// Those of all these rules.
@@ -239,11 +213,9 @@ fn forms_of_rules(alloc: Global, rules: &[Rule], asked: Asked<'_>) -> Result<Vec
 {
     let mut more = Vec::new(alloc);
     let mut number: usize = 0;
-    let mut rest = rules;
-    while let Some((rule, others)) = rest.split_first() {
+    for rule in rules {
         add_forms_of(alloc, &mut more, rule, number, asked)?;
         number += 1;
-        rest = others;
     }
     Ok(more)
 }
@@ -256,35 +228,20 @@ fn add_forms_of(
     number: usize,
     asked: Asked<'_>,
 ) -> Result<(), AllocError>
-    ensures added { OnOk result (AddsSome (λ some. some
-        ≡ forms_of (asked_forms asked.entry) number (secret_of rule.now)) more.old more.new) }
+    ensures added { OnOk result (secrets_of more.new.items
+        ≡ secrets_of more.old.items ++ forms_of (asked_forms asked.entry) number (secret_of rule.now)) }
     ensures hidden { OnOk result (HidesSecret (asked_forms asked.entry) (secret_of rule.now)) }
 {
     if rule.pattern.len() < SHORTEST {
         return Ok(());
     }
-    add_once(alloc, more, rule, number, asked.forms)?;
-    add_nested(alloc, more, rule, number, asked.nested)
-}
-
-/// Adds those of the rule's own pattern by some forms.
-fn add_once(
-    alloc: Global,
-    more: &mut Vec<Rule>,
-    rule: &Rule,
-    number: usize,
-    wanted: &[Form],
-) -> Result<(), AllocError>
-    requires long { 4 ≤ length rule.now.pattern.items }
-    ensures added { OnOk result (AddsSome (λ some. some ≡ map (form_secret number (secret_of rule.now))
-        (filled (once_patterns wanted.now rule.now.pattern.items))) more.old more.new) }
-    ensures hidden { OnOk result (HidesOnce wanted.now rule.now.pattern.items) }
-{
-    match forms(alloc, rule.pattern.as_slice(), wanted) {
-        Ok(patterns) => add_patterns(alloc, more, rule, number, patterns.as_slice()),
+    let Ok(patterns) = forms(alloc, rule.pattern.as_slice(), asked.forms) else {
         // The pattern is long enough, so memory is wanting.
-        Err(FormError::TooShort | FormError::OutOfMemory) => Err(AllocError),
-    }
+        return Err(AllocError);
+    };
+    add_patterns(alloc, more, rule, number, patterns.as_slice())?;
+    add_nested(alloc, more, rule, number, asked.nested)?;
+    Ok(())
 }
 
 /// Adds those of what other forms make of it.
@@ -295,37 +252,18 @@ fn add_nested(
     number: usize,
     nested: &[Nested],
 ) -> Result<(), AllocError>
-    requires long { 4 ≤ length rule.now.pattern.items }
-    ensures added { OnOk result (AddsSome (λ some. some ≡ map (form_secret number (secret_of rule.now))
-        (filled (flat_map (twice_patterns rule.now.pattern.items) nested.now))) more.old more.new) }
+    ensures added { OnOk result (AddsFormsOf rule.now number
+        (flat_map (twice_patterns rule.now.pattern.items) nested.now) more.old more.new) }
     ensures hidden { OnOk result (HidesTwice nested.now rule.now.pattern.items) }
 {
-    let mut rest = nested;
-    while let Some((one, others)) = rest.split_first() {
-        add_twice(alloc, more, rule, number, *one)?;
-        rest = others;
+    for one in nested {
+        let Ok(patterns) = nested_forms(alloc, rule.pattern.as_slice(), one.inner, one.outer) else {
+            // The pattern is long enough here too.
+            return Err(AllocError);
+        };
+        add_patterns(alloc, more, rule, number, patterns.as_slice())?;
     }
     Ok(())
-}
-
-/// Adds those of one form of a form.
-fn add_twice(
-    alloc: Global,
-    more: &mut Vec<Rule>,
-    rule: &Rule,
-    number: usize,
-    nested: Nested,
-) -> Result<(), AllocError>
-    requires long { 4 ≤ length rule.now.pattern.items }
-    ensures added { OnOk result (AddsSome (λ some. some ≡ map (form_secret number (secret_of rule.now))
-        (filled (twice_patterns rule.now.pattern.items nested))) more.old more.new) }
-    ensures hidden { OnOk result (HidesTwice (nested ∷ []) rule.now.pattern.items) }
-{
-    match nested_forms(alloc, rule.pattern.as_slice(), nested.inner, nested.outer) {
-        Ok(patterns) => add_patterns(alloc, more, rule, number, patterns.as_slice()),
-        // The pattern is long enough, so memory is wanting.
-        Err(FormError::TooShort | FormError::OutOfMemory) => Err(AllocError),
-    }
 }
 
 /// Adds a rule for each of some patterns that are forms of a rule, but for empty ones.
@@ -336,30 +274,12 @@ fn add_patterns(
     number: usize,
     patterns: &[Vec<u8>],
 ) -> Result<(), AllocError>
-    ensures added { OnOk result (AddsSome (λ some. some ≡ map (form_secret number (secret_of rule.now))
-        (filled (pattern_bytes patterns.now))) more.old more.new) }
+    ensures added { OnOk result (AddsFormsOf rule.now number (pattern_bytes patterns.now) more.old more.new) }
 {
-    let mut rest = patterns;
-    while !rest.is_empty() {
-        add_pattern(alloc, more, rule, number, rest[0].as_slice())?;
-        rest = &rest[1..];
-    }
-    Ok(())
-}
-
-/// Adds a rule for one of them, unless it is empty.
-fn add_pattern(
-    alloc: Global,
-    more: &mut Vec<Rule>,
-    rule: &Rule,
-    number: usize,
-    pattern: &[u8],
-) -> Result<(), AllocError>
-    ensures added { OnOk result (AddsSome (λ some. some ≡ map (form_secret number (secret_of rule.now))
-        (filled (pattern.now ∷ []))) more.old more.new) }
-{
-    if !pattern.is_empty() {
-        more.push(form_of(alloc, rule, number, pattern)?)?;
+    for pattern in patterns {
+        if !pattern.is_empty() {
+            more.push(form_of(alloc, rule, number, pattern.as_slice())?)?;
+        }
     }
     Ok(())
 }

@@ -28,10 +28,9 @@ pub fn size_of(value: &str) -> Option<usize>
     ensures size { result ≡ size_in value.now }
 {
     let mut number: usize = 0;
-    let mut rest = value.as_bytes();
-    while !rest.is_empty() {
-        number = with_digit(number, rest[0])?;
-        rest = &rest[1..];
+    let digits = value.as_bytes();
+    for digit in digits {
+        number = with_digit(number, *digit)?;
     }
     if number == 0 {
         return None;

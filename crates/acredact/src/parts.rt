@@ -1,10 +1,11 @@
 //! The lines of a pattern that is given as an argument and has line ends. In a log whose lines begin with a time the whole pattern
 //! stands nowhere, but its lines do.
 
-ghost use Rattle.std.specs.Prelude.{◌≡◌, OnOk};
-ghost use Rattle.acredact.specs.Parts.{AddsSome, ArePartsOf, line_secrets, lines_secrets};
+ghost use Rattle.std.specs.Prelude.{◌≡◌, ◌++◌, OnOk};
+ghost use Rattle.acredact.specs.Parts.{AddsSome, ArePartsOf, line_secrets};
+ghost use Rattle.acredact.specs.Tables.{secrets_of};
 
-use crate::patterns::{Rule, copy_of, split_at, without_last};
+use crate::patterns::{Rule, copy_of, part_of, split_at, without_last};
 use std::alloc::{AllocError, Global};
 
 /// How many bytes a line of a pattern has at least that is a pattern too. A shorter one may stand anywhere.
@@ -19,27 +20,16 @@ pub fn add_parts(
 ) -> Result<(), AllocError>
     ensures added { OnOk result (AddsSome (ArePartsOf list pattern.now) rules.old rules.new) }
 {
-    match split_at(pattern, b'\n') {
-        None => Ok(()),
-        Some(_) => add_each(alloc, rules, pattern, list),
-    }
-}
-
-/// Adds each line that has eight bytes or more.
-fn add_each(
-    alloc: Global,
-    rules: &mut Vec<Rule>,
-    pattern: &[u8],
-    list: usize,
-) -> Result<(), AllocError>
-    ensures added { OnOk result (AddsSome (λ more. more ≡ lines_secrets list pattern.now) rules.old rules.new) }
-{
-    let mut rest = pattern;
-    while let Some((line, more)) = split_at(rest, b'\n') {
+    let Some(_) = split_at(pattern, b'\n') else {
+        return Ok(());
+    };
+    let mut left = Some(pattern);
+    while let Some(rest) = left {
+        let (line, more) = part_of(rest, b'\n');
         add_part(alloc, rules, line, list)?;
-        rest = more;
+        left = more;
     }
-    add_part(alloc, rules, rest, list)
+    Ok(())
 }
 
 /// Adds a line, without a carriage return at its end, if it is long enough.
@@ -49,7 +39,7 @@ fn add_part(
     line: &[u8],
     list: usize,
 ) -> Result<(), AllocError>
-    ensures added { OnOk result (AddsSome (λ more. more ≡ line_secrets list line.now) rules.old rules.new) }
+    ensures added { OnOk result (secrets_of rules.new.items ≡ secrets_of rules.old.items ++ line_secrets list line.now) }
 {
     let line = without_last(line, b'\r');
     if line.len() < LEAST_PART {

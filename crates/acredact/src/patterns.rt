@@ -1,10 +1,12 @@
 //! Patterns with their replacements: of a file of patterns, and of a table.
 
-ghost use Rattle.std.specs.Prelude.{◌≡◌, ◌<◌, ◌≤◌, ◌∷◌, ◌++◌, IfErr, IfNone, IfOk, IfSome, OnOk, false, length, map, slice_index, true};
+ghost use Rattle.std.specs.Prelude.{◌≡◌, ◌<◌, ◌≤◌, ◌∷◌, ◌++◌, IfErr, IfNone, IfOk, IfSome, OnOk, false, length, map, nat_eq, option_map, slice_index, true};
 ghost use Rattle.std.specs.Io.BufRead.{ends_with_byte, strip_last};
+ghost use Rattle.std.specs.List.{slice_split};
 ghost use Rattle.aho_core.specs.Replacement.{pieces_of};
+ghost use Rattle.acredact.specs.Forms.{split_first};
 ghost use Rattle.acredact.specs.LineFaults.{IsBadStart, IsLineFault, IsLineFaultBy, IsListFault, IsTextFault, mark_in};
-ghost use Rattle.acredact.specs.Tables.{AddsLine, AddsLines, AddsOf, Holds, IsWithout, StandsHere, escape_of, in_table, stripped_by, lines_in, patterns_in, piece_by, secret_of, secrets_of};
+ghost use Rattle.acredact.specs.Tables.{AddsLine, AddsLines, AddsOf, Holds, IsWithout, StandsHere, escape_of, in_table, stripped_by, lines_in, parts_left, patterns_in, piece_by, secret_of, secrets_of};
 
 use std::alloc::{AllocError, AllocFailed, Global};
 use std::slice;
@@ -151,14 +153,23 @@ pub fn split_at(text: &[u8], byte: u8) -> Option<(&[u8], &[u8])>
     ensures shorter { IfSome result (λ two. length two.1.now < length text.now) }
     ensures none { IfNone result (IsWithout byte text.now) }
 {
-    let mut at = 0;
-    while at < text.len() {
+    for at in 0..text.len() {
         if text[at] == byte {
             return Some((&text[..at], &text[at + 1..]));
         }
-        at += 1;
     }
     None
+}
+
+/// The first part of a text that a byte parts, and what stands behind that byte, where it stands there.
+pub fn part_of(text: &[u8], byte: u8) -> (&[u8], Option<&[u8]>)
+    ensures parts { slice_split (λ b. nat_eq b byte) text.entry.now ≡ result.0.now ∷ parts_left byte result.1 }
+    ensures halves { split_first byte text.entry.now ≡ option_map (λ rest. (result.0.now, rest.now)) result.1 }
+{
+    match split_at(text, byte) {
+        Some((part, rest)) => (part, Some(rest)),
+        None => (text, None),
+    }
 }
 
 /// The bytes that stand so in a table: `\t` for a TAB, `\n` for a line end, and `\\` for a backslash. Any other byte stands
@@ -265,17 +276,25 @@ pub fn add_lines(
     ensures added { OnOk result (AddsLines form (lines_in text.now) rules.old rules.new) }
     ensures fault { IfErr result (IsListFault form (lines_in text.now)) }
 {
-    if text.is_empty() {
-        return Ok(());
-    }
     let mut number: usize = 1;
-    let mut rest = without_last(text, b'\n');
-    while let Some((line, more)) = split_at(rest, b'\n') {
+    let mut left = lines_of(text);
+    while let Some(rest) = left {
+        let (line, more) = part_of(rest, b'\n');
         add_numbered(alloc, rules, line, form, Place { list, line: number })?;
         number = number.saturating_add(1);
-        rest = more;
+        left = more;
     }
-    add_numbered(alloc, rules, rest, form, Place { list, line: number })
+    Ok(())
+}
+
+/// The lines of a text, with line ends between them: nothing where it is empty.
+pub fn lines_of(text: &[u8]) -> Option<&[u8]>
+    ensures lines { parts_left 10 result ≡ lines_in text.entry.now }
+{
+    if text.is_empty() {
+        return None;
+    }
+    Some(without_last(text, b'\n'))
 }
 
 /// Adds the rule of the line of this number.
@@ -363,10 +382,8 @@ pub fn patterns_of<'r>(alloc: Global, rules: &'r [Rule]) -> Result<Vec<&'r [u8]>
         ≡ patterns_in (secrets_of rules.entry.now)) }
 {
     let mut patterns = Vec::new(alloc);
-    let mut rest = rules;
-    while !rest.is_empty() {
-        patterns.push(rest[0].pattern.as_slice())?;
-        rest = &rest[1..];
+    for rule in rules {
+        patterns.push(rule.pattern.as_slice())?;
     }
     Ok(patterns)
 }
@@ -381,10 +398,8 @@ pub fn replacements_of<'r>(
         ≡ map (piece_by text.entry.now) (secrets_of rules.entry.now)) }
 {
     let mut replacements = Vec::new(alloc);
-    let mut rest = rules;
-    while !rest.is_empty() {
-        replacements.push(replacement_of(&rest[0], text))?;
-        rest = &rest[1..];
+    for rule in rules {
+        replacements.push(replacement_of(rule, text))?;
     }
     Ok(replacements)
 }

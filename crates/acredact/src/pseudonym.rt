@@ -1,11 +1,11 @@
 //! Pseudonyms: for each run of a cover a piece that only equal runs have, but for chance.
 
 ghost use Rattle.std.specs.Prelude.{◌≡◌, ◌++◌, ◌<◌, ℕ, List, true};
-ghost use Rattle.aho_core.specs.Bytes.{folded_by};
 ghost use Rattle.acredact.specs.Pseudonyms.{WasFed, as_compared, hex_digit, piece_of_digest, pseudonym_by, pseudonym_rule};
 ghost use Rattle.sha2.specs.Hashers.{Holds256};
 ghost use Rattle.sha2.specs.Sha256.{sha256};
 
+use crate::clean::folded;
 use crate::hmac::{Masks, masks_of};
 use chromesquid::PatternID;
 use chromesquid::any::Pieces;
@@ -41,20 +41,13 @@ impl Pseudonyms {
     }
 }
 
-/// The lower-case ASCII letter of an upper-case one, and any other byte itself.
-fn folded(byte: u8) -> u8
-    ensures folded { result ≡ folded_by true byte }
-{
-    byte.to_ascii_lowercase()
-}
-
 /// Adds bytes to a message, with lower-case ASCII letters in the place of the upper-case ones.
 fn add_folded(hasher: &mut Sha256, bytes: &[u8])
     ensures added { (message : List ℕ) → Holds256 hasher.old message
         → Holds256 hasher.new (message ++ as_compared true bytes.now) }
 {
     'bytes: for at in 0..bytes.len() {
-        hasher.update(&[folded(bytes[at])]);
+        hasher.update(&[folded(bytes[at], true)]);
     }
 }
 

@@ -1,16 +1,14 @@
 //! Values that are patterns: of variables, of the environment or of a file, and of whole files.
 
-ghost use Rattle.std.specs.Prelude.{◌≡◌, IfOk, None, OnOk};
-ghost use Rattle.std.specs.List.{filter_map, list_all, list_any};
-ghost use Rattle.std.specs.Io.BufRead.{ends_with_byte};
+ghost use Rattle.std.specs.Prelude.{◌≡◌, IfOk, OnOk};
+ghost use Rattle.std.specs.List.{filter_map};
 ghost use Rattle.aho_core.specs.Replacement.{pieces_of};
-ghost use Rattle.aho_cover.specs.Words.{is_word_part};
 ghost use Rattle.acredact.specs.Reads.{bytes_of_names};
 ghost use Rattle.acredact.specs.Tables.{lines_in, stripped_by};
-ghost use Rattle.acredact.specs.Values.{are_refused, bad_or, behind_equals, fault_of_line, fault_of_value, first_fault, is_named, is_no_variable, is_variable_name, lacks_value, lent, no_bytes, value_if, value_in_line, value_of_entry, values_with, whole_in};
+ghost use Rattle.acredact.specs.Values.{are_refused, behind_equals, fault_of_line, fault_of_value, first_fault, is_named, is_no_variable, is_variable_name, lacks_value, lent, value_in_line, value_of_entry, values_with, whole_in};
 
 use crate::patterns::{
-    BadLine, Form, LineFault, ends_in_return, split_at, stripped_by, without_last,
+    BadLine, Form, LineFault, ends_in_return, lines_of, part_of, stripped_by, without_last,
 };
 use std::alloc::{AllocError, Global};
 
@@ -18,19 +16,11 @@ use std::alloc::{AllocError, Global};
 pub fn is_variable_name(name: &str) -> bool
     ensures is { result ≡ is_variable_name name.now }
 {
-    are_name_bytes(without_last(name.as_bytes(), b'*'))
-}
-
-/// Whether all bytes of a text can stand in the name of a variable.
-fn are_name_bytes(text: &[u8]) -> bool
-    ensures are { result ≡ list_all is_word_part text.now }
-{
-    let mut rest = text;
-    while !rest.is_empty() {
-        if !rest[0].is_ascii_alphanumeric() && rest[0] != b'_' {
+    let text = without_last(name.as_bytes(), b'*');
+    for byte in text {
+        if !byte.is_ascii_alphanumeric() && *byte != b'_' {
             return false;
         }
-        rest = &rest[1..];
     }
     true
 }
@@ -39,37 +29,25 @@ fn are_name_bytes(text: &[u8]) -> bool
 fn is_named(name: &[u8], found: &[u8]) -> bool
     ensures named { result ≡ is_named name.now found.now }
 {
-    if ends_in_star(name) {
-        return found.starts_with(without_last(name, b'*'));
+    match name.split_last() {
+        Some((b'*', front)) => found.starts_with(front),
+        _ => found == name,
     }
-    found == name
-}
-
-/// Whether a name ends in a star.
-fn ends_in_star(name: &[u8]) -> bool
-    ensures ends { result ≡ ends_with_byte 42 name.now }
-{
-    matches!(name.split_last(), Some((b'*', _)))
 }
 
 /// The value of an entry of the environment, `NAME=value`, where it has this name.
 fn value_of_entry<'e>(name: &[u8], entry: &'e [u8]) -> Option<&'e [u8]>
     ensures value { lent result ≡ value_of_entry name.now entry.entry.now }
 {
-    match split_at(entry, b'=') {
-        Some((found, value)) => value_if(is_named(name, found), value),
-        None => None,
+    match part_of(entry, b'=') {
+        (found, Some(value)) => {
+            if is_named(name, found) {
+                return Some(value);
+            }
+            None
+        }
+        (_, None) => None,
     }
-}
-
-/// A value, where it is asked for.
-fn value_if(asked: bool, value: &[u8]) -> Option<&[u8]>
-    ensures value { lent result ≡ value_if asked value.entry.now }
-{
-    if asked {
-        return Some(value);
-    }
-    None
 }
 
 /// The values of those entries of the environment that have this name.
@@ -82,10 +60,8 @@ pub fn values_of_entries<'e>(
         ≡ filter_map (value_of_entry name.now) (bytes_of_names entries.entry.now)) }
 {
     let mut values = Vec::new(alloc);
-    let mut rest = entries;
-    while !rest.is_empty() {
-        push_value(&mut values, value_of_entry(name, rest[0].as_slice()))?;
-        rest = &rest[1..];
+    for entry in entries {
+        push_value(&mut values, value_of_entry(name, entry.as_slice()))?;
     }
     Ok(values)
 }
@@ -105,12 +81,10 @@ fn push_value<'e>(values: &mut Vec<&'e [u8]>, value: Option<&'e [u8]>) -> Result
 fn is_no_variable(line: &[u8]) -> bool
     ensures passed { result ≡ is_no_variable line.now }
 {
-    let mut rest = line;
-    while !rest.is_empty() {
-        if rest[0] != b' ' && rest[0] != b'\t' {
-            return rest[0] == b'#';
+    for byte in line {
+        if *byte != b' ' && *byte != b'\t' {
+            return *byte == b'#';
         }
-        rest = &rest[1..];
     }
     true
 }
@@ -129,10 +103,7 @@ fn value_in_line(line: &[u8]) -> Option<&[u8]>
 fn behind_equals(text: &[u8]) -> Option<&[u8]>
     ensures behind { lent result ≡ behind_equals text.entry.now }
 {
-    match split_at(text, b'=') {
-        Some(parts) => Some(parts.1),
-        None => None,
-    }
+    part_of(text, b'=').1
 }
 
 /// The values in a text of variables, one in each line.
@@ -145,15 +116,12 @@ pub fn values_in_text<'t>(
         ≡ filter_map (λ line. value_in_line (stripped_by form line)) (lines_in text.entry.now)) }
 {
     let mut values = Vec::new(alloc);
-    if text.is_empty() {
-        return Ok(values);
-    }
-    let mut rest = without_last(text, b'\n');
-    while let Some((line, more)) = split_at(rest, b'\n') {
+    let mut left = lines_of(text);
+    while let Some(rest) = left {
+        let (line, more) = part_of(rest, b'\n');
         push_value(&mut values, value_in_line(stripped_by(form, line)))?;
-        rest = more;
+        left = more;
     }
-    push_value(&mut values, value_in_line(stripped_by(form, rest)))?;
     Ok(values)
 }
 
@@ -189,29 +157,17 @@ fn fault_of_value(allow_empty: bool, value: Option<&[u8]>) -> Option<LineFault>
 pub fn first_fault(allow_empty: bool, form: Form, text: &[u8]) -> Option<BadLine>
     ensures first { result ≡ first_fault allow_empty form 1 (lines_in text.now) }
 {
-    if text.is_empty() {
-        return None;
-    }
     let mut number: usize = 1;
-    let mut rest = without_last(text, b'\n');
-    while let Some((line, more)) = split_at(rest, b'\n') {
+    let mut left = lines_of(text);
+    while let Some(rest) = left {
+        let (line, more) = part_of(rest, b'\n');
         if let Some(fault) = fault_of_line(allow_empty, stripped_by(form, line)) {
             return Some(BadLine { number, fault });
         }
         number = number.saturating_add(1);
-        rest = more;
+        left = more;
     }
-    bad_of(number, fault_of_line(allow_empty, stripped_by(form, rest)))
-}
-
-/// What is wrong with the line of this number, if something is.
-fn bad_of(number: usize, fault: Option<LineFault>) -> Option<BadLine>
-    ensures bad { result ≡ bad_or number fault None }
-{
-    match fault {
-        Some(fault) => Some(BadLine { number, fault }),
-        None => None,
-    }
+    None
 }
 
 /// The bytes of a whole file without a line end behind them.
@@ -232,19 +188,10 @@ pub fn are_refused(allow_empty: bool, values: &[&[u8]]) -> bool
 fn lacks_value(values: &[&[u8]]) -> bool
     ensures lacks { result ≡ lacks_value (pieces_of values.now) }
 {
-    values.is_empty() || has_empty(values)
-}
-
-/// Whether one of some values is empty.
-fn has_empty(values: &[&[u8]]) -> bool
-    ensures has { result ≡ list_any no_bytes (pieces_of values.now) }
-{
-    let mut rest = values;
-    while !rest.is_empty() {
-        if rest[0].is_empty() {
+    for value in values {
+        if value.is_empty() {
             return true;
         }
-        rest = &rest[1..];
     }
-    false
+    values.is_empty()
 }

@@ -1,14 +1,15 @@
 -- The byte at the place of the loop, or none of all.
-use Rattle.std.proofs.Common.{◌∙◌, arith, sym}
-use Rattle.acredact.proofs.Flaws.{word_holds, word_holds_none}
+use Rattle.acredact.proofs.Common.{All, folded_by}
+use Rattle.std.proofs.Common.{rules, ◌≡◌}
+use Rattle.secret_rules.proofs.Owners.{member-get_or}
+use Rattle.acredact.proofs.Flaws.{every_member}
 use Rattle.acredact.proofs.clean.holds.Goals as goal
 
 pub returns-then-folded-wanted : goal.returns-then-folded-wanted
-returns-then-folded-wanted c = record {
-  holds = word_holds c.args.ignore_case c.args.word.now c.args.byte c.loop-other.other-index c.loop-other-test.true (sym c.folded.ensures.folded ∙ c.if-folded-wanted.true ∙ c.folded-wanted.ensures.folded);
-}
+returns-then-folded-wanted c = record { holds = (_, member-get_or c.args.word.now c.loop-other.other-index 0 c.loop-other-test.true, search rules) }
 
 pub returns : goal.returns
-returns c = record {
-  holds = word_holds_none c.args.ignore_case c.args.word.now c.args.byte (λ place below. c.loop-other.invariant place (omega (arith, c.loop-other-test.false)));
-}
+returns c =
+    let Other = λ other. folded_by c.args.ignore_case other ≡ folded_by c.args.ignore_case c.args.byte → ⊥ in
+    let all : All Other c.args.word.now = search rules in
+    record { holds = λ (held : _). let (other, member, same) = held in every_member Other c.args.word.now other all member same }

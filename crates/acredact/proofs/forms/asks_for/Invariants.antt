@@ -1,10 +1,12 @@
 -- Some name is this form's where one of those that are left is.
 use Rattle.std.proofs.Common.{◌≡◌, length}
-use Rattle.acredact.specs.Forms.{asks_for}
+use Rattle.std.specs.List.{list_any}
+use Rattle.acredact.specs.Forms.{asks_for, names_form}
+use Rattle.acredact.specs.Tables.{parts_left}
 use Rattle.acredact.proofs.forms.asks_for.Given as goal
 
-abbrev pub invariant-loop-name : goal.invariant-loop-name
-invariant-loop-name l = asks_for l.fn.value l.fn.form ≡ asks_for l.rest l.fn.form
+abbrev pub invariant-loop-left : goal.invariant-loop-left
+invariant-loop-left l = asks_for l.fn.value l.fn.form ≡ list_any (λ name. names_form name l.fn.form) (parts_left 44 l.left)
 
-abbrev pub decreases-loop-name : goal.decreases-loop-name
-decreases-loop-name l = length l.rest
+abbrev pub decreases-loop-left : goal.decreases-loop-left
+decreases-loop-left l = length (parts_left 44 l.left)

@@ -1,11 +1,12 @@
 -- The names that are left give the others.
 use Rattle.acredact.proofs.Common.{filter_map}
 use Rattle.std.proofs.Common.{◌≡◌, ◌++◌, length}
-use Rattle.acredact.specs.Forms.{names_in, nested_called}
+use Rattle.acredact.specs.Forms.{nested_called, nested_named}
+use Rattle.acredact.specs.Tables.{parts_left}
 use Rattle.acredact.proofs.forms.nested_named.Given as goal
 
-abbrev pub invariant-loop-name : goal.invariant-loop-name
-invariant-loop-name l = l.nested.items ++ filter_map nested_called (names_in l.rest) ≡ filter_map nested_called (names_in l.fn.value)
+abbrev pub invariant-loop-left : goal.invariant-loop-left
+invariant-loop-left l = l.nested.items ++ filter_map nested_called (parts_left 44 l.left) ≡ nested_named l.fn.value
 
-abbrev pub decreases-loop-name : goal.decreases-loop-name
-decreases-loop-name l = length l.rest
+abbrev pub decreases-loop-left : goal.decreases-loop-left
+decreases-loop-left l = length (parts_left 44 l.left)

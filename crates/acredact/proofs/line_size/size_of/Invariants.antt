@@ -1,10 +1,7 @@
 -- The digits that are left go on from the number so far.
-use Rattle.std.proofs.Common.{◌≡◌, length}
+use Rattle.std.proofs.Common.{◌≡◌, drop}
 use Rattle.acredact.specs.LineSizes.{number_from}
 use Rattle.acredact.proofs.line_size.size_of.Given as goal
 
-abbrev pub invariant-loop-rest : goal.invariant-loop-rest
-invariant-loop-rest l = number_from l.number l.rest ≡ number_from 0 l.fn.value
-
-abbrev pub decreases-loop-rest : goal.decreases-loop-rest
-decreases-loop-rest l = length l.rest
+abbrev pub invariant-loop-digit : goal.invariant-loop-digit
+invariant-loop-digit l = number_from l.number (drop l.digit-index l.digits) ≡ number_from 0 l.fn.value

@@ -1,11 +1,8 @@
 -- Those so far, and those of what is left.
 use Rattle.acredact.proofs.Common.{pieces_of}
-use Rattle.std.proofs.Common.{◌≡◌, ◌++◌, length, map}
+use Rattle.std.proofs.Common.{◌≡◌, ◌++◌, drop, map}
 use Rattle.acredact.specs.Tables.{piece_by, secrets_of}
 use Rattle.acredact.proofs.patterns.replacements_of.Given as goal
 
-abbrev pub invariant-loop-rest : goal.invariant-loop-rest
-invariant-loop-rest l = pieces_of l.replacements.items ++ map (piece_by l.fn.text) (secrets_of l.rest) ≡ map (piece_by l.fn.text) (secrets_of l.fn.rules)
-
-abbrev pub decreases-loop-rest : goal.decreases-loop-rest
-decreases-loop-rest l = length l.rest
+abbrev pub invariant-loop-rule : goal.invariant-loop-rule
+invariant-loop-rule l = pieces_of l.replacements.items ++ map (piece_by l.fn.text) (secrets_of (drop l.rule-index l.fn.rules)) ≡ map (piece_by l.fn.text) (secrets_of l.fn.rules)

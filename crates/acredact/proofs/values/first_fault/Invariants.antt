@@ -1,13 +1,11 @@
 -- No line before what is left is wrong.
-use Rattle.acredact.proofs.Common.{slice_split, strip_last}
 use Rattle.std.proofs.Common.{◌≡◌, length}
-use Rattle.std.specs.Prelude.{nat_eq}
+use Rattle.acredact.specs.Tables.{lines_in, parts_left}
 use Rattle.acredact.specs.Values.{first_fault}
 use Rattle.acredact.proofs.values.first_fault.Given as goal
 
-abbrev pub invariant-loop-line : goal.invariant-loop-line
-invariant-loop-line l = first_fault l.fn.allow_empty l.fn.form 1 (slice_split (λ b. nat_eq b 10) (strip_last 10 l.fn.text))
-    ≡ first_fault l.fn.allow_empty l.fn.form l.number (slice_split (λ b. nat_eq b 10) l.rest)
+abbrev pub invariant-loop-left : goal.invariant-loop-left
+invariant-loop-left l = first_fault l.fn.allow_empty l.fn.form 1 (lines_in l.fn.text) ≡ first_fault l.fn.allow_empty l.fn.form l.number (parts_left 10 l.left)
 
-abbrev pub decreases-loop-line : goal.decreases-loop-line
-decreases-loop-line l = length l.rest
+abbrev pub decreases-loop-left : goal.decreases-loop-left
+decreases-loop-left l = length (parts_left 10 l.left)
