@@ -31,8 +31,8 @@ marked_still marks at place below is = elim (cases_eq place at) [
 
 -- a byte that is not marked is held by no word
 pub unmarked : (ignore_case : Bool) (words : List (List ℕ)) (marks : List Bool) (byte place : ℕ) → WordsAreMarked ignore_case words marks → place ≡ folded_by ignore_case byte → get_or marks place false ≡ false → HoldNone ignore_case words byte
-unmarked ignore_case words marks byte place marked is not number d numbered (other, member, same) =
-    let held = every_member (λ b. get_or marks (folded_by ignore_case b) false ≡ true) (get_or words number d) other (marked number d numbered) member in
+unmarked ignore_case words marks byte place marked is not number numbered (other, member, same) =
+    let held = every_member (λ b. get_or marks (folded_by ignore_case b) false ≡ true) (get_or words number []) other (marked number [] numbered) member in
     let clash : true ≡ false = sym held ∙ ap (λ (n : ℕ). get_or marks n false) (same ∙ sym is) ∙ not in cc
 
 -- the first and the last byte of a piece
@@ -68,7 +68,7 @@ module _ (p : Patterns) (ignore_case : Bool) (words : List (List ℕ)) (are : Ar
 
   none_holds : (byte : ℕ) → HoldNone ignore_case words byte → NoneHolds p byte
   none_holds byte none number other numbered member same =
-      none number [] (subst (λ (l : List (List ℕ)). number < length l) are.words_are numbered)
+      none number (subst (λ (l : List (List ℕ)). number < length l) are.words_are numbered)
       (other, subst (λ (l : List (List ℕ)). IsMember (get_or l number []) other) are.words_are member, subst (λ (b : Bool). folded_by b other ≡ folded_by b byte) are.rule same)
 
   -- a pattern holds the first byte, or the last

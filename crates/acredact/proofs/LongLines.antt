@@ -1,18 +1,16 @@
 -- A line that is too long is one run of a number of its own.
 use Rattle.acredact.proofs.Common.{Covering, IsMember, Line, Occurrence, Patterns, eq-eqb, ltb-true, ne_eqb, runs_named, stream_lines}
-use Rattle.std.proofs.Common.{◌≡◌, inl, inr, ℕ, ◌+◌, ◌<◌, ◌≤◌, List, [], ◌∷◌, ◌++◌, Option, true, false, get_or, length, refl, sym, ap, ◌∙◌, arith, length-append}
+use Rattle.std.proofs.Common.{◌≡◌, inl, inr, ℕ, ◌+◌, ◌<◌, ◌≤◌, List, [], ◌∷◌, ◌++◌, Option, true, false, length, refl, sym, ap, ◌∙◌, arith, length-append}
 use Rattle.std.specs.Prelude.{Bool, filter, nat_eq, nat_lt, if◌then◌else◌}
 use Rattle.std.proofs.lemmas.Bool.{ltb-false}
 use Rattle.std.proofs.lemmas.List.Elements.{filter-append}
 use Rattle.std.proofs.lemmas.Option.{slice_get_within}
-use Rattle.aho_automaton.proofs.Listing.{filter-none}
 use Rattle.aho_core.specs.Cover.{AreRunsOf}
 use Rattle.aho_cover.specs.Words.{CountsIn}
 use Rattle.aho_laws.proofs.CoverRuns.{runs-unique}
 use Rattle.secret_rules.specs.Covering.{AreLineRuns, CoveredIn, seen_line, whole_line}
 use Rattle.secret_rules.specs.LineCovers.{all_of}
 use Rattle.secret_rules.proofs.Covered.{whole-runs}
-use Rattle.secret_rules.proofs.Owners.{member-get_or}
 use Rattle.acredact.specs.LongLines.{HasLong, HaveLong, long_among, whole_number}
 use Rattle.acredact.specs.RunCounts.{HasRuns, HaveRuns}
 use Rattle.acredact.proofs.Free.{named_as}
@@ -31,9 +29,11 @@ covered_below covering before line m short (inr (fits, inr marked)) =
     omega (arith, below, ap (λ (o : Occurrence). o.pattern) marked.same)
 
 none_numbered : (number : ℕ) (runs : List Occurrence) → ((run : Occurrence) → IsMember runs run → run.pattern < number) → runs_named number runs ≡ 0
-none_numbered number runs below =
-    ap length (filter-none (λ (o : Occurrence). nat_eq o.pattern number) runs
-    (λ k d within. ne_eqb (get_or runs k d).pattern number (λ (is : (get_or runs k d).pattern ≡ number). omega (arith, is, below (get_or runs k d) (member-get_or runs k d within)))))
+none_numbered number [] below = refl
+none_numbered number (run ∷ runs) below =
+    let not : nat_eq run.pattern number ≡ false = ne_eqb run.pattern number (λ (is : run.pattern ≡ number). omega (arith, is, below run (inl refl))) in
+    ap (λ (b : Bool). length (if b then run ∷ filter (λ (o : Occurrence). nat_eq o.pattern number) runs else filter (λ (o : Occurrence). nat_eq o.pattern number) runs)) not
+    ∙ none_numbered number runs (λ other there. below other (inr there))
 
 named_one : (number : ℕ) (run : Occurrence) → run.pattern ≡ number → runs_named number (run ∷ []) ≡ 1
 named_one number run is =

@@ -1,9 +1,8 @@
 -- Values of variables, one after another.
-use Rattle.acredact.proofs.Common.{Bor, Rule, common_steps, get_or-map, length-map, pieces_of}
-use Rattle.std.proofs.Common.{◌≡◌, ℕ, ◌<◌, Bool, true, List, [], ◌∷◌, ◌++◌, length, get_or, refl, sym, ap, subst, ◌∙◌, append-nil, append_assoc, arith}
-use Rattle.std.specs.Prelude.{nat_lt, slice_index_or}
+use Rattle.acredact.proofs.Common.{Bor, pieces_of}
+use Rattle.std.proofs.Common.{◌≡◌, ℕ, Bool, List, [], ◌∷◌, ◌++◌, refl, sym, ap, subst, ◌∙◌, append-nil, append_assoc}
 use Rattle.acredact.specs.Parts.{IsAddedSome}
-use Rattle.acredact.specs.Tables.{Secret, patterns_in, secret_of, secrets_of}
+use Rattle.acredact.specs.Tables.{Secret}
 use Rattle.acredact.specs.Values.{GiveEach, GivesValue}
 
 -- what the values so far gave, and what the others are to give, is what all give
@@ -28,12 +27,3 @@ valued_next parts all rest values value old mid new cut far added = record {
 pub valued_end : (parts : Bool) (all : List (List ℕ)) (rest : List (Bor (List ℕ))) (old new : List Secret) → rest ≡ [] → ValuedSoFar parts all (pieces_of rest) old new → IsAddedSome (GiveEach parts all) old new
 valued_end parts all rest old new none far =
     record { more = far.so; grown = far.grown; of = subst (GiveEach parts all) (append-nil far.so) (far.given [] (subst (λ l. GiveEach parts (pieces_of l) []) (sym none) refl)) }
-
--- the pattern of the rule of a number is that of the secret
-pub pattern_there : (rules : List Rule) (number : ℕ) (rule d : Rule) (other : List ℕ) → true ≡ nat_lt number (length rules) → rule ≡ slice_index_or rules number d
-    → rule.pattern.items ≡ get_or (patterns_in (secrets_of rules)) number other
-pattern_there rules number rule d other within found =
-    let lt : number < length rules = grind (arith, common_steps, within) in
-    let among : number < length (secrets_of rules) = subst (λ (n : ℕ). number < n) (sym (length-map rules secret_of)) lt in
-    ap (λ (r : Rule). r.pattern.items) found
-    ∙ sym (get_or-map (λ (s : Secret). s.pattern) (secrets_of rules) number (secret_of d) other among ∙ ap (λ (s : Secret). s.pattern) (get_or-map secret_of rules number d (secret_of d) lt))

@@ -25,7 +25,7 @@ pieces_by judge = map (piece_by judge.usual.now) (secrets_of judge.rules.now)
 
 -- no word does
 abbrev pub HoldNone : Bool → List (List ℕ) → ℕ → Type 0
-HoldNone ignore_case words byte = All (λ word. HoldsByte ignore_case word byte → ⊥) words
+HoldNone ignore_case words byte = (number : ℕ) → number < length words → HoldsByte ignore_case (slice_index_or words number []) byte → ⊥
 
 -- this one does, told by its number from 1 on
 abbrev pub IsHolder : Bool → List (List ℕ) → ℕ → ℕ → Type 0

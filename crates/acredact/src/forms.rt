@@ -1,12 +1,12 @@
 //! Forms of patterns: how a secret that is encoded gets into a log. Which patterns a form has is told by `secret_forms`.
 
 ghost use Rattle.std.specs.Prelude.{◌≡◌, ◌++◌, IfOk, OnOk, Some, flat_map};
-ghost use Rattle.acredact.specs.Forms.{AddsFormsOf, HaveForms, HideSecrets, HidesSecret, HidesTwice, are_forms, asked_forms, asks_for, form_called, form_secret, forms_asked, forms_from, forms_named, forms_of, is_all, is_asked, is_called, name_of, names_form, nested_by, nested_called, nested_named, twice_patterns};
+ghost use Rattle.acredact.specs.Forms.{AddsFormsOf, HaveForms, HideSecrets, HidesNestedForm, HidesOnce, HidesSecret, HidesTwice, are_forms, asked_forms, asks_for, form_called, form_secret, forms_asked, forms_from, forms_named, forms_of, is_all, is_asked, is_called, name_of, names_form, nested_by, nested_called, nested_named, once_patterns, twice_patterns};
 ghost use Rattle.acredact.specs.Tables.{secret_of, secrets_of};
 ghost use Rattle.secret_forms.specs.Patterns.{pattern_bytes};
 
 use crate::patterns::{Rule, copy_of, part_of};
-use secret_forms::{Form, forms, nested_forms};
+use secret_forms::{Form, FormError, forms, nested_forms};
 use std::alloc::{AllocError, Global};
 
 /// A pattern of fewer bytes has no forms.
@@ -201,8 +201,7 @@ pub fn add_forms(alloc: Global, rules: &mut Vec<Rule>, value: &str) -> Result<()
         nested: nested.as_slice(),
     };
     let mut more = forms_of_rules(alloc, rules.as_slice(), asked)?;
-    rules.append(&mut more)?;
-    Ok(())
+    rules.append(&mut more)
 }
 
 /// Those of all these rules.
@@ -235,13 +234,27 @@ fn add_forms_of(
     if rule.pattern.len() < SHORTEST {
         return Ok(());
     }
-    let Ok(patterns) = forms(alloc, rule.pattern.as_slice(), asked.forms) else {
+    add_once(alloc, more, rule, number, asked.forms)?;
+    add_nested(alloc, more, rule, number, asked.nested)
+}
+
+/// Adds those of the rule's own pattern by some forms.
+fn add_once(
+    alloc: Global,
+    more: &mut Vec<Rule>,
+    rule: &Rule,
+    number: usize,
+    wanted: &[Form],
+) -> Result<(), AllocError>
+    ensures added { OnOk result (AddsFormsOf rule.now number
+        (once_patterns wanted.now rule.now.pattern.items) more.old more.new) }
+    ensures hidden { OnOk result (HidesOnce wanted.now rule.now.pattern.items) }
+{
+    match forms(alloc, rule.pattern.as_slice(), wanted) {
+        Ok(patterns) => add_patterns(alloc, more, rule, number, patterns.as_slice()),
         // The pattern is long enough, so memory is wanting.
-        return Err(AllocError);
-    };
-    add_patterns(alloc, more, rule, number, patterns.as_slice())?;
-    add_nested(alloc, more, rule, number, asked.nested)?;
-    Ok(())
+        Err(FormError::TooShort | FormError::OutOfMemory) => Err(AllocError),
+    }
 }
 
 /// Adds those of what other forms make of it.
@@ -257,13 +270,28 @@ fn add_nested(
     ensures hidden { OnOk result (HidesTwice nested.now rule.now.pattern.items) }
 {
     for one in nested {
-        let Ok(patterns) = nested_forms(alloc, rule.pattern.as_slice(), one.inner, one.outer) else {
-            // The pattern is long enough here too.
-            return Err(AllocError);
-        };
-        add_patterns(alloc, more, rule, number, patterns.as_slice())?;
+        add_twice(alloc, more, rule, number, *one)?;
     }
     Ok(())
+}
+
+/// Adds those of one form of a form.
+fn add_twice(
+    alloc: Global,
+    more: &mut Vec<Rule>,
+    rule: &Rule,
+    number: usize,
+    nested: Nested,
+) -> Result<(), AllocError>
+    ensures added { OnOk result (AddsFormsOf rule.now number
+        (twice_patterns rule.now.pattern.items nested) more.old more.new) }
+    ensures hidden { OnOk result (HidesNestedForm rule.now.pattern.items nested) }
+{
+    match nested_forms(alloc, rule.pattern.as_slice(), nested.inner, nested.outer) {
+        Ok(patterns) => add_patterns(alloc, more, rule, number, patterns.as_slice()),
+        // The pattern is long enough, so memory is wanting.
+        Err(FormError::TooShort | FormError::OutOfMemory) => Err(AllocError),
+    }
 }
 
 /// Adds a rule for each of some patterns that are forms of a rule, but for empty ones.

@@ -21,7 +21,7 @@ use tool_parts::failure;
 /// What stands for a file in messages about the rule of a keyword.
 const AFTER: &str = "--after";
 
-/// The rules of all files and keywords that are given, in order.
+/// The rules of all files and keywords that are given, in order. Each expression is compiled when a line first needs it.
 ///
 /// # Errors
 ///
@@ -36,7 +36,10 @@ pub fn line_rules_of<'a, F: Folder, I: Read>(
     ensures sound { IfOk result AreSound }
 {
     match read_rules(lists, items, input) {
-        Ok(rules) => sound(lists.alloc, rules),
+        Ok(rules) => match Rules::new(lists.alloc, rules) {
+            Ok(rules) => Ok(rules),
+            Err(error) => Err(unsound(error)),
+        },
         Err(failure) => Err(failure),
     }
 }
@@ -131,18 +134,9 @@ fn add_text<'a, F>(
     ensures added { OnOk result (AddsThese (TellsRules text.now) rules.old rules.new) }
 {
     match rules_in(lists.alloc, text, lists.allow_empty) {
-        Ok(more) => Ok(append_rules(rules, more)?),
+        Ok(mut more) => Ok(rules.append(&mut more)?),
         Err(fault) => Err(RuledFailure::Text(name, fault)),
     }
-}
-
-/// Adds these rules.
-fn append_rules(rules: &mut Vec<LineRule>, more: Vec<LineRule>) -> Result<(), AllocError>
-    ensures appended { OnOk result (rules.new.items ≡ rules.old.items ++ more.items) }
-{
-    let mut more = more;
-    rules.append(&mut more)?;
-    Ok(())
 }
 
 /// Adds a rule.
@@ -169,17 +163,6 @@ fn no_rule<'a>(
     match bad_rule(alloc, number, rule, flaw) {
         Ok(bad) => RuledFailure::Text(name, TextFault::Rule(bad)),
         Err(_) => no_memory(),
-    }
-}
-
-/// These rules, by which lines can be covered. Each expression is compiled when a line first needs it.
-fn sound<'a>(alloc: Global, rules: Vec<LineRule>) -> Result<Rules, RuledFailure<'a>>
-    ensures rules { IfOk result (λ made. made ≡ rules.items) }
-    ensures sound { IfOk result AreSound }
-{
-    match Rules::new(alloc, rules) {
-        Ok(rules) => Ok(rules),
-        Err(error) => Err(unsound(error)),
     }
 }
 

@@ -1,9 +1,8 @@
 //! The lines of a pattern that is given as an argument and has line ends. In a log whose lines begin with a time the whole pattern
 //! stands nowhere, but its lines do.
 
-ghost use Rattle.std.specs.Prelude.{◌≡◌, ◌++◌, OnOk};
-ghost use Rattle.acredact.specs.Parts.{AddsSome, ArePartsOf, line_secrets};
-ghost use Rattle.acredact.specs.Tables.{secrets_of};
+ghost use Rattle.std.specs.Prelude.{OnOk};
+ghost use Rattle.acredact.specs.Parts.{AddsSome, ArePartsOf};
 
 use crate::patterns::{Rule, copy_of, part_of, split_at, without_last};
 use std::alloc::{AllocError, Global};
@@ -11,7 +10,8 @@ use std::alloc::{AllocError, Global};
 /// How many bytes a line of a pattern has at least that is a pattern too. A shorter one may stand anywhere.
 const LEAST_PART: usize = 8;
 
-/// Adds each line of a pattern that has line ends, if it has eight bytes or more, as a pattern of its own.
+/// Adds each line of a pattern that has line ends, without a carriage return at its end, as a pattern of its own, if it has eight bytes
+/// or more.
 pub fn add_parts(
     alloc: Global,
     rules: &mut Vec<Rule>,
@@ -20,37 +20,24 @@ pub fn add_parts(
 ) -> Result<(), AllocError>
     ensures added { OnOk result (AddsSome (ArePartsOf list pattern.now) rules.old rules.new) }
 {
-    let Some(_) = split_at(pattern, b'\n') else {
-        return Ok(());
-    };
+    match split_at(pattern, b'\n') {
+        None => return Ok(()),
+        Some(_) => {}
+    }
     let mut left = Some(pattern);
     while let Some(rest) = left {
         let (line, more) = part_of(rest, b'\n');
-        add_part(alloc, rules, line, list)?;
+        let line = without_last(line, b'\r');
+        if line.len() >= LEAST_PART {
+            rules.push(Rule {
+                pattern: copy_of(alloc, line)?,
+                replacement: None,
+                list,
+                line: 0,
+                form_of: None,
+            })?;
+        }
         left = more;
     }
-    Ok(())
-}
-
-/// Adds a line, without a carriage return at its end, if it is long enough.
-fn add_part(
-    alloc: Global,
-    rules: &mut Vec<Rule>,
-    line: &[u8],
-    list: usize,
-) -> Result<(), AllocError>
-    ensures added { OnOk result (secrets_of rules.new.items ≡ secrets_of rules.old.items ++ line_secrets list line.now) }
-{
-    let line = without_last(line, b'\r');
-    if line.len() < LEAST_PART {
-        return Ok(());
-    }
-    rules.push(Rule {
-        pattern: copy_of(alloc, line)?,
-        replacement: None,
-        list,
-        line: 0,
-        form_of: None,
-    })?;
     Ok(())
 }

@@ -10,6 +10,5 @@ returns-then-folded-wanted c = record { holds = (_, member-get_or c.args.word.no
 
 pub returns : goal.returns
 returns c =
-    let Other = λ other. folded_by c.args.ignore_case other ≡ folded_by c.args.ignore_case c.args.byte → ⊥ in
-    let all : All Other c.args.word.now = search rules in
-    record { holds = λ (held : _). let (other, member, same) = held in every_member Other c.args.word.now other all member same }
+    let all : All (λ other. folded_by c.args.ignore_case other ≡ folded_by c.args.ignore_case c.args.byte → ⊥) c.args.word.now = search rules in
+    record { holds = λ held. every_member (λ b. folded_by c.args.ignore_case b ≡ folded_by c.args.ignore_case c.args.byte → ⊥) c.args.word.now held.0 all held.1 held.2 }

@@ -1,6 +1,7 @@
 -- The byte at the place of the loop, or all.
-use Rattle.acredact.proofs.Common.{All, folded_by}
-use Rattle.std.proofs.Common.{rules, ◌≡◌, true}
+use Rattle.acredact.proofs.Common.{folded_by}
+use Rattle.std.proofs.Common.{rules, ◌≡◌, arith, true}
+use Rattle.std.proofs.lemmas.List.Elements.{All-from_get_or}
 use Rattle.secret_rules.proofs.Owners.{member-get_or}
 use Rattle.acredact.specs.Spelling.{is_inside}
 use Rattle.acredact.proofs.Flaws.{every_member}
@@ -10,7 +11,8 @@ pub returns-then-not-is_inside : goal.returns-then-not-is_inside
 returns-then-not-is_inside c = record { inside = (_, member-get_or c.args.word.now c.loop-byte.byte-index 0 c.loop-byte-test.true, search rules) }
 
 pub returns : goal.returns
-returns c =
-    let Inside = λ byte. is_inside (folded_by c.args.ignore_case byte) ≡ true in
-    let all : All Inside c.args.word.now = search rules in
-    record { inside = λ byte member. every_member Inside c.args.word.now byte all member }
+returns c = record {
+  inside = λ byte member.
+      every_member (λ b. is_inside (folded_by c.args.ignore_case b) ≡ true) c.args.word.now byte
+      (All-from_get_or (λ b. is_inside (folded_by c.args.ignore_case b) ≡ true) c.args.word.now 0 (λ place below. c.loop-byte.invariant place (omega (arith, below, c.loop-byte-test.false)))) member;
+}

@@ -7,7 +7,7 @@ use Rattle.acredact.proofs.named.named_rules.Given as goal
 
 abbrev pub invariant-loop-rule : goal.invariant-loop-rule
 invariant-loop-rule l =
-    let rule = pseudonym_rule l.fn.key.ignore_case l.fn.key.bytes in
+    let rule = pseudonym_rule l.fn.key.ignore_case l.fn.key.bytes.now in
     record {
       made : all_named rule (secrets_of l.fn.rules) ≡ secrets_of l.named.items ++ map (named_secret rule (secrets_of l.fn.rules)) (secrets_of (drop l.rule-index l.fn.rules));
       same : pseudonym_by l.pieces.ignore_case l.pieces.masks.inner l.pieces.masks.outer ≡ rule;

@@ -1,6 +1,5 @@
 -- One line more is added.
-use Rattle.std.proofs.Common.{rules, ◌≡◌, [], ◌∷◌, ◌++◌, length-append, ◌∙◌, append_assoc, arith, ap, sym}
-use Rattle.std.specs.Prelude.{Err}
+use Rattle.std.proofs.Common.{rules, ◌≡◌, [], ◌∷◌, ◌++◌, length-append, ◌∙◌, append_assoc, arith, ap, refl, sym}
 use Rattle.acredact.specs.Tables.{lines_in, parts_left}
 use Rattle.acredact.proofs.Lines.{added_line, fault_at}
 use Rattle.acredact.proofs.patterns.add_lines.Goals as goal
@@ -8,19 +7,19 @@ use Rattle.acredact.proofs.patterns.add_lines.Goals as goal
 pub loop-left-preserved : goal.loop-left-preserved
 loop-left-preserved c =
     let (front, is, added, counts) = c.loop-left.invariant in
-    let cut : parts_left 10 c.loop-left.left ≡ c.part_of.result.0.now ∷ parts_left 10 c.part_of.result.1 = search rules in (
-      front ++ (c.part_of.result.0.now ∷ []),
-      is ∙ ap (λ l. front ++ l) cut ∙ sym (append_assoc front (c.part_of.result.0.now ∷ []) (parts_left 10 c.part_of.result.1)),
-      added_line _ _ _ _ _ front c.part_of.result.0.now counts added c.in_ok-add_numbered.ensures.added,
-      omega (arith, length-append front (c.part_of.result.0.now ∷ []), counts, c.saturating_add-number.ensures),
+    let line = c.part_of.result.0.now in
+    let cut : parts_left 10 c.loop-left.left ≡ line ∷ parts_left 10 c.part_of.result.1 = search rules in (
+      front ++ (line ∷ []),
+      is ∙ ap (λ l. front ++ l) cut ∙ sym (append_assoc front (line ∷ []) (parts_left 10 c.part_of.result.1)),
+      added_line _ _ _ _ _ front line counts added c.in-Ok.ensures.added,
+      omega (arith, length-append front (line ∷ []), counts, c.saturating_add-number.ensures),
     )
 
-pub returns-in_err-add_numbered-clause-fault : goal.returns-in_err-add_numbered-clause-fault
-returns-in_err-add_numbered-clause-fault c =
+pub returns-in-Err-clause-fault : goal.returns-in-Err-clause-fault
+returns-in-Err-clause-fault c =
     let (front, is, added, counts) = c.loop-left.invariant in
     let lines : lines_in c.args.text.now ≡ front ++ (c.part_of.result.0.now ∷ parts_left 10 c.part_of.result.1) = search rules in
-    let same : c.from_residual.result ≡ Err c.in_err-add_numbered.field-0.0 = search rules in
-    rw same (fault_at c.args.form _ front _ c.part_of.result.0.now _ _ lines counts c.in_err-add_numbered.ensures.number c.in_err-add_numbered.ensures.fault)
+    fault_at c.args.form _ front _ c.part_of.result.0.now _ _ lines counts refl c.in-Err.ensures.fault
 
 pub returns-clause-added : goal.returns-clause-added
 returns-clause-added c =
