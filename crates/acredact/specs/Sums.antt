@@ -1,5 +1,5 @@
 -- What is counted for each pattern that was given: its own count, and those of its forms.
-use Rattle.std.specs.Prelude.{◌≡◌, ℕ, ◌+◌, ◌-◌, ◌<◌, ◌^◌, min, List, [], ◌∷◌, is_some, length, map, nat_eq, not, replicate, slice_index, unwrap_or, Vec, if◌then◌else◌}
+use Rattle.std.specs.Prelude.{◌≡◌, ℕ, ◌+◌, ◌-◌, ◌<◌, ◌^◌, min, List, [], ◌∷◌, is_some, length, map, nat_eq, not, slice_index, unwrap_or, Vec, if◌then◌else◌}
 use Rattle.std.specs.List.{filter, range_with_len}
 use Rattle.aho_cover.specs.Counting.{grown_count}
 use Rattle.acredact.specs.Tables.{Secret, secrets_of}
@@ -8,10 +8,6 @@ use Rattle.acredact.specs.declared.patterns.Rule.{Rule}
 -- how many were given, and are no forms of others
 abbrev pub given_count : List Secret → ℕ
 given_count secrets = length (filter (λ (secret : Secret). not (is_some secret.form_of)) secrets)
-
--- a zero for each of these
-abbrev pub zeros_for : List Rule → List ℕ
-zeros_for rules = replicate (given_count (secrets_of rules)) 0
 
 -- a pattern counts for its own number, or for that of the one of which it is a form
 abbrev pub counts_for : ℕ → Secret → ℕ

@@ -2,9 +2,9 @@
 
 ghost use Rattle.std.specs.Prelude.{◌≡◌, ◌++◌, [], ◌∷◌, Some, IfErr, IfOk, OnOk, string_bytes};
 ghost use Rattle.tool_parts.specs.Arguments.{texts};
-ghost use Rattle.acredact.specs.Arguments.{ReadsAs, all_asked, all_given, by_any, by_argument, given, given_by, in_place_mixture_of, is_value_of, by_joined, by_letter, by_letters, mixture_of, by_name, by_taken, max_line_mixture_of, rules_mixture_of, words_mixture_of, by_value};
+ghost use Rattle.acredact.specs.Arguments.{ReadsAs, all_asked, all_given, by_any, by_argument, given, given_by, is_value_of, by_joined, by_letter, by_letters, mixture_of, by_name, by_taken, rules_mixture_of, words_mixture_of, by_value};
 ghost use Rattle.acredact.specs.Long.{word_by_name};
-ghost use Rattle.acredact.specs.Mistakes.{FailsAs, IsMistake, IsMistakeOfCall, TellsAs, line_of_any, line_of_argument, line_of_joined, line_of_letter, line_of_letters, line_of_name, mistake_line, value_line};
+ghost use Rattle.acredact.specs.Mistakes.{FailsAs, IsMistake, IsMistakeOfCall, TellsAs, line_of_any, line_of_argument, line_of_joined, line_of_letter, line_of_letters, line_of_name, value_line};
 
 use crate::forms::are_forms;
 use crate::line_size::size_of;
@@ -72,7 +72,7 @@ fn mixture_of(items: &[Item<'_>]) -> Option<Mixture>
     words_mixture_of(items)
 }
 
-/// That of `--word` with another option, where they do not go together.
+/// That of `--word` or `--in-place` with another option, where they do not go together.
 fn words_mixture_of(items: &[Item<'_>]) -> Option<Mixture>
     ensures mixture { result ≡ words_mixture_of (all_given items.now) }
 {
@@ -82,13 +82,6 @@ fn words_mixture_of(items: &[Item<'_>]) -> Option<Mixture>
     if has(items, Word::AsWord) && has(items, Word::Forms) {
         return Some(Mixture::WordsForms);
     }
-    in_place_mixture_of(items)
-}
-
-/// That of `--in-place` with another option, where they do not go together.
-fn in_place_mixture_of(items: &[Item<'_>]) -> Option<Mixture>
-    ensures mixture { result ≡ in_place_mixture_of (all_given items.now) }
-{
     if has(items, Word::InPlace) && has(items, Word::Check) {
         return Some(Mixture::InPlaceCheck);
     }
@@ -98,12 +91,15 @@ fn in_place_mixture_of(items: &[Item<'_>]) -> Option<Mixture>
     rules_mixture_of(items)
 }
 
-/// That of rules with another option, where they do not go together.
+/// That of rules, or of `--max-line` without them, with another option, where they do not go together.
 fn rules_mixture_of(items: &[Item<'_>]) -> Option<Mixture>
     ensures mixture { result ≡ rules_mixture_of (all_given items.now) }
 {
     if !gives_rules(items) {
-        return max_line_mixture_of(items);
+        if has(items, Word::MaxLine) {
+            return Some(Mixture::MaxLineAlone);
+        }
+        return None;
     }
     if !covers(items) {
         return Some(Mixture::RulesKind);
@@ -117,16 +113,6 @@ fn rules_mixture_of(items: &[Item<'_>]) -> Option<Mixture>
     None
 }
 
-/// That of `--max-line`, where no rules are given.
-fn max_line_mixture_of(items: &[Item<'_>]) -> Option<Mixture>
-    ensures mixture { result ≡ max_line_mixture_of (all_given items.now) }
-{
-    if has(items, Word::MaxLine) {
-        return Some(Mixture::MaxLineAlone);
-    }
-    None
-}
-
 /// All options and files, in order.
 fn read_items(alloc: Global, arguments: &[String]) -> Result<Vec<Item<'_>>, Mistake<'_>>
     ensures given { IfOk result (λ items.
@@ -135,10 +121,8 @@ fn read_items(alloc: Global, arguments: &[String]) -> Result<Vec<Item<'_>>, Mist
 {
     let mut items = Vec::new(alloc);
     let mut expects = Expects::Any;
-    let mut rest = arguments;
-    while let Some((argument, behind)) = rest.split_first() {
+    for argument in arguments {
         expects = read(&mut items, expects, argument)?;
-        rest = behind;
     }
     match expects {
         Expects::Value(word) => Err(Mistake::NoValue(word)),
@@ -281,7 +265,7 @@ fn take_value<'a>(
     Ok(Expects::Any)
 }
 
-/// Reads the value of an option.
+/// Reads the value of an option, if it can have this one.
 fn read_value<'a>(
     items: &mut Vec<Item<'a>>,
     word: Word,
@@ -291,27 +275,20 @@ fn read_value<'a>(
     ensures refused { FailsAs (by_value word value.now) items.old result }
     ensures wrong { TellsAs (value_line word) result }
 {
-    if !is_value_of(word, value) {
-        return Err(unknown_value(word));
+    if is_value_of(word, value) {
+        add(items, word, value)?;
+        return Ok(Expects::Any);
     }
-    add(items, word, value)?;
-    Ok(Expects::Any)
-}
-
-/// Why an option cannot have a value.
-fn unknown_value<'a>(word: Word) -> Mistake<'a>
-    ensures line { mistake_line result ≡ value_line word }
-{
     if is_same(Word::Forms, word) {
-        return Mistake::UnknownForm;
+        return Err(Mistake::UnknownForm);
     }
     if is_same(Word::Env, word) {
-        return Mistake::BadName;
+        return Err(Mistake::BadName);
     }
     if is_same(Word::MaxLine, word) {
-        return Mistake::BadSize;
+        return Err(Mistake::BadSize);
     }
-    Mistake::UnknownKind
+    Err(Mistake::UnknownKind)
 }
 
 /// Whether an option can have this value: that of `--kind` is `cover` or a match kind, that of `--forms` names forms, that of `--env`

@@ -1,13 +1,11 @@
 //! How many matches of each pattern were replaced.
 
 ghost use Rattle.std.specs.Prelude.{◌≡◌, IfOk, OnOk, decimal};
-ghost use Rattle.acredact.specs.Counts.{PutsText, count_line, counts_told, place_told, zeros};
+ghost use Rattle.acredact.specs.Counts.{PutsText, counts_told, zeros};
 
 use crate::patterns::Rule;
-use chromesquid::Sink;
 use rule_files::{MAX_DIGITS, digits_of};
 use std::alloc::{AllocError, Global};
-use tool_parts::errors::Errors;
 
 /// A count for each rule where they are counted, and else none.
 pub fn counts_of(alloc: Global, rules: &[Rule], counted: bool) -> Result<Vec<u64>, AllocError>
@@ -32,40 +30,25 @@ pub fn put_counts(text: &mut Vec<u8>, rules: &[Rule], counts: &[u64]) -> Result<
     let mut rest = rules;
     let mut left = counts;
     let mut number: usize = 1;
-    while !rest.is_empty() {
-        if left.is_empty() {
+    while let Some((rule, rules)) = rest.split_first() {
+        let Some((count, others)) = left.split_first() else {
             return Ok(());
+        };
+        put_number(text, *count)?;
+        text.push(b'\t')?;
+        put_number(text, number as u64)?;
+        text.push(b'\t')?;
+        if rule.line == 0 {
+            text.extend_from_slice(b"-e")?;
+        } else {
+            put_number(text, rule.line as u64)?;
         }
-        put_count(text, left[0], number, rest[0].line)?;
+        text.push(b'\n')?;
         number = number.saturating_add(1);
-        rest = &rest[1..];
-        left = &left[1..];
+        rest = rules;
+        left = others;
     }
     Ok(())
-}
-
-/// Puts the line of a pattern.
-fn put_count(text: &mut Vec<u8>, count: u64, number: usize, line: usize) -> Result<(), AllocError>
-    ensures put { OnOk result (PutsText text.old text.new (count_line count number line)) }
-{
-    put_number(text, count)?;
-    text.push(b'\t')?;
-    put_number(text, number as u64)?;
-    text.push(b'\t')?;
-    put_origin(text, line)?;
-    text.push(b'\n')?;
-    Ok(())
-}
-
-/// Puts the number of a line, or `-e` where it is 0.
-fn put_origin(text: &mut Vec<u8>, line: usize) -> Result<(), AllocError>
-    ensures put { OnOk result (PutsText text.old text.new (place_told line)) }
-{
-    if line == 0 {
-        text.extend_from_slice(b"-e")?;
-        return Ok(());
-    }
-    put_number(text, line as u64)
 }
 
 /// Puts a number in decimal.

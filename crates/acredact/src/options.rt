@@ -134,12 +134,10 @@ pub fn last_value<'a>(items: &[Item<'a>], word: Word) -> Option<&'a str>
     ensures last { option_map (λ value. value.now) result ≡ last_value word (all_given items.now) }
 {
     let mut value = None;
-    let mut rest = items;
-    while !rest.is_empty() {
-        if is_same(word, rest[0].word) {
-            value = Some(rest[0].value);
+    for item in items {
+        if is_same(word, item.word) {
+            value = Some(item.value);
         }
-        rest = &rest[1..];
     }
     value
 }

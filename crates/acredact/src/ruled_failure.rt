@@ -2,7 +2,7 @@
 
 ghost use Rattle.std.specs.Prelude.{◌≡◌, ℕ, List};
 ghost use Rattle.tool_parts.specs.Telling.{TellsBytes};
-ghost use Rattle.acredact.specs.RuleLines.{IsRuledLine, line_end_line, too_long_line};
+ghost use Rattle.acredact.specs.RuleLines.{IsRuledLine, too_long_line};
 
 use crate::failure::{Failure, PROGRAM, tell_failure, tell_numbered, tell_with_other};
 use chromesquid::{BuildError, Sink};
@@ -59,16 +59,11 @@ pub fn tell_ruled<E: Sink>(errors: &mut Errors<'_, E>, failure: &RuledFailure<'_
         RuledFailure::Keywords(error) => {
             errors.tell_build(PROGRAM, Some(b"--rules"), None, error);
         }
-        RuledFailure::LineEnd(number) => tell_line_end(errors, *number),
+        RuledFailure::LineEnd(number) => {
+            let why = b" holds a line end: it stands in no line, and rules go line by line\n";
+            tell_numbered(errors, b": pattern ", *number, why);
+        }
     }
-}
-
-/// Tells as a line which pattern holds a line end.
-fn tell_line_end<E: Sink>(errors: &mut Errors<'_, E>, at: usize)
-    ensures told { TellsBytes E.Sink errors.old errors.new (line_end_line at) }
-{
-    let why = b" holds a line end: it stands in no line, and rules go line by line\n";
-    tell_numbered(errors, b": pattern ", at, why);
 }
 
 /// Tells as a line how many lines have more bytes than this.

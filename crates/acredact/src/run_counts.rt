@@ -4,7 +4,7 @@ ghost use Rattle.std.specs.Prelude.{◌≡◌, IfOk, OnErr, OnOk, drop};
 ghost use Rattle.tool_parts.specs.Telling.{Tells, TellsBytes};
 ghost use Rattle.acredact.specs.Arguments.{all_given};
 ghost use Rattle.acredact.specs.Counts.{PutsText, lines_of_rules};
-ghost use Rattle.acredact.specs.RunCounts.{IsRunsLine, TellsAnyRuns, objects_told_by, rule_count_line, rule_counts_text, runs_text, runs_told_by};
+ghost use Rattle.acredact.specs.RunCounts.{IsRunsLine, TellsAnyRuns, objects_told_by, rule_counts_text, runs_text, runs_told_by};
 
 use crate::counts::{put_counts, put_number};
 use crate::failure::Failure;
@@ -139,20 +139,12 @@ fn put_rule_counts(
         let Some((count, others)) = left.split_first() else {
             return Ok(());
         };
-        put_rule_count(text, *count, rule)?;
+        put_number(text, *count)?;
+        text.push(b'\t')?;
+        put_shown(text, rule.id.as_bytes())?;
+        text.push(b'\n')?;
         rest = rules;
         left = others;
     }
-    Ok(())
-}
-
-/// Puts the line of a rule.
-fn put_rule_count(text: &mut Vec<u8>, count: u64, rule: &LineRule) -> Result<(), AllocError>
-    ensures put { OnOk result (PutsText text.old text.new (rule_count_line count rule.now)) }
-{
-    put_number(text, count)?;
-    text.push(b'\t')?;
-    put_shown(text, rule.id.as_bytes())?;
-    text.push(b'\n')?;
     Ok(())
 }

@@ -3,7 +3,7 @@
 ghost use Rattle.std.specs.Prelude.{◌≡◌, OnOk};
 ghost use Rattle.acredact.specs.Counts.{PutsText};
 ghost use Rattle.acredact.specs.Doubts.{last_of};
-ghost use Rattle.acredact.specs.RunSummaries.{byte_in_json, bytes_in_json, more_rules_listed, rule_object, rules_listed, run_summary_text};
+ghost use Rattle.acredact.specs.RunSummaries.{bytes_in_json, rule_object, rules_listed, run_summary_text};
 
 use crate::counts::put_number;
 use crate::shown::put_digits;
@@ -42,15 +42,8 @@ fn put_rules(text: &mut Vec<u8>, rules: &[LineRule], runs: &[u64]) -> Result<(),
         return Ok(());
     };
     put_rule(text, rule, *count)?;
-    put_more_rules(text, more, others)
-}
-
-/// An object for each rule, with a comma in front of each.
-fn put_more_rules(text: &mut Vec<u8>, rules: &[LineRule], runs: &[u64]) -> Result<(), AllocError>
-    ensures put { OnOk result (PutsText text.old text.new (more_rules_listed rules.now runs.now)) }
-{
-    let mut rest = rules;
-    let mut left = runs;
+    let mut rest = more;
+    let mut left = others;
     while let Some((rule, more)) = rest.split_first() {
         let Some((count, others)) = left.split_first() else {
             return Ok(());
@@ -75,30 +68,21 @@ fn put_rule(text: &mut Vec<u8>, rule: &LineRule, count: u64) -> Result<(), Alloc
     Ok(())
 }
 
-/// Puts bytes as they stand within a string of JSON.
+/// Puts bytes as they stand within a string of JSON: a quote and a backslash behind a backslash, and one below 32 by its number.
 fn put_bytes(text: &mut Vec<u8>, bytes: &[u8]) -> Result<(), AllocError>
     ensures put { OnOk result (PutsText text.old text.new (bytes_in_json bytes.now)) }
 {
-    let mut rest = bytes;
-    while !rest.is_empty() {
-        put_byte(text, rest[0])?;
-        rest = &rest[1..];
+    for byte in bytes {
+        if *byte < 32 {
+            text.extend_from_slice(b"\\u00")?;
+            put_digits(text, *byte)?;
+            continue;
+        }
+        if *byte == b'"' || *byte == b'\\' {
+            text.push(b'\\')?;
+        }
+        text.push(*byte)?;
     }
-    Ok(())
-}
-
-/// Puts a byte as it stands there: a quote and a backslash behind a backslash, and one below 32 by its number.
-fn put_byte(text: &mut Vec<u8>, byte: u8) -> Result<(), AllocError>
-    ensures put { OnOk result (PutsText text.old text.new (byte_in_json byte)) }
-{
-    if byte < 32 {
-        text.extend_from_slice(b"\\u00")?;
-        return put_digits(text, byte);
-    }
-    if byte == b'"' || byte == b'\\' {
-        text.push(b'\\')?;
-    }
-    text.push(byte)?;
     Ok(())
 }
 

@@ -1,7 +1,7 @@
 //! Names that are put at the end of a text: each control character as `\x` and two hexadecimal digits.
 
 ghost use Rattle.std.specs.Prelude.{OnOk};
-ghost use Rattle.rule_files.specs.Messages.{as_shown, digits_in, shown_byte};
+ghost use Rattle.rule_files.specs.Messages.{as_shown, digits_in};
 ghost use Rattle.acredact.specs.Counts.{PutsText};
 
 use rule_files::{digit_of, is_control};
@@ -11,23 +11,14 @@ use std::alloc::AllocError;
 pub fn put_shown(text: &mut Vec<u8>, name: &[u8]) -> Result<(), AllocError>
     ensures put { OnOk result (PutsText text.old text.new (as_shown name.now)) }
 {
-    let mut rest = name;
-    while !rest.is_empty() {
-        put_byte(text, rest[0])?;
-        rest = &rest[1..];
+    for byte in name {
+        if is_control(*byte) {
+            text.extend_from_slice(b"\\x")?;
+            put_digits(text, *byte)?;
+        } else {
+            text.push(*byte)?;
+        }
     }
-    Ok(())
-}
-
-/// Puts a byte of a name.
-fn put_byte(text: &mut Vec<u8>, byte: u8) -> Result<(), AllocError>
-    ensures put { OnOk result (PutsText text.old text.new (shown_byte byte)) }
-{
-    if is_control(byte) {
-        text.extend_from_slice(b"\\x")?;
-        return put_digits(text, byte);
-    }
-    text.push(byte)?;
     Ok(())
 }
 

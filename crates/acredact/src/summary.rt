@@ -2,7 +2,7 @@
 
 ghost use Rattle.std.specs.Prelude.{OnOk};
 ghost use Rattle.acredact.specs.Counts.{PutsText};
-ghost use Rattle.acredact.specs.Summaries.{amounts_text, listed, more_listed, summary_text};
+ghost use Rattle.acredact.specs.Summaries.{amounts_text, listed, summary_text};
 
 use crate::counts::put_number;
 use std::alloc::AllocError;
@@ -42,22 +42,13 @@ pub fn put_amounts(text: &mut Vec<u8>, volume: Volume, counts: &[u64]) -> Result
 fn put_list(text: &mut Vec<u8>, counts: &[u64]) -> Result<(), AllocError>
     ensures put { OnOk result (PutsText text.old text.new (listed counts.now)) }
 {
-    if counts.is_empty() {
+    let Some((first, more)) = counts.split_first() else {
         return Ok(());
-    }
-    put_number(text, counts[0])?;
-    put_more(text, &counts[1..])
-}
-
-/// Numbers with a comma in front of each.
-fn put_more(text: &mut Vec<u8>, numbers: &[u64]) -> Result<(), AllocError>
-    ensures put { OnOk result (PutsText text.old text.new (more_listed numbers.now)) }
-{
-    let mut rest = numbers;
-    while !rest.is_empty() {
+    };
+    put_number(text, *first)?;
+    for number in more {
         text.push(b',')?;
-        put_number(text, rest[0])?;
-        rest = &rest[1..];
+        put_number(text, *number)?;
     }
     Ok(())
 }

@@ -3,8 +3,8 @@ use Rattle.std.proofs.Common.{◌≡◌, ◌++◌, length}
 use Rattle.acredact.specs.Counts.{counts_text, lines_of_rules}
 use Rattle.acredact.proofs.counts.put_counts.Given as goal
 
-abbrev pub invariant-loop-rest : goal.invariant-loop-rest
-invariant-loop-rest l = l.text.items ++ counts_text l.number (lines_of_rules l.rest) l.left ≡ l.initial.text.items ++ counts_text 1 (lines_of_rules l.fn.rules) l.fn.counts
+abbrev pub invariant-loop-rule : goal.invariant-loop-rule
+invariant-loop-rule l = l.text.items ++ counts_text l.number (lines_of_rules l.rest) l.left ≡ l.initial.text.items ++ counts_text 1 (lines_of_rules l.fn.rules) l.fn.counts
 
-abbrev pub decreases-loop-rest : goal.decreases-loop-rest
-decreases-loop-rest l = length l.rest
+abbrev pub decreases-loop-rule : goal.decreases-loop-rule
+decreases-loop-rule l = length l.rest

@@ -1,14 +1,16 @@
 -- The counts are added to zeros.
-use Rattle.std.proofs.Common.{rules, ◌≡◌, length, ◌∙◌}
+use Rattle.std.proofs.Common.{rules, ◌≡◌, length, ◌∙◌, append-nil, arith}
+use Rattle.std.proofs.lemmas.List.{drop_all, take_at}
 use Rattle.acredact.specs.Tables.{secrets_of}
-use Rattle.acredact.proofs.Summing.{sums_are, written_over}
+use Rattle.acredact.proofs.Summing.{sums_are}
 use Rattle.acredact.proofs.sums.sums_of.Goals as goal
 
 pub returns : goal.returns
 returns c =
-    let sized : c.in_ok-sums.sums.len ≡ length c.add_counts.new.sums = search (rules, c.add_counts.ensures.grown.as_many) in
+    let sized : length c.add_counts.new.sums ≡ c.loop-rule.sums.len = search (rules, c.add_counts.ensures.grown.as_many) in
+    let zeros = rw (drop_all c.loop-rule.rule-index c.args.rules.now (omega arith), append-nil) at c.loop-rule.invariant in
     record {
-      sums = written_over c.in_ok-sums.sums.len c.add_counts.new.sums _ sized
-          ∙ sums_are (secrets_of c.args.rules.now) c.args.counts.now c.in_ok-sums.sums.items c.add_counts.new.sums c.in_ok-sums.ensures.zeros
+      sums = take_at c.add_counts.new.sums _ c.loop-rule.sums.len sized
+          ∙ sums_are (secrets_of c.args.rules.now) c.args.counts.now c.loop-rule.sums.items c.add_counts.new.sums zeros
           (rw c.as_mut_slice.ensures.value at c.add_counts.ensures.grown);
     }
