@@ -1,17 +1,17 @@
 -- What is told of lines, one after another, by what a visitor of them leaves.
-use Rattle.acredact.proofs.Common.{Appends, Appends-nil, Appends-trans, Covering, IfOk-weaker, IsAtEnd, Line, LineError, MutBor, Occurrence, Patterns, PositionLimit, Read, SinkGhosts, SourceGhosts, StartsWith, Stream, StreamError, covering_by, or-false, or_assoc, stream_lines, take-length}
-use Rattle.std.proofs.Common.{◌++◌, ◌∙◌, ◌∷◌, ◌≡◌, ◌≢◌, List, Option, [], ap, append-nil, append_assoc, drop, false, inl, inr, refl, subst, sym, take, true, ℕ}
+use Rattle.acredact.proofs.Common.{Appends, Appends-nil, Appends-trans, Covering, IfOk-weaker, IsAtEnd, Line, LineError, MutBor, Occurrence, Patterns, PositionLimit, Read, SinkGhosts, SourceGhosts, Stream, StreamError, covering_by, or-false, or_assoc, stream_lines, take-length}
+use Rattle.std.proofs.Common.{◌++◌, ◌∙◌, ◌∷◌, ◌≡◌, ◌≢◌, List, Option, [], ap, append-nil, append_assoc, false, inl, inr, refl, subst, sym, take, true, ℕ}
 use Rattle.std.specs.Prelude.{Bool, ◌||◌, Result, Ok, Err, IfOk}
-use Rattle.std.proofs.lemmas.List.{take-append-drop}
-use Rattle.aho_cover.proofs.Copied.{begins_with}
+use Rattle.aho_cover.proofs.Copied.{begins_shorter}
+use Rattle.aho_devices.specs.Counts.{AppendsBeginning}
 use Rattle.secret_rules.specs.Visits.{BeginsVisiting, LeavesVisited, StopsWithin, VisitsEach, VisitsLines, taken_line}
 use Rattle.secret_rules.specs.declared.rule.Rule.{Rule}
 use Rattle.secret_rules.specs.declared.visitor.LineVisitor.{Ghosts as VisitorGhosts}
+use Rattle.tool_parts.proofs.Beginnings.{beginning-later, beginning-whole}
 use Rattle.acredact.specs.Looks.{verdict_of}
-use Rattle.acredact.specs.RuledChecks.{BeginsGiven, IsAtFirst, LookedText, SeesText, StopsTelling, TellsGiven, TellsLine, SaysLines, findings_behind, findings_of, found_of, is_some_line, is_some_run, labels_of, lines_findings, look_of_lines}
+use Rattle.acredact.specs.RuledChecks.{IsAtFirst, LookedText, SeesText, StopsTelling, TellsGiven, TellsLine, SaysLines, findings_behind, findings_of, found_of, is_some_line, is_some_run, labels_of, lines_findings, look_of_lines}
 use Rattle.acredact.specs.declared.findings.Findings.{Findings}
 use Rattle.acredact.proofs.OneFile.{begun_writing, ended_text}
-use Rattle.acredact.proofs.RuledText.{begins_behind}
 
 -- what was found behind some lines, and what is told of them
 abbrev pub all_behind : Findings → List (List Occurrence) → Findings
@@ -41,11 +41,7 @@ module _ {V W : Type 0} (L : VisitorGhosts V) (K : SinkGhosts W) (most : ℕ) (o
     behind : found_in visitor' ≡ all_behind (found_in visitor) runs
 
   each_told : (visitor visitor' : V) (lines : List Line) (runs : List (List Occurrence)) → VisitsEach L most visitor visitor' lines runs → TellsEach visitor visitor' runs
-  each_told visitor visitor' [] [] is = record {
-    same = ap (λ (v : V). (output_of v).ghost_name) is;
-    told = subst (λ (v : V). Appends (K.taken (output_of visitor).now) (K.taken (output_of v).now) []) (sym is) (Appends-nil (K.taken (output_of visitor).now));
-    behind = ap found_in is;
-  }
+  each_told visitor visitor' [] [] is = rw is (record { same = refl; told = Appends-nil (K.taken (output_of visitor).now); behind = refl })
   each_told visitor visitor' [] (own ∷ runs) is = absurd is
   each_told visitor visitor' (line ∷ lines) [] is = absurd is
   each_told visitor visitor' (line ∷ lines) (own ∷ runs) (next, visits, rest) =
@@ -60,29 +56,21 @@ module _ {V W : Type 0} (L : VisitorGhosts V) (K : SinkGhosts W) (most : ℕ) (o
 
   record StopsEach (visitor visitor' : V) (runs : List (List Occurrence)) : Type 0 where
     same : (output_of visitor').ghost_name ≡ (output_of visitor).ghost_name
-    part : List ℕ
-    begins : StartsWith (all_findings (found_in visitor) runs) part
-    written : Appends (K.taken (output_of visitor).now) (K.taken (output_of visitor').now) part
+    begun : AppendsBeginning (K.taken (output_of visitor).now) (K.taken (output_of visitor').now) (all_findings (found_in visitor) runs)
 
   stops_told : (visitor visitor' : V) (lines : List Line) (runs : List (List Occurrence)) (error : LineError) → StopsWithin L most visitor visitor' lines runs error → StopsEach visitor visitor' runs
   stops_told visitor visitor' lines runs error (inl is) =
       let each = each_told visitor visitor' lines runs is.0 in
-      record { same = each.same; part = all_findings (found_in visitor) runs; begins = take-length (all_findings (found_in visitor) runs); written = each.told }
+      record { same = each.same; begun = beginning-whole _ _ _ each.told }
   stops_told visitor visitor' lines runs error (inr last) =
       let each = each_told visitor last.between last.first last.more last.visits in
       let stop = stops last.between visitor' (taken_line most last.line) last.own last.cause last.stops in
       let found = found_in visitor in
       let front = all_findings found last.more in
-      let mine = findings_of (found_in last.between) last.own in
-      let all : all_findings found runs ≡ front ++ mine =
+      let all : all_findings found runs ≡ front ++ findings_of (found_in last.between) last.own =
       ap (all_findings found) last.runs_are ∙ findings_append found last.more (last.own ∷ []) ∙ ap (λ l. front ++ l) (append-nil (findings_of (all_behind found last.more) last.own))
       ∙ ap (λ (f : Findings). front ++ findings_of f last.own) (sym each.behind) in
-      record {
-        same = stop.same ∙ each.same;
-        part = front ++ take stop.begun.0 mine;
-        begins = subst (λ l. StartsWith l (front ++ take stop.begun.0 mine)) (sym all) (begins_behind front mine (take stop.begun.0 mine) (subst (λ l. StartsWith l (take stop.begun.0 mine)) (take-append-drop stop.begun.0 mine) (begins_with (take stop.begun.0 mine) (drop stop.begun.0 mine))));
-        written = Appends-trans (K.taken (output_of visitor).now) (K.taken (output_of last.between).now) (K.taken (output_of visitor').now) front (take stop.begun.0 mine) each.told stop.begun.2;
-      }
+      record { same = stop.same ∙ each.same; begun = subst (AppendsBeginning _ _) (sym all) (beginning-later _ _ _ front _ each.told stop.begun) }
 
   module _ {R : Type 0} (S : SourceGhosts R) (Searched : Patterns → Type 0) (words : Bool) (rules : List Rule) (p : Patterns) (sought : Searched p) (source source' : R) (visitor visitor' : V)
       (findings : Findings) (fresh : IsAtFirst findings) (is : found_in visitor ≡ findings) where
@@ -90,30 +78,12 @@ module _ {V W : Type 0} (L : VisitorGhosts V) (K : SinkGhosts W) (most : ℕ) (o
     from_first : (runs : List (List Occurrence)) → all_findings (found_in visitor) runs ≡ lines_findings (labels_of findings.legend) findings.name.now 1 runs
     from_first runs = ap (λ (f : Findings). all_findings f runs) is ∙ ap (λ (n : ℕ). lines_findings (labels_of findings.legend) findings.name.now n runs) fresh.0
 
-    begun_whole : VisitsLines S L Searched words rules most source source' visitor visitor'
-        → BeginsGiven S K findings source source' (output_of visitor).now (output_of visitor').now (covering_by words rules most p)
-    begun_whole whole =
-        let each = each_told visitor visitor' (stream_lines whole.given) whole.runs whole.visits in
-        let told = lines_findings (labels_of findings.legend) findings.name.now 1 whole.runs in
-        record {
-          given = whole.given;
-          ended = true;
-          gives = whole.gives;
-          part = told;
-          begins = record {
-            lines = stream_lines whole.given;
-            runs = whole.runs;
-            are = whole.runs_are p sought;
-            first = λ bytes may. ([], ap stream_lines (may.1 ∙ ap (λ l. whole.given ++ l) may.2 ∙ append-nil whole.given) ∙ sym (append-nil (stream_lines whole.given)));
-            begins = take-length told;
-          };
-          written = subst (Appends (K.taken (output_of visitor).now) (K.taken (output_of visitor').now)) (from_first whole.runs) each.told;
-        }
-
     lines_ended : VisitsLines S L Searched words rules most source source' visitor visitor'
         → SaysLines S K findings (Ok (found_in visitor').found) source source' (output_of visitor).now (output_of visitor').now (covering_by words rules most p)
     lines_ended whole =
         let each = each_told visitor visitor' (stream_lines whole.given) whole.runs whole.visits in
+        let told = lines_findings (labels_of findings.legend) findings.name.now 1 whole.runs in
+        let written = subst (Appends (K.taken (output_of visitor).now) (K.taken (output_of visitor').now)) (from_first whole.runs) each.told in
         record {
           whole = record {
             text = whole.given;
@@ -122,24 +92,39 @@ module _ {V W : Type 0} (L : VisitorGhosts V) (K : SinkGhosts W) (most : ℕ) (o
             are = whole.runs_are p sought;
             found_is = ap (λ (f : Findings). f.found) each.behind ∙ found_behind (found_in visitor) whole.runs
                 ∙ ap (λ (b : Bool). b || is_some_line whole.runs) (ap (λ (f : Findings). f.found) is ∙ fresh.1);
-            told = subst (Appends (K.taken (output_of visitor).now) (K.taken (output_of visitor').now)) (from_first whole.runs) each.told;
+            told = written;
           };
-          begun = begun_whole whole;
+          begun = record {
+            given = whole.given;
+            ended = true;
+            gives = whole.gives;
+            part = told;
+            begins = record {
+              lines = stream_lines whole.given;
+              runs = whole.runs;
+              are = whole.runs_are p sought;
+              first = λ bytes may. ([], ap stream_lines (may.1 ∙ ap (λ l. whole.given ++ l) may.2 ∙ append-nil whole.given) ∙ sym (append-nil (stream_lines whole.given)));
+              begins = take-length told;
+            };
+            written = written;
+          };
         }
 
     lines_stopped : (error : LineError) → BeginsVisiting S L Searched words rules most source source' visitor visitor' error
         → SaysLines S K findings (Err error) source source' (output_of visitor).now (output_of visitor').now (covering_by words rules most p)
     lines_stopped error begun =
         let stop = stops_told visitor visitor' begun.lines begun.runs error begun.stops in
+        let (count, within, written) = subst (AppendsBeginning (K.taken (output_of visitor).now) (K.taken (output_of visitor').now)) (from_first begun.runs) stop.begun in
+        let all = lines_findings (labels_of findings.legend) findings.name.now 1 begun.runs in
         record {
           whole = tt;
           begun = record {
             given = begun.given;
             ended = begun.ended;
             gives = begun.gives;
-            part = stop.part;
-            begins = record { lines = begun.lines; runs = begun.runs; are = begun.runs_are p sought; first = begun.first; begins = subst (λ l. StartsWith l stop.part) (from_first begun.runs) stop.begins };
-            written = stop.written;
+            part = take count all;
+            begins = record { lines = begun.lines; runs = begun.runs; are = begun.runs_are p sought; first = begun.first; begins = begins_shorter all [] all count within (take-length all) };
+            written = written;
           };
         }
 
