@@ -19,16 +19,16 @@ use Rattle.secret_forms.specs.Base64.{secret_within, trimmed, front_of, rest_of,
 use Rattle.secret_forms.specs.Forms.{form_patterns}
 use Rattle.secret_forms.specs.Json.{json_char, json_patterns, json_spellings, json_ways, numbered, numbered_by}
 use Rattle.secret_forms.specs.Lines.{ends_line, long_line}
-use Rattle.secret_forms.specs.Spelling.{ampersand, double_quote, greater_than, json_byte, json_no_letter, less_than, shell_byte, shell_spellings, single_quote, spelled, spelled_by, spelled_byte, url_byte, url_spellings, xml_byte, xml_spellings}
+use Rattle.secret_forms.specs.Spelling.{ampersand, dollar_byte, double_quote, greater_than, json_byte, json_no_letter, less_than, octal_byte, shell_byte, shell_spellings, single_quote, spelled, spelled_by, spelled_byte, url_byte, url_spellings, xml_byte, xml_spellings}
 use Rattle.secret_forms.specs.declared.bytewise.Json.{Json}
 use Rattle.secret_forms.specs.declared.bytewise.Kept.{Kept}
 use Rattle.secret_forms.specs.declared.bytewise.Space.{Space}
 use Rattle.secret_forms.specs.declared.bytewise.Digits.{Digits}
 use Rattle.secret_forms.specs.declared.bytewise.Digits.TheVariants.{Upper, Lower}
 use Rattle.secret_forms.specs.declared.bytewise.Quotes.{Quotes}
-use Rattle.secret_forms.specs.declared.bytewise.Quotes.TheVariants.{Kept as KeptQuotes, Mixed, Named, Decimal, Hexadecimal, DecimalMarks, HexadecimalMarks}
+use Rattle.secret_forms.specs.declared.bytewise.Quotes.TheVariants.{Kept as KeptQuotes, Mixed, Named, DoubleAlone, Padded, Decimal, Hexadecimal, DecimalMarks, HexadecimalMarks}
 use Rattle.secret_forms.specs.declared.bytewise.Quoting.{Quoting}
-use Rattle.secret_forms.specs.declared.bytewise.Quoting.TheVariants.{Single, SingleByDouble, Double, Backslashes}
+use Rattle.secret_forms.specs.declared.bytewise.Quoting.TheVariants.{Single, SingleByDouble, Double, Backslashes, BashBackslashes, Dollar}
 use Rattle.secret_forms.specs.declared.bytewise.Spelling.{Spelling}
 use Rattle.secret_forms.specs.declared.bytewise.Spelling.TheVariants.{Url, Json as JsonString, Xml, Shell}
 use Rattle.secret_forms.specs.declared.form.Form.{Form}
@@ -75,6 +75,8 @@ double_filled : (quotes : Quotes) → IsFilled (double_quote quotes)
 double_filled KeptQuotes = filled _ _
 double_filled Mixed = filled _ _
 double_filled Named = filled _ _
+double_filled DoubleAlone = filled _ _
+double_filled Padded = filled _ _
 double_filled Decimal = filled _ _
 double_filled Hexadecimal = filled _ _
 double_filled DecimalMarks = filled _ _
@@ -84,6 +86,8 @@ single_filled : (quotes : Quotes) → IsFilled (single_quote quotes)
 single_filled KeptQuotes = filled _ _
 single_filled Mixed = filled _ _
 single_filled Named = filled _ _
+single_filled DoubleAlone = filled _ _
+single_filled Padded = filled _ _
 single_filled Decimal = filled _ _
 single_filled Hexadecimal = filled _ _
 single_filled DecimalMarks = filled _ _
@@ -93,6 +97,8 @@ ampersand_filled : (quotes : Quotes) → IsFilled (ampersand quotes)
 ampersand_filled KeptQuotes = filled _ _
 ampersand_filled Mixed = filled _ _
 ampersand_filled Named = filled _ _
+ampersand_filled DoubleAlone = filled _ _
+ampersand_filled Padded = filled _ _
 ampersand_filled Decimal = filled _ _
 ampersand_filled Hexadecimal = filled _ _
 ampersand_filled DecimalMarks = filled _ _
@@ -102,6 +108,8 @@ less_filled : (quotes : Quotes) → IsFilled (less_than quotes)
 less_filled KeptQuotes = filled _ _
 less_filled Mixed = filled _ _
 less_filled Named = filled _ _
+less_filled DoubleAlone = filled _ _
+less_filled Padded = filled _ _
 less_filled Decimal = filled _ _
 less_filled Hexadecimal = filled _ _
 less_filled DecimalMarks = filled _ _
@@ -112,6 +120,8 @@ greater_filled : (quotes : Quotes) → IsFilled (greater_than quotes)
 greater_filled KeptQuotes = filled _ _
 greater_filled Mixed = filled _ _
 greater_filled Named = filled _ _
+greater_filled DoubleAlone = filled _ _
+greater_filled Padded = filled _ _
 greater_filled Decimal = filled _ _
 greater_filled Hexadecimal = filled _ _
 greater_filled DecimalMarks = filled _ _
@@ -122,12 +132,22 @@ xml_filled : (quotes : Quotes) (b : ℕ) → IsFilled (xml_byte quotes b)
 unfolding xml_byte
 xml_filled quotes b = search (either, ampersand_filled, less_filled, greater_filled, filled, double_filled, single_filled) depth 12
 
+octal_filled : (b : ℕ) → IsFilled (octal_byte b)
+unfolding octal_byte
+octal_filled b = search (either, filled)
+
+dollar_filled : (b : ℕ) → IsFilled (dollar_byte b)
+unfolding dollar_byte
+dollar_filled b = search (either, octal_filled, filled) depth 12
+
 shell_filled : (quoting : Quoting) (b : ℕ) → IsFilled (shell_byte quoting b)
 unfolding shell_byte
 shell_filled Single b = search (either, filled)
 shell_filled SingleByDouble b = search (either, filled)
 shell_filled Double b = search (either, filled)
 shell_filled Backslashes b = search (either, filled)
+shell_filled BashBackslashes b = search (either, filled)
+shell_filled Dollar b = dollar_filled b
 
 no_letter_filled : (json : Json) (b : ℕ) → IsFilled (json_no_letter json b)
 unfolding json_no_letter

@@ -13,9 +13,9 @@ use Rattle.secret_forms.specs.declared.bytewise.Marks.{Marks}
 use Rattle.secret_forms.specs.declared.bytewise.Marks.TheVariants.{Kept as KeptMarks, Slash as SlashMark, Markup, SlashAndMarkup}
 use Rattle.secret_forms.specs.declared.bytewise.Json.{Json}
 use Rattle.secret_forms.specs.declared.bytewise.Quotes.{Quotes}
-use Rattle.secret_forms.specs.declared.bytewise.Quotes.TheVariants.{Kept as KeptQuotes, Mixed, Named, Decimal, Hexadecimal, DecimalMarks, HexadecimalMarks}
+use Rattle.secret_forms.specs.declared.bytewise.Quotes.TheVariants.{Kept as KeptQuotes, Mixed, Named, DoubleAlone, Padded, Decimal, Hexadecimal, DecimalMarks, HexadecimalMarks}
 use Rattle.secret_forms.specs.declared.bytewise.Quoting.{Quoting}
-use Rattle.secret_forms.specs.declared.bytewise.Quoting.TheVariants.{Single, SingleByDouble, Double, Backslashes}
+use Rattle.secret_forms.specs.declared.bytewise.Quoting.TheVariants.{Single, SingleByDouble, Double, Backslashes, BashBackslashes, Dollar}
 use Rattle.secret_forms.specs.declared.bytewise.Spelling.{Spelling}
 use Rattle.secret_forms.specs.declared.bytewise.Spelling.TheVariants.{Url, Json as JsonString, Xml, Shell}
 
@@ -104,6 +104,8 @@ abbrev pub double_quote : Quotes → List ℕ
 double_quote KeptQuotes = 34 ∷ []
 double_quote Mixed = codes "&quot;"
 double_quote Named = codes "&quot;"
+double_quote DoubleAlone = codes "&quot;"
+double_quote Padded = codes "&quot;"
 double_quote Decimal = codes "&#34;"
 double_quote Hexadecimal = codes "&quot;"
 double_quote DecimalMarks = codes "&#34;"
@@ -114,6 +116,8 @@ abbrev pub single_quote : Quotes → List ℕ
 single_quote KeptQuotes = 39 ∷ []
 single_quote Mixed = codes "&#39;"
 single_quote Named = codes "&apos;"
+single_quote DoubleAlone = 39 ∷ []
+single_quote Padded = codes "&#039;"
 single_quote Decimal = codes "&#39;"
 single_quote Hexadecimal = codes "&#x27;"
 single_quote DecimalMarks = codes "&#39;"
@@ -124,6 +128,8 @@ abbrev pub ampersand : Quotes → List ℕ
 ampersand KeptQuotes = codes "&amp;"
 ampersand Mixed = codes "&amp;"
 ampersand Named = codes "&amp;"
+ampersand DoubleAlone = codes "&amp;"
+ampersand Padded = codes "&amp;"
 ampersand Decimal = codes "&amp;"
 ampersand Hexadecimal = codes "&amp;"
 ampersand DecimalMarks = codes "&#38;"
@@ -134,6 +140,8 @@ abbrev pub less_than : Quotes → List ℕ
 less_than KeptQuotes = codes "&lt;"
 less_than Mixed = codes "&lt;"
 less_than Named = codes "&lt;"
+less_than DoubleAlone = codes "&lt;"
+less_than Padded = codes "&lt;"
 less_than Decimal = codes "&lt;"
 less_than Hexadecimal = codes "&lt;"
 less_than DecimalMarks = codes "&#60;"
@@ -145,6 +153,8 @@ abbrev pub greater_than : Quotes → List ℕ
 greater_than KeptQuotes = codes "&gt;"
 greater_than Mixed = codes "&gt;"
 greater_than Named = codes "&gt;"
+greater_than DoubleAlone = codes "&gt;"
+greater_than Padded = codes "&gt;"
 greater_than Decimal = codes "&gt;"
 greater_than Hexadecimal = codes "&gt;"
 greater_than DecimalMarks = codes "&#62;"
@@ -161,6 +171,28 @@ xml_byte quotes byte =
 abbrev pub is_plain : ℕ → Bool
 is_plain byte = nat_lt 127 byte || is_ascii_alphanumeric byte || list_any (λ one. one == byte) (codes "@%+=:,./-_")
 
+-- whether bash puts a backslash before a byte
+abbrev pub is_bash_mark : ℕ → Bool
+is_bash_mark byte = list_any (λ one. one == byte) (codes " !\"$&'()*,;<>?[\\]^`{|}")
+
+-- whether a byte is a control character of ASCII
+abbrev pub is_control : ℕ → Bool
+is_control byte = nat_lt byte 32 || byte == 127
+
+-- a byte within `$'` and `'` for which there is no letter: a control character by three octal digits
+unfoldable pub octal_byte : ℕ → List ℕ
+octal_byte byte =
+    if is_control byte then 92 ∷ (48 + byte / 64) ∷ (48 + byte / 8 % 8) ∷ (48 + byte % 8) ∷ []
+    else byte ∷ []
+
+-- a byte within `$'` and `'`: `\'`, `\\`, `\a`, `\b`, `\t`, `\n`, `\v`, `\f`, `\r` and `\E`, by its number, or as it is
+unfoldable pub dollar_byte : ℕ → List ℕ
+dollar_byte byte =
+    if byte == 39 then 92 ∷ 39 ∷ [] else if byte == 92 then 92 ∷ 92 ∷ [] else if byte == 7 then 92 ∷ 97 ∷ []
+    else if byte == 8 then 92 ∷ 98 ∷ [] else if byte == 9 then 92 ∷ 116 ∷ [] else if byte == 10 then 92 ∷ 110 ∷ []
+    else if byte == 11 then 92 ∷ 118 ∷ [] else if byte == 12 then 92 ∷ 102 ∷ [] else if byte == 13 then 92 ∷ 114 ∷ []
+    else if byte == 27 then 92 ∷ 69 ∷ [] else octal_byte byte
+
 -- a byte within single quotes, of which one is written so
 abbrev pub single_byte : List ℕ → ℕ → List ℕ
 single_byte quote byte = if byte == 39 then quote else byte ∷ []
@@ -171,6 +203,8 @@ shell_byte Single byte = single_byte (39 ∷ 92 ∷ 39 ∷ 39 ∷ []) byte
 shell_byte SingleByDouble byte = single_byte (39 ∷ 34 ∷ 39 ∷ 34 ∷ 39 ∷ []) byte
 shell_byte Double byte = escaped_unless (not (list_any (λ one. one == byte) (36 ∷ 96 ∷ 34 ∷ 92 ∷ []))) byte
 shell_byte Backslashes byte = escaped_unless (is_plain byte) byte
+shell_byte BashBackslashes byte = escaped_unless (not (is_bash_mark byte)) byte
+shell_byte Dollar byte = dollar_byte byte
 
 -- a byte as an encoder writes it
 abbrev pub spelled_byte : Spelling → ℕ → List ℕ
@@ -199,12 +233,13 @@ url_spellings =
 -- the encoders of XML and HTML
 abbrev pub xml_spellings : List Spelling
 xml_spellings =
-    Xml KeptQuotes ∷ Xml Mixed ∷ Xml Named ∷ Xml Decimal ∷ Xml Hexadecimal
+    Xml KeptQuotes ∷ Xml Mixed ∷ Xml Named ∷ Xml DoubleAlone ∷ Xml Padded ∷ Xml Decimal ∷ Xml Hexadecimal
     ∷ Xml DecimalMarks ∷ Xml (HexadecimalMarks Upper) ∷ Xml (HexadecimalMarks Lower) ∷ []
 
 -- the ways to quote a shell's word
 abbrev pub shell_spellings : List Spelling
-shell_spellings = Shell Single ∷ Shell SingleByDouble ∷ Shell Double ∷ Shell Backslashes ∷ []
+shell_spellings =
+    Shell Single ∷ Shell SingleByDouble ∷ Shell Double ∷ Shell Backslashes ∷ Shell BashBackslashes ∷ Shell Dollar ∷ []
 
 -- no character that belongs to the secret is outside the patterns
 abbrev pub HidesSpelled : List (List ℕ) → List ℕ → Spelling → Type 0

@@ -49,6 +49,10 @@ pub enum Quotes {
     Mixed,
     /// `&quot;` and `&apos;`.
     Named,
+    /// `&quot;`, and a single quote as it is.
+    DoubleAlone,
+    /// `&quot;` and `&#039;`.
+    Padded,
     /// `&#34;` and `&#39;`.
     Decimal,
     /// `&quot;` and `&#x27;`.
@@ -70,6 +74,10 @@ pub enum Quoting {
     Double,
     /// By backslashes alone.
     Backslashes,
+    /// By the backslashes that bash writes, which leaves `#` and `~` and other bytes that other shells escape.
+    BashBackslashes,
+    /// Within `$'` and `'`, with letters or octal digits for control characters.
+    Dollar,
 }
 
 /// What JSON escapes beside quotes, backslashes and control characters.
@@ -250,7 +258,11 @@ fn double_quote(quotes: Quotes) -> &'static [u8]
 {
     match quotes {
         Quotes::Kept => b"\"",
-        Quotes::Mixed | Quotes::Named | Quotes::Hexadecimal => b"&quot;",
+        Quotes::Mixed
+        | Quotes::Named
+        | Quotes::DoubleAlone
+        | Quotes::Padded
+        | Quotes::Hexadecimal => b"&quot;",
         Quotes::Decimal | Quotes::DecimalMarks => b"&#34;",
         Quotes::HexadecimalMarks(_) => b"&#x22;",
     }
@@ -261,7 +273,8 @@ fn single_quote(quotes: Quotes) -> &'static [u8]
     ensures { result.now ≡ spec.single_quote quotes }
 {
     match quotes {
-        Quotes::Kept => b"'",
+        Quotes::Kept | Quotes::DoubleAlone => b"'",
+        Quotes::Padded => b"&#039;",
         Quotes::Mixed | Quotes::Decimal | Quotes::DecimalMarks => b"&#39;",
         Quotes::Named => b"&apos;",
         Quotes::Hexadecimal | Quotes::HexadecimalMarks(_) => b"&#x27;",
@@ -334,6 +347,54 @@ fn push_escaped(out: &mut Vec<u8>, is_kept: bool, byte: u8) -> Result<(), AllocE
     out.extend_from_slice(&[b'\\', byte])
 }
 
+/// Whether bash puts a backslash before a byte, by which it quotes a word.
+fn is_bash_mark(byte: u8) -> bool
+    ensures { result ≡ spec.is_bash_mark byte }
+{
+    b" !\"$&'()*,;<>?[\\]^`{|}".contains(&byte)
+}
+
+/// Whether a byte is a control character of ASCII.
+fn is_control(byte: u8) -> bool
+    ensures { result ≡ spec.is_control byte }
+{
+    byte < 32 || byte == 127
+}
+
+/// Writes a byte within `$'` and `'` for which there is no letter: a control character by its octal number.
+fn push_octal(out: &mut Vec<u8>, byte: u8) -> Result<(), AllocError>
+    ensures octal { Writes result out.old out.new (spec.octal_byte byte) }
+{
+    if is_control(byte) {
+        return out.extend_from_slice(&[
+            b'\\',
+            b'0' + byte / 64,
+            b'0' + byte / 8 % 8,
+            b'0' + byte % 8,
+        ]);
+    }
+    out.extend_from_slice(&[byte])
+}
+
+/// Writes a byte within `$'` and `'`.
+fn push_dollar(out: &mut Vec<u8>, byte: u8) -> Result<(), AllocError>
+    ensures dollar { Writes result out.old out.new (spec.dollar_byte byte) }
+{
+    match byte {
+        b'\'' => out.extend_from_slice(b"\\'"),
+        b'\\' => out.extend_from_slice(b"\\\\"),
+        7 => out.extend_from_slice(b"\\a"),
+        8 => out.extend_from_slice(b"\\b"),
+        9 => out.extend_from_slice(b"\\t"),
+        10 => out.extend_from_slice(b"\\n"),
+        11 => out.extend_from_slice(b"\\v"),
+        12 => out.extend_from_slice(b"\\f"),
+        13 => out.extend_from_slice(b"\\r"),
+        27 => out.extend_from_slice(b"\\E"),
+        _ => push_octal(out, byte),
+    }
+}
+
 /// Writes a byte within single quotes.
 fn push_single(out: &mut Vec<u8>, quote: &[u8], byte: u8) -> Result<(), AllocError>
     ensures single { Writes result out.old out.new (spec.single_byte quote.now byte) }
@@ -353,6 +414,8 @@ fn push_shell(out: &mut Vec<u8>, quoting: Quoting, byte: u8) -> Result<(), Alloc
         Quoting::SingleByDouble => push_single(out, b"'\"'\"'", byte),
         Quoting::Double => push_escaped(out, !b"$`\"\\".contains(&byte), byte),
         Quoting::Backslashes => push_escaped(out, is_plain(byte), byte),
+        Quoting::BashBackslashes => push_escaped(out, !is_bash_mark(byte), byte),
+        Quoting::Dollar => push_dollar(out, byte),
     }
 }
 

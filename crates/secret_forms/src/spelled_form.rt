@@ -73,13 +73,15 @@ pub fn url_forms(alloc: Global, secret: &[u8]) -> Result<Vec<Vec<u8>>, FormError
 }
 
 /// The encoders of XML and HTML: with quotes as they are, and as named, decimal and hexadecimal references; and with each reference by its number.
-pub(crate) fn xml_encoders() -> [Spelling; 8]
+pub(crate) fn xml_encoders() -> [Spelling; 10]
     ensures { result ≡ xml_spellings }
 {
     [
         Spelling::Xml(Quotes::Kept),
         Spelling::Xml(Quotes::Mixed),
         Spelling::Xml(Quotes::Named),
+        Spelling::Xml(Quotes::DoubleAlone),
+        Spelling::Xml(Quotes::Padded),
         Spelling::Xml(Quotes::Decimal),
         Spelling::Xml(Quotes::Hexadecimal),
         Spelling::Xml(Quotes::DecimalMarks),
@@ -99,7 +101,7 @@ pub fn xml_forms(alloc: Global, secret: &[u8]) -> Result<Vec<Vec<u8>>, FormError
 }
 
 /// The ways to quote a shell's word.
-pub(crate) fn shell_encoders() -> [Spelling; 4]
+pub(crate) fn shell_encoders() -> [Spelling; 6]
     ensures { result ≡ shell_spellings }
 {
     [
@@ -107,6 +109,8 @@ pub(crate) fn shell_encoders() -> [Spelling; 4]
         Spelling::Shell(Quoting::SingleByDouble),
         Spelling::Shell(Quoting::Double),
         Spelling::Shell(Quoting::Backslashes),
+        Spelling::Shell(Quoting::BashBackslashes),
+        Spelling::Shell(Quoting::Dollar),
     ]
 }
 

@@ -18,3 +18,11 @@ returns-in-Double c = search rules
 pub returns-in-Backslashes : goal.returns-in-Backslashes
 unfolding shell_byte
 returns-in-Backslashes c = search rules
+
+pub returns-in-BashBackslashes : goal.returns-in-BashBackslashes
+unfolding shell_byte
+returns-in-BashBackslashes c = search rules
+
+pub returns-in-Dollar : goal.returns-in-Dollar
+unfolding shell_byte
+returns-in-Dollar c = search rules
