@@ -7,9 +7,9 @@ ghost use Rattle.aho_devices.specs.Counts.{AppendsBeginning};
 ghost use Rattle.tool_parts.specs.Names.{name_bytes};
 ghost use Rattle.chromesquid.specs.Searcher.{IsBuiltFromSome};
 ghost use Rattle.acgrep.specs.Arguments.{said};
-ghost use Rattle.acgrep.specs.Counted.{BeginsCountOf, BeginsSearchOrCount, CountsOperands, SearchesOrCounts};
+ghost use Rattle.acgrep.specs.Counted.{BeginsSearchOrCount, SearchesOrCounts};
 ghost use Rattle.acgrep.specs.Folders.{tree_of};
-ghost use Rattle.acgrep.specs.Tallies.{PutsBytes, counts_table, zeros_of};
+ghost use Rattle.acgrep.specs.Tallies.{counts_table};
 ghost use Rattle.acgrep.specs.Told.{TellsCause, TellsOfReached};
 
 use crate::arguments::Given;
@@ -22,7 +22,7 @@ use crate::open::Open;
 use crate::tally::{put_rows, tally, zeros};
 use crate::unread::tell_total;
 use chromesquid::{AhoCorasick, FromWrite, Sink, write_whole};
-use std::alloc::{AllocError, Global};
+use std::alloc::Global;
 use std::io::Read;
 use tool_parts::errors::Errors;
 
@@ -48,36 +48,9 @@ pub fn search_or_count<F: Open + Folders, R: Read, W: Sink, E: Sink>(
     ensures told { TellsOfReached E.Sink (tree_of F.Folders operands.now.files.now) (said given.now)
         (name_bytes operands.now.names.now) result errors.old errors.new }
 {
-    if given.flags.asks_counts() {
-        return count_operands(
-            searcher, given, screen, patterns, operands, input, output, errors,
-        );
+    if !given.flags.asks_counts() {
+        return search_operands(searcher, given, screen, operands, input, output, errors);
     }
-    search_operands(searcher, given, screen, operands, input, output, errors)
-}
-
-/// Counts the matches of each pattern in the files that these operands name, and writes the counts.
-fn count_operands<F: Open + Folders, R: Read, W: Sink, E: Sink>(
-    searcher: &AhoCorasick,
-    given: &Given<'_>,
-    screen: &Screen<'_>,
-    patterns: &[&[u8]],
-    operands: &Files<'_, F>,
-    input: &mut R,
-    output: &mut W,
-    errors: &mut Errors<'_, E>,
-) -> u8
-    requires of { IsBuiltFromSome searcher.now }
-    ensures bound { result ≤ 2 }
-    ensures searched { CountsOperands F.Open F.Folders R.Read W.Sink operands.now.files.now
-        operands.now.names.now searcher.now screen.now (said given.now) patterns.now
-        input.old input.new output.old output.new result }
-    ensures begun { BeginsCountOf F.Open F.Folders R.Read W.Sink operands.now.files.now
-        operands.now.names.now searcher.now screen.now (said given.now) patterns.now
-        input.old output.old output.new }
-    ensures told { TellsOfReached E.Sink (tree_of F.Folders operands.now.files.now) (said given.now)
-        (name_bytes operands.now.names.now) result errors.old errors.new }
-{
     let mut found = FromWrite::new(Vec::new(operands.alloc));
     let status = search_operands(searcher, given, screen, operands, input, &mut found, errors);
     let numbers = found.into_inner();
@@ -137,38 +110,10 @@ fn write_counts<W: Sink>(
     ensures begun { OnErr result (AppendsBeginning (W.taken output.old) (W.taken output.new)
         (counts_table ending (pieces_of patterns.now) numbers.now)) }
 {
-    let mut text = Vec::new(alloc);
-    put_counts(alloc, patterns, numbers, ending, &mut text)?;
-    Ok(write_whole(output, text.as_slice())?)
-}
-
-/// Puts together how often each pattern was found.
-fn put_counts(
-    alloc: Global,
-    patterns: &[&[u8]],
-    numbers: &[u8],
-    ending: u8,
-    text: &mut Vec<u8>,
-) -> Result<(), AllocError>
-    ensures put { OnOk result
-        (PutsBytes text.old text.new (counts_table ending (pieces_of patterns.now) numbers.now)) }
-{
     let mut counts = zeros(alloc, patterns)?;
-    put_tallied(patterns, numbers, ending, counts.as_mut_slice(), text)
-}
-
-/// Counts these numbers of patterns, and puts a row for each pattern.
-fn put_tallied(
-    patterns: &[&[u8]],
-    numbers: &[u8],
-    ending: u8,
-    counts: &mut [u64],
-    text: &mut Vec<u8>,
-) -> Result<(), AllocError>
-    requires none { counts.old ≡ zeros_of (pieces_of patterns.now) }
-    ensures put { OnOk result
-        (PutsBytes text.old text.new (counts_table ending (pieces_of patterns.now) numbers.now)) }
-{
-    tally(numbers, ending, counts);
-    put_rows(text, patterns, counts)
+    let tallied = counts.as_mut_slice();
+    tally(numbers, ending, tallied);
+    let mut text = Vec::new(alloc);
+    put_rows(&mut text, patterns, tallied)?;
+    Ok(write_whole(output, text.as_slice())?)
 }
