@@ -4,12 +4,6 @@ use Rattle.std.proofs.Common.{◌++◌, ◌+◌, ◌<◌, ◌∙◌, ◌∷◌, 
 use Rattle.aho_laws.specs.CutLaws.{span_search}
 use Rattle.acgrep.specs.Alone.{AreAloneFrom, IsAloneAt, IsAloneFrom, IsLongestThere, IsNextAlone, IsShorter, begins_alone, behind_alone, ends_alone}
 
--- what a search of a range of a line finds lies in it
-pub record LiesIn (start end : ℕ) (m : Occurrence) : Type 0 where
-  pub behind : start ≤ m.start
-  pub ordered : m.start ≤ m.end
-  pub within : m.end ≤ end
-
 -- what begins at a place is before what begins behind it; of two that begin together the longer is before the shorter
 same_or_shorter : (m other : Occurrence) → other.start ≡ m.start → (other ≡ m) ⊎ IsBefore LeftmostLongest m other → (other.end ≡ m.end) ⊎ (other.end < m.end)
 same_or_shorter m other begins is = grind (arith, common_steps)

@@ -2,7 +2,7 @@
 use Rattle.acgrep.proofs.Common.{IsBuiltFrom, LeftmostLongest, Patterns}
 use Rattle.std.proofs.Common.{◌+◌, ◌-◌, ◌≡◌, ◌≤◌, length}
 use Rattle.acgrep.proofs.AloneTried.{BeginsBehind}
-use Rattle.acgrep.proofs.alone.longest_alone.Given as goal
+use Rattle.acgrep.proofs.alone.next_alone.Given as goal
 
 abbrev pub invariant-loop-longest : goal.invariant-loop-longest
 invariant-loop-longest l = record {

@@ -1,11 +1,11 @@
 -- Nothing that stands alone is passed: what the search finds first is tried, and then what begins behind it.
 use Rattle.acgrep.proofs.Common.{IsAnswer, IsBestOrNone, LeftmostLongest, Occurrence}
-use Rattle.std.proofs.Common.{◌≤◌, None, Option, Some, arith, length, subst}
+use Rattle.std.proofs.Common.{◌∙◌, ◌≤◌, None, Option, Some, arith, length, subst, sym}
 use Rattle.std.specs.Prelude.{IfSome}
 use Rattle.aho_laws.specs.CutLaws.{span_search}
 use Rattle.acgrep.specs.Alone.{IsAloneAt}
 use Rattle.acgrep.proofs.AloneTried.{alone_found, alone_later, alone_none, begins_at, longest_there}
-use Rattle.acgrep.proofs.alone.longest_alone.Goals as goal
+use Rattle.acgrep.proofs.alone.next_alone.Goals as goal
 
 pub loop-longest-init : goal.loop-longest-init
 loop-longest-init c = record {
@@ -15,7 +15,8 @@ loop-longest-init c = record {
 }
 
 pub returns-in-Some-2-clause-next : goal.returns-in-Some-2-clause-next
-returns-in-Some-2-clause-next c = λ p is kind.
+returns-in-Some-2-clause-next c = λ p is.
+    let kind = sym (c.match_kind.ensures.patterns p is) ∙ c.in-LeftmostLongest.is in
     let line = c.args.line.now in
     let from = c.loop-longest.from in
     let longest = c.in-Some.longest in
@@ -50,7 +51,8 @@ loop-longest-preserved c =
     }
 
 pub returns-clause-next : goal.returns-clause-next
-returns-clause-next c = λ p is kind.
+returns-clause-next c = λ p is.
+    let kind = sym (c.match_kind.ensures.patterns p is) ∙ c.in-LeftmostLongest.is in
     let line = c.args.line.now in
     let from = c.loop-longest.from in
     alone_none p line kind c.args.at from (c.loop-longest.invariant.passed p is kind)
