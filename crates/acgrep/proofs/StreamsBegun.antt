@@ -1,5 +1,5 @@
 -- A search of a stream that is broken off, put together from its reads.
-use Rattle.acgrep.proofs.Common.{Consumes, Context, IsAtEnd, Job, Keeps, Patterns, State}
+use Rattle.acgrep.proofs.Common.{Appends-trans, Consumes, Context, IsAtEnd, Job, Keeps, Patterns, State}
 use Rattle.std.proofs.Common.{◌++◌, ◌-◌, ◌<◌, ◌∙◌, ◌≡◌, ◌≤◌, Bool, List, None, Option, Some, [], ap, append-nil, append_assoc, drop, false, inl, inr, length, refl, subst, sym, take, take-append-drop, true, ℕ}
 use Rattle.std.specs.Prelude.{IfSome}
 use Rattle.acgrep.specs.Begun.{BeginsOf}
@@ -10,7 +10,7 @@ use Rattle.acgrep.specs.Lines.{EndsLine, IsEnding, lines}
 use Rattle.acgrep.specs.Streamed.{BeginsBehind, BeginsWhole, ReadsSome, SearchesBehind, TextIf, course}
 use Rattle.acgrep.specs.Written.{IsSettled}
 use Rattle.acgrep.proofs.Beginnings.{begins_join}
-use Rattle.acgrep.proofs.Begun.{begins_all, begins_kept, begins_more, begins_nothing}
+use Rattle.acgrep.proofs.Begun.{begins_all, begins_more, begins_nothing, begins_on}
 use Rattle.acgrep.proofs.BinaryLines.{text_behind, text_front}
 use Rattle.acgrep.proofs.LineLists.{lines_append}
 use Rattle.acgrep.proofs.Streams.{front_whole, keeps_nil}
@@ -95,7 +95,7 @@ module _ (p : Patterns) (job : Job) where
     behind_kept a b x y z left kept keeps begins = record {
       text = begins.text;
       of = begins.of;
-      begins = begins_kept (TellsFrom p job (around_of job) a b.selected) (lines_by alone job.style.ending begins.text) x y z (keeps_nil x y keeps) begins.begins;
+      begins = begins_on _ _ y z x z begins.begins (Appends-trans x y z [] begins.begins.begun (keeps_nil x y keeps) begins.begins.written);
     }
 
     -- bytes were read

@@ -64,9 +64,6 @@ module _ (p : Patterns) (job : Job) (context : Context) where
     ends = other.ends;
   }
 
-  pub text_none : (a : State) (x y : Option (List ℕ)) → Appends x y [] → WalksText p job context a a x y []
-  text_none a x y written = record { left = []; searched = []; cut = refl; tells = lines_none (walk_of a) x y written; ends = inl refl }
-
   pub text_behind_kept : (a b : State) (x y z : Option (List ℕ)) (text : List ℕ) → Appends x y [] → WalksText p job context a b y z text → WalksText p job context a b x z text
   text_behind_kept a b x y z text keeps one = record {
     left = one.left;

@@ -6,8 +6,6 @@ use Rattle.acgrep.specs.Lines.{lines}
 use Rattle.acgrep.specs.Streamed.{Course, ReadsSome, SearchesBehind, TextIf}
 use Rattle.acgrep.specs.Written.{IsAny}
 use Rattle.acgrep.specs.declared.job.Job.{Job}
-use Rattle.acgrep.specs.declared.stream.Came.{Came}
-use Rattle.acgrep.specs.declared.stream.Came.TheVariants.{Binary, End}
 
 -- the first of some lines holds a zero byte
 abbrev pub IsFirstBinary : List (List ℕ) → Type 0
@@ -22,22 +20,6 @@ BeginsBinary ending bytes = (ending == 0) ≡ false → (more : List ℕ) → Is
 abbrev pub IsZeroLine : (ending : ℕ) → List ℕ → Option ℕ → Type 0
 IsZeroLine ending bytes None = is_text bytes ≡ true
 IsZeroLine ending bytes (Some start) = (is_text (take start bytes) ≡ true) × BeginsBinary ending (drop start bytes)
-
--- nothing came
-abbrev pub is_end : Came → Bool
-is_end End = true
-is_end _ = false
-
--- what is kept of bytes behind those that are searched
-abbrev pub IsKept : (alone : Bool) → Came → (ending : ℕ) → List ℕ → Type 0
-IsKept alone Binary ending kept = (alone ≡ true) × BeginsBinary ending kept
-IsKept alone _ ending kept = TextIf alone kept
-
--- bytes come behind those that are kept, and the whole lines of both are searched, or those up to the first that holds a zero byte alone
-pub record ReadsFront (p : Patterns) (job : Job) (alone : Bool) (c : Course) (kept_before kept_after : List ℕ) (came : Came) : Type 0 where
-  pub some : ReadsSome p job c kept_before kept_after (is_end came)
-  pub text : TextIf alone kept_before → TextIf alone some.searched
-  pub left : TextIf alone kept_before → IsKept alone came job.style.ending kept_after
 
 -- whole lines of the bytes that were there and of what was read are searched, and these bytes are kept
 pub record SearchesFront (p : Patterns) (job : Job) (alone : Bool) (c : Course) (first kept : List ℕ) : Type 0 where
