@@ -1,5 +1,5 @@
 -- What is told where lines from the first on that holds a zero byte are kept from the output.
-use Rattle.acgrep.proofs.Common.{Appends, Appends-trans, AppendsBeginning, Consumes, Consumes-trans, Context, Job, Keeps-refl, Nothing, Patterns, Shown, State, and_parts, common_steps, lt-ltb, or-false, or_right, true≢false}
+use Rattle.acgrep.proofs.Common.{Appends, Appends-nil, Appends-trans, AppendsBeginning, Consumes, Consumes-trans, Context, Job, Nothing, Patterns, Shown, State, and_parts, common_steps, lt-ltb, or-false, or_right, true≢false}
 use Rattle.std.proofs.Common.{◌++◌, ◌<◌, ◌==◌, ◌∙◌, ◌∷◌, ◌≡◌, ◌⊎◌, Bool, List, None, Option, Some, [], ap, append-nil, append_assoc, arith, drop, false, inl, inr, refl, subst, sym, take, take-append-drop, true, ℕ}
 use Rattle.std.proofs.lemmas.Bool.{not-true}
 use Rattle.std.specs.Prelude.{◌&&◌, ◌||◌, IfSome, MatchBool, if◌then◌else◌, nat_lt, not}
@@ -16,11 +16,7 @@ use Rattle.acgrep.proofs.BinaryLines.{binary_behind, first_binary, first_some, f
 use Rattle.acgrep.proofs.FileTellings.{TextTold, shows_nothing, some_front, sought_all, tells_any, tells_none, text_behind as text_read, text_told}
 use Rattle.acgrep.proofs.FilesBegun.{shows_lines}
 use Rattle.acgrep.proofs.LineLists.{lines_append}
-use Rattle.acgrep.proofs.Streams.{keeps_nil}
 use Rattle.acgrep.proofs.Tellings.{settled_some, tells_full}
-
-pub appends_none : (x : Option (List ℕ)) → Appends x x []
-appends_none x = keeps_nil x x (Keeps-refl x)
 
 pub some_behind : (P : List ℕ → Type 0) (ls ms : List (List ℕ)) → SomeLine P ms → SomeLine P (ls ++ ms)
 some_behind P [] ms some = some
@@ -96,7 +92,7 @@ module _ (p : Patterns) (job : Job) where
   nothing_in (Some context) is before count held held' ls one begins = absurd (cc)
 
   -- and where it is broken off nothing is written either
-  begins_nothing : (before state : State) (left held held' : Option (List ℕ)) (kept : List ℕ) → job.shown ≡ Nothing → BeginsBehind p job false before state held held' left kept → Appends held held' []
+  pub begins_nothing : (before state : State) (left held held' : Option (List ℕ)) (kept : List ℕ) → job.shown ≡ Nothing → BeginsBehind p job false before state held held' left kept → Appends held held' []
   begins_nothing before state left held held' kept shown behind =
       nothing_in (around_of job) (rw shown refl) before state.selected held held' (lines job.style.ending behind.text) (ap needs_one shown) behind.begins
 
@@ -203,7 +199,7 @@ module _ (p : Patterns) (job : Job) where
                 file = file_told left held meanwhile meanwhile text (lines job.style.ending searched) [] state.selected false (nat_lt 0 state.selected) known
                     (ap text_lines same ∙ text_behind job.style.ending searched [] (past.text refl) ∙ append-nil (lines job.style.ending searched))
                     (ap binary_lines same ∙ binary_behind job.style.ending searched [] (past.text refl))
-                    (told_all several before state held meanwhile searched begin behind.searches) (match_none (is_full job.most state.selected)) (appends_none meanwhile) (sym (or-false (nat_lt 0 state.selected)));
+                    (told_all several before state held meanwhile searched begin behind.searches) (match_none (is_full job.most state.selected)) (Appends-nil meanwhile) (sym (or-false (nat_lt 0 state.selected)));
                 reads = record { bytes = behind.came; read = behind.consumed; ended = inl end };
               }
           | inr (whole, settled) ↦
@@ -218,7 +214,7 @@ module _ (p : Patterns) (job : Job) where
                     (ap text_lines same ∙ text_behind job.style.ending searched others (past.text refl))
                     (ap binary_lines same ∙ binary_behind job.style.ending searched others (past.text refl))
                     (told_full before state held meanwhile searched (text_lines others) begin behind.searches full)
-                    (rw full.0 refl) (appends_none meanwhile) (sym (or-false (nat_lt 0 state.selected)));
+                    (rw full.0 refl) (Appends-nil meanwhile) (sym (or-false (nat_lt 0 state.selected)));
                 reads = record {
                   bytes = behind.came;
                   read = behind.consumed;
@@ -258,7 +254,7 @@ module _ (p : Patterns) (job : Job) where
           record {
             file = file_told left held meanwhile meanwhile (came ++ more) (lines job.style.ending front.some.searched) (lines job.style.ending (kept ++ more)) state.selected false (nat_lt 0 state.selected) known
                 (front_first more) (front_others more) front_told
-                (subst (λ (b : Bool). MatchBool b (false ≡ false) (IsAny p job.fit job.invert (lines job.style.ending (kept ++ more)) false)) (sym full) refl) (appends_none meanwhile) (sym (or-false (nat_lt 0 state.selected)));
+                (subst (λ (b : Bool). MatchBool b (false ≡ false) (IsAny p job.fit job.invert (lines job.style.ending (kept ++ more)) false)) (sym full) refl) (Appends-nil meanwhile) (sym (or-false (nat_lt 0 state.selected)));
             reads = record {
               bytes = came;
               read = front.some.consumed;
@@ -345,7 +341,7 @@ module _ (p : Patterns) (job : Job) where
             }
 
 -- where zero bytes are as any other all lines are searched
-pub past_all : (p : Patterns) (job : Job) (c : Course) (first kept : List ℕ) (binary : Bool) → EndsFront p job false c first kept binary → SearchesBehind p job c first
+past_all : (p : Patterns) (job : Job) (c : Course) (first kept : List ℕ) (binary : Bool) → EndsFront p job false c first kept binary → SearchesBehind p job c first
 past_all p job c first kept true (asked, front, binary) = absurd (cc)
 past_all p job c first kept false past = past.all
 
@@ -360,11 +356,7 @@ finds_seeking p job kept left left' held held' any finds = record {
   unwritten = finds.unwritten;
 }
 
-pub finds_sought : (p : Patterns) (job sought : Job) → sought ≡ seeking job → (before state : State) (left left' held held' : Option (List ℕ)) (kept : List ℕ) → IsBegin sought before
-    → SearchesBehind p sought (course before state held held' left left') kept → FindsSelected p job kept left left' held held' (nat_lt 0 state.selected)
-finds_sought p job sought same before state left left' held held' kept begin behind = finds_seeking p job kept left left' held held' (nat_lt 0 state.selected)
-    (rw same at (finds_of p sought before state left left' held held' kept (ap (λ (j : Job). j.shown) same) begin behind))
-
-pub begins_sought : (p : Patterns) (job sought : Job) → sought ≡ seeking job → (before state : State) (left held held' : Option (List ℕ)) (kept : List ℕ)
-    → BeginsBehind p sought false before state held held' left kept → Appends held held' []
-begins_sought p job sought same before state left held held' kept behind = begins_nothing p sought before state left held held' kept (ap (λ (j : Job). j.shown) same) behind
+pub finds_sought : (p : Patterns) (job sought : Job) → sought ≡ seeking job → (before state : State) (left left' held held' : Option (List ℕ)) (first kept : List ℕ) (binary : Bool) → IsBegin sought before
+    → EndsFront p sought false (course before state held held' left left') first kept binary → FindsSelected p job first left left' held held' (nat_lt 0 state.selected)
+finds_sought p job sought same before state left left' held held' first kept binary begin ends = finds_seeking p job first left left' held held' (nat_lt 0 state.selected)
+    (rw same at (finds_of p sought before state left left' held held' first (ap (λ (j : Job). j.shown) same) begin (past_all p sought (course before state held held' left left') first kept binary ends)))

@@ -3,14 +3,11 @@ use Rattle.acgrep.specs.Common.{Appends, Bor, Patterns, Readers, SinkGhosts, Wri
 use Rattle.std.specs.Prelude.{◌∷◌, Bool, IfOk, List, OnErr, OnOk, Option, Result, [], ℕ}
 use Rattle.acgrep.specs.Contexts.{BeginsLines, BeginsSearched, IsChosenBy, SearchesText, ShowsEach, WalksBegun, WalksLines, WalksText, walk_of}
 use Rattle.acgrep.specs.Files.{BeginsFile, SearchesReader}
-use Rattle.acgrep.specs.Filled.{bytes_buffered}
-use Rattle.acgrep.specs.Guarded.{FindsSelected}
 use Rattle.acgrep.specs.InTurn.{IfBroken, IfSearched}
 use Rattle.acgrep.specs.Searchers.{ForQuery, Seeks}
 use Rattle.acgrep.specs.Selected.{lines_by}
 use Rattle.acgrep.specs.Streamed.{BeginsBehind}
 use Rattle.acgrep.specs.Written.{EachLine, HasNone, SearchesPlain, SearchesTo, TellsLines, WritesLine, WritesNext}
-use Rattle.acgrep.specs.declared.buffer.Buffer.{Buffer}
 use Rattle.acgrep.specs.declared.files.Outcome.{Outcome}
 use Rattle.acgrep.specs.declared.options.Context.{Context}
 use Rattle.acgrep.specs.declared.print.Place.{Place}
@@ -117,11 +114,6 @@ module _ {R W : Type 0} (readers : Readers R) (sinks : SinkGhosts W) (query : Qu
   abbrev pub BeginsReadBy : {T E : Type 0} → (alone : Bool) → State → State → R → W → W → List ℕ → Result T E → Type 0
   BeginsReadBy alone before after reader old new kept result = ForQuery query
       (λ p. OnErr result (BeginsBehind p query.job alone before after (sinks.taken old) (sinks.taken new) (readers.remaining reader) kept))
-
-  -- whether a line is selected of those that are there or come
-  abbrev pub FindsBy : {E : Type 0} → Buffer → R → R → W → W → Result Bool E → Type 0
-  FindsBy buffer reader reader' old new result = ForQuery query
-      (λ p. IfOk result (FindsSelected p query.job (bytes_buffered buffer) (readers.remaining reader) (readers.remaining reader') (sinks.taken old) (sinks.taken new)))
 
 -- what is asked of lines around a selected one is written, from a place on
 abbrev pub ShowsEachBy : {W : Type 0} → Writers W → Query → Place → List (List ℕ) → W → W → {T E : Type 0} → Result T E → Type 0
