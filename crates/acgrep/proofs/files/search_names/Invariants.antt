@@ -8,7 +8,7 @@ use Rattle.acgrep.specs.Selected.{HoldNoEnding}
 use Rattle.acgrep.specs.Told.{IsMessage, TellsIf, files_told}
 use Rattle.acgrep.proofs.InTurn.{SoFar}
 use Rattle.acgrep.proofs.Told.{AreWithin}
-use Rattle.acgrep.proofs.files.search_each.Given as goal
+use Rattle.acgrep.proofs.files.search_names.Given as goal
 
 abbrev pub invariant-loop-rest : goal.invariant-loop-rest
 invariant-loop-rest g l = record {
