@@ -26,15 +26,9 @@ total_kept job count x y z keeps begins = record {
   written = Appends-trans x y z [] begins.begun (keeps_nil x y keeps) begins.written;
 }
 
--- what was put together is written, or a beginning of it
-pub total_begins : (job : Job) (count : ℕ) (x y : Option (List ℕ)) (before after bytes : List ℕ) → before ≡ [] → bytes ≡ after
-    → Appends (Some before) (Some after) (total_if job.shown job.style count) → AppendsBeginning x y bytes → BeginsTotal job count x y
-total_begins job count x y before after bytes none same is (n, within, written) = record {
-  begun = take n bytes;
-  missing = drop n bytes;
-  cut = sym (same ∙ is ∙ ap (λ (l : List ℕ). l ++ total_if job.shown job.style count) none) ∙ sym (take-append-drop n bytes);
-  written = written;
-}
+-- a beginning of it is
+pub total_begins : (job : Job) (count : ℕ) (x y : Option (List ℕ)) → AppendsBeginning x y (total_if job.shown job.style count) → BeginsTotal job count x y
+total_begins job count x y (n, within, written) = record { begun = take n _; missing = drop n _; cut = sym (take-append-drop n _); written = written }
 
 -- what follows from lines or matches being written
 pub lines_total : (shown : Shown) (style : Style) (count : ℕ) → writes_lines shown ≡ true → total_if shown style count ≡ []
