@@ -3,7 +3,7 @@
 ghost use Rattle.std.specs.Prelude.{◌≡◌, ◌∷◌, [], IfOk, OnOk, decimal};
 ghost use Rattle.aho_core.specs.Replacement.{pieces_of};
 ghost use Rattle.acgrep.specs.Lines.{lines};
-ghost use Rattle.acgrep.specs.Tallies.{CountsLines, CountsNumber, PutsBytes, row_of, rows_counted, zeros_of};
+ghost use Rattle.acgrep.specs.Tallies.{CountsLines, PutsBytes, row_of, rows_counted, zeros_of};
 
 use crate::arguments::number_in;
 use crate::lines::{behind, line_end};
@@ -11,16 +11,11 @@ use crate::print::{DIGITS, put_digits};
 use std::alloc::{AllocError, Global};
 
 /// A count of 0 for each pattern.
+#[tactic(auto, using(std::proofs::lemmas::Simd::splat_is_map))]
 pub fn zeros(alloc: Global, patterns: &[&[u8]]) -> Result<Vec<u64>, AllocError>
     ensures zeros { IfOk result (λ counts. counts.items ≡ zeros_of (pieces_of patterns.now)) }
 {
-    let mut counts = Vec::new(alloc);
-    let mut rest = patterns;
-    while !rest.is_empty() {
-        counts.push(0)?;
-        rest = &rest[1..];
-    }
-    Ok(counts)
+    Vec::from_elem(alloc, 0, patterns.len())
 }
 
 /// Counts the lines, each ended by `ending`, that write a pattern's number, for each pattern. A count stays at the greatest number.
@@ -35,22 +30,15 @@ pub fn tally(numbers: &[u8], ending: u8, counts: &mut [u64])
     }
 }
 
-/// Counts a line that writes a pattern's number.
+/// Counts a line that writes a pattern's number, where there is a count for it.
 fn tally_line(line: &[u8], counts: &mut [u64])
     ensures counted { CountsLines (line.now ∷ []) counts.old counts.new }
 {
     if let Some(number) = number_in(line) {
-        count_number(counts, number);
-    }
-}
-
-/// Counts a number, where there is a count for it.
-fn count_number(counts: &mut [u64], number: u64)
-    ensures counted { CountsNumber number counts.old counts.new }
-{
-    if number < counts.len() as u64 {
-        let at = number as usize;
-        counts[at] = counts[at].saturating_add(1);
+        if number < counts.len() as u64 {
+            let at = number as usize;
+            counts[at] = counts[at].saturating_add(1);
+        }
     }
 }
 
