@@ -1,5 +1,5 @@
 -- What may be told of the files that operands name.
-use Rattle.acgrep.proofs.Common.{Errors, Flags, IsOneOf, Nothing, SinkGhosts, Tells, TellsSome, cases_Bool, common_steps, or_input, some-tells, some-then, some-weaker}
+use Rattle.acgrep.proofs.Common.{Errors, Flags, Nothing, SinkGhosts, Tells, TellsSome, cases_Bool, common_steps, or_input, some-tells, some-then, some-weaker}
 use Rattle.std.proofs.Common.{◌++◌, ◌<◌, ◌∷◌, ◌≡◌, ◌≤◌, Bool, List, [], ap, arith, false, inl, inr, length, refl, subst, sym, true, ℕ}
 use Rattle.std.specs.Prelude.{if◌then◌else◌}
 use Rattle.tool_parts.proofs.Lines.{tells-none, tells-then, tells-weaker, then-some}
@@ -8,7 +8,7 @@ use Rattle.acgrep.specs.Folders.{Tree}
 use Rattle.acgrep.specs.Reached.{TellsMissed}
 use Rattle.acgrep.specs.Runs.{AreReached, status_reached}
 use Rattle.acgrep.specs.Told.{IsMessage, MaySay, TellsOfFile, TellsStatus, files_told, names_told, shown_names, source_names}
-use Rattle.acgrep.proofs.Told.{AreWithin, among-first, among-later, message-more, status-some, status-weaker, within-cut}
+use Rattle.acgrep.proofs.Told.{AreWithin, among-first, among-later, message-more, status-some, status-weaker}
 
 -- where a message of sources of patterns is told, and nothing before, a search failed
 pub some-sources : {E : Type 0} (K : SinkGhosts E) (tree : Tree) (given : Said) (sources : List Origin) (names : List (List ℕ)) (old new : Errors E) → TellsSome K (IsMessage (source_names sources)) old new
@@ -107,18 +107,15 @@ module _ {E : Type 0} (K : SinkGhosts E) (all : List (List ℕ)) where
     tells = some-tells K (IsMessage all) old new told;
     none = λ same. absurd (omega (arith, same, fewer));
     some = λ less. told;
-    within = cut.1;
+    within = λ other is. before.within other (inr is);
     fewer = omega (arith, fewer);
   }
     where
       fewer : length (name ∷ names) ≤ length all
       fewer = before.fewer
 
-      cut : IsOneOf name all × AreWithin names all
-      cut = within-cut name names (name ∷ names) all refl before.within
-
       told : TellsSome K (IsMessage all) old new
-      told = then-some K (IsMessage all) old mid new before.tells (now all cut.0)
+      told = then-some K (IsMessage all) old mid new before.tells (now all (before.within name (inl refl)))
 
   pub told-end : (rest : List (List ℕ)) (old new : Errors E) → length rest ≡ 0 → IsTold K all rest old new → TellsMissed K false all old new
   told-end rest old new gone told = record {

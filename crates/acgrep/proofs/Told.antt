@@ -174,12 +174,6 @@ told-cut false label first rest names all cut within =
     let both : AreWithin (shown_name label first ∷ shown_names label rest) all = subst (λ (l : List (List ℕ)). AreWithin l all) cut within in
     (λ asked. both (shown_name label first) (inl refl), λ name is. both name (inr is))
 
--- the first of some names is, and those behind it are
-pub within-cut : (first : List ℕ) (rest names all : List (List ℕ)) → names ≡ first ∷ rest → AreWithin names all → IsOneOf first all × AreWithin rest all
-within-cut first rest names all cut within =
-    let both : AreWithin (first ∷ rest) all = subst (λ (l : List (List ℕ)). AreWithin l all) cut within in
-    (both first (inl refl), λ name is. both name (inr is))
-
 -- the same is told of a status that is that one
 pub not-quiet : (quiet names lacking count json only : Bool)
     → (if quiet then Nothing else if names then Names else if lacking then Lacking else if count then Count else if json then Objects else if only then Matches else Lines) ≡ Nothing
