@@ -13,8 +13,8 @@ ghost use Rattle.acgrep.specs.Told.{MaySaid, MayTell, TellsCause, TellsOfCall, T
 ghost use Rattle.acgrep.specs.ToldByRules.{IsMarkTold, TellsByRules};
 ghost use Rattle.acgrep.specs.Mistakes.{TellsLacking, TellsMistake, TellsNoPattern, TellsRefused, TellsUnfit};
 ghost use Rattle.acgrep.specs.Folders.{known_by, tree_of};
-ghost use Rattle.acgrep.specs.Runs.{AsksAny, AsksByRules, AsksToSearch, BeginsNoMatch, BeginsSaid, BeginsSearch, BeginsFor, GivesNone, IfSaid, IsByPatterns, Searches, SearchesFor, SearchesRuled, SearchesSaid, WritesNoMatch, are_empty, kind_sought, knows_none, lists_finds, origins_of, selects_none, status_told, takes_any, words_sought};
-ghost use Rattle.acgrep.specs.RunsByRules.{BeginsByRules, MarksRuled, SearchesByRules};
+ghost use Rattle.acgrep.specs.Runs.{AsksAny, AsksByRules, AsksToSearch, BeginsNoMatch, BeginsSaid, BeginsSearch, BeginsFor, GivesNone, IfSaid, IsByPatterns, Searches, SearchesFor, SearchesSaid, WritesNoMatch, are_empty, kind_sought, knows_none, lists_finds, origins_of, selects_none, status_told, takes_any, words_sought};
+ghost use Rattle.acgrep.specs.RunsByRules.{BeginsByRules, SearchesByRules};
 
 use crate::arguments::{Given, Source, parse, with_rules};
 use crate::beside::{tell_unfit, unfit_of};
@@ -210,48 +210,11 @@ fn answer<F: Open + Folders, R: Read, W: Sink, E: Sink>(
         tell_unfit(errors, unfit);
         return 2;
     }
-    let no_match_ok = given.flags.no_match_ok;
-    let status = search_ruled(alloc, given, screen, files, input, output, errors);
-    status_told(no_match_ok, status)
-}
-
-/// Does what right arguments ask for, by patterns or by rules. The globs of files that are not searched are read first.
-fn search_ruled<F: Open + Folders, R: Read, W: Sink, E: Sink>(
-    alloc: Global,
-    given: Given<'_>,
-    screen: &Screen<'_>,
-    files: &F,
-    input: &mut R,
-    output: &mut W,
-    errors: &mut Errors<'_, E>,
-) -> u8
-    ensures bound { result ≤ 2 }
-    ensures patternless { given.entry.flags.by_rules ≡ false → GivesNone (said given.entry) → result ≡ 2 }
-    ensures lacking { given.entry.flags.by_rules ≡ false → GivesNone (said given.entry)
-        → TellsNoPattern E.Sink errors.old errors.new }
-    ensures searches { given.entry.flags.by_rules ≡ false → result < 2
-        → SearchesRuled (known_by F.Open F.Folders files.now) screen.now (said given.entry)
-        (R.remaining input.old) (R.remaining input.new)
-        (W.taken output.old) (W.taken output.new) result }
-    ensures begins { given.entry.flags.by_rules ≡ false
-        → BeginsSearch (known_by F.Open F.Folders files.now) screen.now (said given.entry)
-        (R.remaining input.old) (W.taken output.old) (W.taken output.new) }
-    ensures told { given.entry.flags.by_rules ≡ false
-        → TellsOfCall E.Sink (known_by F.Open F.Folders files.now) (R.remaining input.old)
-        (said given.entry) result errors.old errors.new }
-    ensures marks { given.entry.flags.by_rules ≡ true → result < 2
-        → MarksRuled (known_by F.Open F.Folders files.now) screen.now (said given.entry)
-        (R.remaining input.old) (W.taken output.old) (W.taken output.new) result }
-    ensures begins_marks { given.entry.flags.by_rules ≡ true
-        → BeginsByRules (known_by F.Open F.Folders files.now) screen.now (said given.entry)
-        (R.remaining input.old) (W.taken output.old) (W.taken output.new) }
-    ensures told_marks { given.entry.flags.by_rules ≡ true
-        → TellsByRules E.Sink (said given.entry) result errors.old errors.new }
-{
     if lacks_pattern(&given) {
         tell_wrong(errors, Wrong::NoPattern);
         return 2;
     }
+    // The globs of files that are not searched are read first.
     let rules = given.rules.as_slice();
     let Some(texts) = read_globs(alloc, rules, files, input, errors) else {
         return 2;
@@ -260,12 +223,15 @@ fn search_ruled<F: Open + Folders, R: Read, W: Sink, E: Sink>(
         tell_memory(errors);
         return 2;
     };
+    let no_match_ok = given.flags.no_match_ok;
     let by_rules = given.flags.by_rules;
     let ruled = with_rules(given, all);
     if by_rules {
-        return mark_asked(alloc, &ruled, screen, files, input, output, errors);
+        let status = mark_asked(alloc, &ruled, screen, files, input, output, errors);
+        return status_told(no_match_ok, status);
     }
-    search_asked(alloc, &ruled, screen, files, input, output, errors)
+    let status = search_asked(alloc, &ruled, screen, files, input, output, errors);
+    status_told(no_match_ok, status)
 }
 
 /// Whether neither an option nor an operand gives a pattern, and lines are not selected by rules.
