@@ -1,12 +1,16 @@
 -- A name more was looked at; where none is left the walk is done.
 use Rattle.acgrep.proofs.Common.{nil_from_length}
-use Rattle.std.proofs.Common.{◌≡◌, ap, length, rules}
+use Rattle.std.proofs.Common.{◌∙◌, ◌≡◌, ap, length, rules, sym}
 use Rattle.acgrep.specs.Folders.{spots_of}
-use Rattle.acgrep.proofs.Walking.{begins-end, begins-then}
+use Rattle.acgrep.proofs.Walking.{begins-end, begins-then, finds-input, finds-lost}
 use Rattle.acgrep.proofs.walk.walk.Goals as goal
 
+pub loop-preserved-then-is_standard : goal.loop-preserved-then-is_standard
+loop-preserved-then-is_standard g c = begins-then _ _ _ _ _ _ _ _ (rw (ap spots_of c.in-Some.ensures.items) at c.loop.invariant)
+    (finds-input _ _ _ _ _ _ _ (sym c.is_standard.ensures ∙ c.if-is_standard.true) c.in_ok-add.ensures.names c.add.ensures.unread)
+
 pub loop-preserved : goal.loop-preserved
-loop-preserved g c = begins-then _ _ _ _ _ _ _ _ (rw (ap spots_of c.in-Some.ensures.items) at c.loop.invariant) c.in_ok-pass.ensures.finds
+loop-preserved g c = ?
 
 pub returns-in_default : goal.returns-in_default
 returns-in_default g c =
