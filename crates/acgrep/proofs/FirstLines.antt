@@ -1,6 +1,9 @@
 -- The first line of a text and the others.
-use Rattle.acgrep.proofs.Common.{Nowhere, cases_Bool, pieces_of}
-use Rattle.std.proofs.Common.{◌++◌, ◌<◌, ◌==◌, ◌∙◌, ◌∷◌, ◌≡◌, ◌≤◌, Bor, List, [], ap, arith, drop, false, inl, inr, length, refl, suc, take, true, zero, ℕ}
+use Rattle.acgrep.proofs.Common.{Nowhere, cases_Bool, pieces_of, true≢false}
+use Rattle.std.proofs.Common.{◌++◌, ◌+◌, ◌<◌, ◌==◌, ◌∙◌, ◌∷◌, ◌≡◌, ◌≤◌, Bor, List, [], add-one, ap, arith, drop, false, inl, inr, length, refl, suc, sym, take, true, zero, ℕ}
+use Rattle.std.proofs.lemmas.List.Sums.{fails_before_first, passes_at_first, prefix_len-le-length}
+use Rattle.std.specs.List.{position_or_len}
+use Rattle.memchr.specs.Find.{is_byte}
 use Rattle.acgrep.specs.Lines.{IsEnding, joined_to, lines}
 
 module _ (ending : ℕ) where
@@ -27,6 +30,20 @@ module _ (ending : ℕ) where
         | inl is ↦ absurd (none 0 (omega arith) (omega arith) is)
         | inr other ↦ lines_joined byte (next ∷ rest) other ∙ ap (joined_to byte) IH
       ]
+
+  -- the same of what stands behind it
+  pub lines_then : (text left : List ℕ) (end : ℕ) → 0 < length text → end ≤ length text → Nowhere (IsEnding ending text) 0 end → (end < length text → IsEnding ending text end)
+      → left ≡ drop (end + 1) text → lines ending text ≡ take end text ∷ lines ending left
+  lines_then text left end full within none newline follows =
+      lines_first text end full within none newline ∙ ap (λ (l : List ℕ). take end text ∷ lines ending l) (sym (follows ∙ ap (λ n. drop n text) (add-one end)))
+
+  -- its end is where that byte first stands
+  abbrev pub first_end : List ℕ → ℕ
+  first_end text = position_or_len (is_byte ending) text
+
+  pub lines_cut : (text : List ℕ) → 0 < length text → lines ending text ≡ take (first_end text) text ∷ lines ending (drop (suc (first_end text)) text)
+  lines_cut text some = lines_first text (first_end text) some (prefix_len-le-length _ text) (λ k low high is. true≢false (sym is ∙ fails_before_first (is_byte ending) text k 0 high))
+      (passes_at_first (is_byte ending) text 0)
 
 -- one more piece, and others behind it
 pub pieces_more : (held : List (Bor (List ℕ))) (piece : Bor (List ℕ)) (others : List (List ℕ)) → pieces_of (held ++ (piece ∷ [])) ++ others ≡ pieces_of held ++ (piece.now ∷ others)

@@ -1,35 +1,27 @@
--- A format, one piece after another; and base64, one group after another.
+-- A format, one piece after another.
 use Rattle.acgrep.proofs.Common.{Nowhere, Piece, common_steps}
-use Rattle.std.proofs.Common.{◌++◌, ◌+◌, ◌-◌, ◌<◌, ◌==◌, ◌∙◌, ◌∷◌, ◌≡◌, List, None, Option, Some, [], ap, append_assoc, arith, drop, false, length, refl, subst, suc, sym, take, zero, ℕ}
+use Rattle.std.proofs.Common.{◌++◌, ◌+◌, ◌-◌, ◌<◌, ◌==◌, ◌∷◌, ◌≡◌, List, None, Option, Some, [], ap, append_assoc, arith, drop, false, length, refl, subst, suc, sym, take, zero, ℕ}
 use Rattle.std.specs.Prelude.{option_map}
 use Rattle.memchr.specs.Find.{Passes, is_byte}
 use Rattle.acgrep.specs.Formats.{format_pieces, front_by, pieces_behind, unknown_behind, unknown_in, up_to_brace}
 use Rattle.acgrep.specs.declared.format.Front.{Front}
 
 -- what belongs to a piece before is passed over
-pub pieces_skip : (skipped : ℕ) (format : List ℕ) → pieces_behind skipped format ≡ format_pieces (drop skipped format)
-pieces_skip (suc skipped) (byte ∷ rest) = pieces_skip skipped rest
-pieces_skip _ _ = refl
-
-pub unknown_skip : (skipped : ℕ) (format : List ℕ) → unknown_behind skipped format ≡ unknown_in (drop skipped format)
-unknown_skip (suc skipped) (byte ∷ rest) = unknown_skip skipped rest
-unknown_skip _ _ = refl
+piece_skip : (skipped : ℕ) (format : List ℕ) → (pieces_behind skipped format ≡ format_pieces (drop skipped format)) × (unknown_behind skipped format ≡ unknown_in (drop skipped format))
+piece_skip (suc skipped) (byte ∷ rest) = piece_skip skipped rest
+piece_skip _ _ = (refl, refl)
 
 -- what a piece takes is dropped
-pub drop_piece : (len byte : ℕ) (rest : List ℕ) → 0 < len → drop len (byte ∷ rest) ≡ drop (len - 1) rest
+drop_piece : (len byte : ℕ) (rest : List ℕ) → 0 < len → drop (len - 1) rest ≡ drop len (byte ∷ rest)
 drop_piece len byte rest some = grind (arith, common_steps)
 
 -- the first piece, and those behind it
-pub pieces_step : (format : List ℕ) (front : Front) → 0 < length format → 0 < front.len → front_by format ≡ Some front
-    → format_pieces format ≡ option_map (λ pieces. front.piece ∷ pieces) (format_pieces (drop front.len format))
-pieces_step [] front some long is = absurd (omega (arith, some))
-pieces_step (byte ∷ rest) front some long is = rw is (ap (λ (o : Option (List Piece)). option_map (λ pieces. front.piece ∷ pieces) o)
-    (pieces_skip (front.len - 1) _ ∙ ap format_pieces (sym (drop_piece front.len _ _ long))))
-
-pub unknown_step : (format : List ℕ) (front : Front) → 0 < length format → 0 < front.len → front_by format ≡ Some front
-    → unknown_in format ≡ unknown_in (drop front.len format)
-unknown_step [] front some long is = absurd (omega (arith, some))
-unknown_step (byte ∷ rest) front some long is = rw is (unknown_skip (front.len - 1) _ ∙ ap unknown_in (sym (drop_piece front.len _ _ long)))
+pub piece_step : (format : List ℕ) (front : Front) → 0 < length format → 0 < front.len → front_by format ≡ Some front
+    → (format_pieces format ≡ option_map (λ pieces. front.piece ∷ pieces) (format_pieces (drop front.len format))) × (unknown_in format ≡ unknown_in (drop front.len format))
+piece_step [] front some long is = absurd (omega (arith, some))
+piece_step (byte ∷ rest) front some long is =
+    let (pieces, unknown) = rw (drop_piece front.len byte rest long) at (piece_skip (front.len - 1) rest) in
+    (rw is (ap (λ (o : Option (List Piece)). option_map (λ pieces. front.piece ∷ pieces) o) pieces), rw is unknown)
 
 -- a piece more
 pub pieces_more : (items : List Piece) (piece : Piece) (others : Option (List Piece))

@@ -1,23 +1,27 @@
 -- The lines of a text that is cut, and patterns that occur in none of them.
 use Rattle.acgrep.proofs.Common.{IsSameWord, Occurrence, Occurs-in, OccursIn, Patterns, cases_Bool, cases_lt, common_steps, drop-drop, length-drop, length-take-le, pattern_at, plain_search, take_all}
 use Rattle.std.proofs.Common.{◌++◌, ◌+◌, ◌-◌, ◌<◌, ◌==◌, ◌∙◌, ◌∷◌, ◌≡◌, ◌≤◌, List, [], ap, arith, drop, inl, inr, length, refl, subst, suc, sym, take, take-append-drop, true, ℕ}
+use Rattle.std.proofs.lemmas.List.Sums.{prefix_len-le-length}
 use Rattle.std.specs.Prelude.{slice_range}
 use Rattle.aho_core.specs.Occurs.{Occurs}
 use Rattle.aho_core.specs.declared.search.Anchored.TheVariants.{No}
 use Rattle.aho_core.specs.declared.search.Span.{Span}
-use Rattle.aho_laws.proofs.SpanTexts.{Occurs-moved, Occurs-moved_back, length_part, moved-zero, moved_back}
+use Rattle.aho_laws.proofs.SpanTexts.{Occurs-moved, Occurs-moved_back, length_part, moved_back}
 use Rattle.aho_laws.specs.CutLaws.{moved}
 use Rattle.acgrep.specs.Lines.{EndsLine, IsEnding, joined_to, lines}
 use Rattle.acgrep.specs.Selected.{HoldNoEnding, IsFirstWith}
 use Rattle.acgrep.specs.Written.{EachLine, HasMatch, HasNone}
 use Rattle.acgrep.proofs.Around.{behind_newline, ends_before, front_newline, newline_behind}
-use Rattle.acgrep.proofs.FirstLines.{lines_first, lines_joined}
+use Rattle.acgrep.proofs.FirstLines.{first_end, lines_cut, lines_first, lines_joined}
 
 pub drop_zero : (xs : List ℕ) → drop 0 xs ≡ xs
 drop_zero _ = refl
 
 pub take_zero : (xs : List ℕ) → take 0 xs ≡ []
 take_zero _ = refl
+
+pub slice_front : (text : List ℕ) (end : ℕ) → slice_range text 0 end ≡ take end text
+slice_front text end = grind (arith, common_steps)
 
 module _ (ending : ℕ) where
   -- a text of one byte that ends a line is a newline
@@ -34,18 +38,7 @@ module _ (ending : ℕ) where
 
   -- a text that is not empty begins with its first line
   pub first_line : (rest : List ℕ) (byte : ℕ) → (end : ℕ) × (others : List (List ℕ)) × (end ≤ suc (length rest)) × (lines ending (byte ∷ rest) ≡ take end (byte ∷ rest) ∷ others)
-  first_line [] byte =
-      elim (cases_Bool (byte == ending)) [
-        | inl is ↦ (0, [], omega arith, rw is refl)
-        | inr other ↦ (1, [], omega arith, rw other refl)
-      ]
-  first_line (next ∷ rest) byte =
-      elim (cases_Bool (byte == ending)) [
-        | inl is ↦ (0, lines ending (next ∷ rest), omega arith, rw is refl)
-        | inr other ↦
-            let (end, others, within, same) = first_line rest next in
-            (suc end, others, omega (arith, within), lines_joined ending byte (next ∷ rest) other ∙ ap (joined_to byte) same)
-      ]
+  first_line rest byte = (first_end ending (byte ∷ rest), _, prefix_len-le-length _ (byte ∷ rest), lines_cut ending (byte ∷ rest) (omega arith))
 
   -- behind a newline new lines begin
   pub lines_append : (a b : List ℕ) → EndsLine ending a → lines ending (a ++ b) ≡ lines ending a ++ lines ending b
@@ -65,33 +58,41 @@ module _ (ending : ℕ) where
       ]
 
   module _ (p : Patterns) where
-    -- what occurs nowhere in a text occurs in no part of it
-    none_part : (text : List ℕ) (start end : ℕ) → start ≤ end → end ≤ length text → HasNone p text → HasNone p (slice_range text start end)
-    none_part text start end ordered within none m occurs =
-        let long : length (slice_range text start end) ≡ end - start = length_part text start end within in
-        let there : Occurs p No text (start + 0) (start + length (slice_range text start end)) (moved start m) =
-        Occurs-moved p text start end 0 (length (slice_range text start end)) m (omega (arith, long, ordered)) occurs in
-        none (moved start m) (Occurs-in p text (start + 0) (start + length (slice_range text start end)) 0 (length text) (moved start m) (omega arith) (omega (arith, there.before_end, long, ordered, within)) there)
+    -- what occurs in a part of a text occurs in the text
+    occurs_part : (text : List ℕ) (start end : ℕ) (m : Occurrence) → start ≤ end → end ≤ length text → OccursIn p (plain_search (slice_range text start end)) m → OccursIn p (plain_search text) (moved start m)
+    occurs_part text start end m ordered within occurs =
+        let size = length (slice_range text start end) in
+        let long : size ≡ end - start = length_part text start end within in
+        let there : Occurs p No text (start + 0) (start + size) (moved start m) = Occurs-moved p text start end 0 size m (omega (arith, long, ordered)) occurs in
+        Occurs-in p text (start + 0) (start + size) 0 (length text) (moved start m) (omega arith) (omega (arith, there.before_end, long, ordered, within)) there
 
-    -- what occurs in a front occurs in the text
-    occurs_front : (text : List ℕ) (end : ℕ) (m : Occurrence) → end ≤ length text → OccursIn p (plain_search (take end text)) m → OccursIn p (plain_search text) m
+    -- an empty pattern occurs at the begin of any text
+    pub empty_first : (text other : List ℕ) (m : Occurrence) → OccursIn p (plain_search text) m → m.end ≤ m.start → OccursIn p (plain_search other) (record { pattern = m.pattern; start = 0; end = 0 })
+    empty_first text other m occurs empty =
+        let none : m.end - m.start ≡ 0 = omega (arith, empty) in
+        let bytes : slice_range text m.start m.end ≡ slice_range other 0 0 =
+        ap (λ (n : ℕ). take n (drop m.start text)) none ∙ take_zero (drop m.start text) ∙ sym (take_zero (drop 0 other)) in
+        record {
+          numbered = occurs.numbered;
+          after_start = omega arith;
+          before_end = omega arith;
+          sized = omega (arith, occurs.sized, empty);
+          same = subst (IsSameWord p (pattern_at p m.pattern)) bytes occurs.same;
+          admitted = λ e. cc;
+        }
+
+    -- what occurs nowhere in a text occurs in no front of it
+    occurs_front : (text : List ℕ) (end : ℕ) (m : Occurrence) → end ≤ length text → OccursIn p (plain_search (take end text)) m → OccursIn p (plain_search text) (moved 0 m)
     occurs_front text end m within occurs =
-        let part = slice_range text 0 end in
-        let count : end - 0 ≡ end = omega arith in
-        let same : part ≡ take end text = ap (λ (n : ℕ). take n (drop 0 text)) count ∙ ap (take end) (drop_zero text) in
-        let long : length part ≡ end - 0 = length_part text 0 end within in
-        let here : Occurs p No part 0 (length part) m = subst (λ (l : List ℕ). OccursIn p (plain_search l) m) (sym same) occurs in
-        let there : Occurs p No text (0 + 0) (0 + length part) (moved 0 m) = Occurs-moved p text 0 end 0 (length part) m (omega (arith, long)) here in
-        let whole : OccursIn p (plain_search text) (moved 0 m) =
-        Occurs-in p text (0 + 0) (0 + length part) 0 (length text) (moved 0 m) (omega arith) (omega (arith, there.before_end, long, within)) there in
-        subst (λ (n : Occurrence). OccursIn p (plain_search text) n) (moved-zero m) whole
+        occurs_part text 0 end m (omega arith) within (subst (λ (l : List ℕ). OccursIn p (plain_search l) m) (sym (slice_front text end)) occurs)
 
     none_front : (text : List ℕ) (end : ℕ) → end ≤ length text → HasNone p text → HasNone p (take end text)
-    none_front text end within none m occurs = none m (occurs_front text end m within occurs)
+    none_front text end within none m occurs = none (moved 0 m) (occurs_front text end m within occurs)
 
     none_rest : (byte : ℕ) (rest : List ℕ) → HasNone p (byte ∷ rest) → HasNone p rest
-    none_rest byte rest none =
-        subst (HasNone p) (ap (take (suc (length rest) - 1)) (drop_zero rest) ∙ take_all (suc (length rest) - 1) rest (omega arith)) (none_part (byte ∷ rest) 1 (suc (length rest)) (omega arith) (omega arith) none)
+    none_rest byte rest none m occurs =
+        let same : slice_range (byte ∷ rest) 1 (suc (length rest)) ≡ rest = ap (take (suc (length rest) - 1)) (drop_zero rest) ∙ take_all (suc (length rest) - 1) rest (omega arith) in
+        none (moved 1 m) (occurs_part (byte ∷ rest) 1 (suc (length rest)) m (omega arith) (omega arith) (subst (λ (l : List ℕ). OccursIn p (plain_search l) m) (sym same) occurs))
 
     -- nor in a line of it
     pub none_in_lines : (text : List ℕ) → HasNone p text → EachLine (HasNone p) (lines ending text)
@@ -111,17 +112,16 @@ module _ (ending : ℕ) where
         ]
 
     -- what occurs in a range of a text occurs in the range's bytes
-    match_part : (text : List ℕ) (start end : ℕ) → start ≤ end → end ≤ length text → (m : Occurrence) × Occurs p No text start end m → HasMatch p (slice_range text start end)
-    match_part text start end ordered within (m, occurs) =
-        let long : length (slice_range text start end) ≡ end - start = length_part text start end within in
+    pub in_part : (text : List ℕ) (start end : ℕ) (m : Occurrence) → start ≤ end → end ≤ length text → Occurs p No text start end m → OccursIn p (plain_search (slice_range text start end)) (moved_back start m)
+    in_part text start end m ordered within occurs =
+        let size = length (slice_range text start end) in
         let low : start + 0 ≡ start = omega arith in
-        let high : start + length (slice_range text start end) ≡ end = omega (arith, long, ordered) in
-        let here : Occurs p No text (start + 0) (start + length (slice_range text start end)) m = rw low (rw high occurs) in
-        (moved_back start m, Occurs-moved_back p text start end 0 (length (slice_range text start end)) m (omega (arith, high)) here)
+        let high : start + size ≡ end = omega (arith, length_part text start end within, ordered) in
+        Occurs-moved_back p text start end 0 size m (omega (arith, high)) (rw low (rw high occurs))
 
     module _ (plain : HoldNoEnding ending p) (text : List ℕ) (line : Span) (first : IsFirstWith p ending text line) where
       pub first_has : HasMatch p (slice_range text line.start line.end)
-      first_has = match_part text line.start line.end first.is_line.ordered first.is_line.within first.some
+      first_has = let (m, occurs) = first.some in (moved_back line.start m, in_part text line.start line.end m first.is_line.ordered first.is_line.within occurs)
 
       -- the front ends in a newline
       pub front_ends : EndsLine ending (take line.start text)
@@ -130,34 +130,19 @@ module _ (ending : ℕ) where
           subst (λ (n : ℕ). IsEnding ending (take line.start text) (n - 1)) (sym long)
           (front_newline ending text line.start (line.start - 1) (omega (arith, long, some)) (first.is_line.begins (omega (arith, long, some))))
 
-      -- an empty pattern occurs at the begin too
-      empty_first : (m : Occurrence) → OccursIn p (plain_search text) m → m.end ≤ m.start → OccursIn p (plain_search text) (record { pattern = m.pattern; start = 0; end = 0 })
-      empty_first m occurs empty =
-          let none : m.end - m.start ≡ 0 = omega (arith, empty) in
-          let bytes : slice_range text m.start m.end ≡ slice_range text 0 0 =
-          ap (λ (n : ℕ). take n (drop m.start text)) none ∙ take_zero (drop m.start text) ∙ sym (take_zero (drop 0 text)) in
-          record {
-            numbered = occurs.numbered;
-            after_start = omega arith;
-            before_end = omega arith;
-            sized = omega (arith, occurs.sized, empty);
-            same = subst (IsSameWord p (pattern_at p m.pattern)) bytes occurs.same;
-            admitted = λ e. cc;
-          }
-
       -- and nothing occurs in it
       front_none : 0 < line.start → HasNone p (take line.start text)
       front_none some m occurs =
           let within : line.start ≤ length text = omega (arith, first.is_line.ordered, first.is_line.within) in
           let long : length (take line.start text) ≡ line.start = length-take-le line.start text within in
-          let whole : OccursIn p (plain_search text) m = occurs_front text line.start m within occurs in
-          let late : line.start ≤ m.end = first.first m whole in
+          let whole : OccursIn p (plain_search text) (moved 0 m) = occurs_front text line.start m within occurs in
+          let late : line.start ≤ 0 + m.end = first.first (moved 0 m) whole in
           elim (cases_lt (line.start - 1) m.start) [
             | inl behind ↦
-                let empty = empty_first m whole (omega (arith, behind, occurs.before_end, long, some)) in
+                let empty = empty_first text text (moved 0 m) whole (omega (arith, behind, occurs.before_end, long, some)) in
                 absurd (omega (arith, some, first.first (record { pattern = m.pattern; start = 0; end = 0 }) empty))
             | inr before ↦
-                let early : m.end ≤ line.start - 1 = ends_before ending p plain text (line.start - 1) m whole before (λ _. first.is_line.begins some) in
+                let early : 0 + m.end ≤ line.start - 1 = ends_before ending p plain text (line.start - 1) (moved 0 m) whole (omega (arith, before)) (λ _. first.is_line.begins some) in
                 absurd (omega (arith, late, early, some))
           ]
 
@@ -179,7 +164,7 @@ module _ (ending : ℕ) where
                 let (m, occurs) = first.some in
                 let whole : OccursIn p (plain_search text) m =
                 Occurs-in p text line.start line.end 0 (length text) m (omega arith) (omega (arith, occurs.before_end, first.is_line.within)) occurs in
-                let empty = empty_first m whole (omega (arith, behind, occurs.after_start, occurs.before_end, first.is_line.within)) in
+                let empty = empty_first text text m whole (omega (arith, behind, occurs.after_start, occurs.before_end, first.is_line.within)) in
                 absurd (omega (arith, some, behind, first.first (record { pattern = m.pattern; start = 0; end = 0 }) empty))
           ]
 

@@ -1,6 +1,6 @@
 -- One line of a walk: what is written of it, and where the walk then is.
 use Rattle.acgrep.proofs.Common.{Appends, Appends-nil, Appends-trans, AppendsBeginning, Context, Job, Patterns, Place, lt-ltb}
-use Rattle.std.proofs.Common.{◌++◌, ◌<◌, ◌∙◌, ◌∷◌, ◌≡◌, Bool, List, Option, [], ap, append_assoc, false, inl, inr, refl, subst, sym, true, ℕ}
+use Rattle.std.proofs.Common.{◌++◌, ◌<◌, ◌∙◌, ◌∷◌, ◌≡◌, List, Option, [], ap, append_assoc, false, inl, inr, refl, subst, sym, true, ℕ}
 use Rattle.std.specs.Prelude.{◌&&◌, nat_lt}
 use Rattle.acgrep.specs.Contexts.{IsChosenBy, IsNotChosen, PassesBy, ShowsEach, ShowsGroup, Steps, Walk, WalksBegun, WalksLines, WalksSome, behind_chosen, behind_due, behind_passed, beside, separator_if}
 use Rattle.acgrep.specs.Lines.{lines}
@@ -99,12 +99,12 @@ module _ (p : Patterns) (job : Job) where
   shows_end first place x y ls to = to.follow [] y refl (Appends-nil y)
 
 -- a selected line behind those that are held before it
-pub group_put : (p : Patterns) (job : Job) (context : Context) (w : Walk) (line : List ℕ) (asked : Bool) (x y z u : Option (List ℕ)) → asked ≡ (context.parted && (w.some && w.apart))
-    → Appends x y (separator_if asked job.style) → (before : List ℕ) × ShowsEach p (beside job) w.first w.held before × Appends y z before → WritesLine p job w.place z u line
+pub group_put : (p : Patterns) (job : Job) (context : Context) (w : Walk) (line : List ℕ) (x y z u : Option (List ℕ))
+    → Appends x y (separator_if (context.parted && (w.some && w.apart)) job.style) → (before : List ℕ) × ShowsEach p (beside job) w.first w.held before × Appends y z before → WritesLine p job w.place z u line
     → (bytes : List ℕ) × ShowsGroup p job context w line bytes × Appends x u bytes
-group_put p job context w line asked x y z u is parted (before, each, held) (shown, shows, written) =
+group_put p job context w line x y z u parted (before, each, held) (shown, shows, written) =
     let sep = separator_if (context.parted && (w.some && w.apart)) job.style in (
       sep ++ (before ++ shown),
       (before, shown, each, shows, refl),
-      Appends-trans x y u sep (before ++ shown) (subst (λ (b : Bool). Appends x y (separator_if b job.style)) is parted) (Appends-trans y z u before shown held written),
+      Appends-trans x y u sep (before ++ shown) parted (Appends-trans y z u before shown held written),
     )

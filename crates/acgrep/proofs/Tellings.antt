@@ -1,15 +1,15 @@
 -- What is told of lines, put together from parts.
-use Rattle.acgrep.proofs.Common.{Appends, Appends-nil, Appends-trans, Fit, Job, Lines, Matches, Objects, Occurrence, Patterns, Place, Shown, State, Style, and_parts, cases_Bool, cases_lt, common_steps, drop-drop, length-drop, ltb-true, true≢false}
+use Rattle.acgrep.proofs.Common.{Appends-nil, Appends-trans, Fit, Job, Lines, Matches, Objects, Occurrence, Patterns, Place, Shown, State, Style, and_parts, cases_Bool, cases_lt, common_steps, drop-drop, length-drop, ltb-true, true≢false}
 use Rattle.std.proofs.Common.{◌%◌, ◌++◌, ◌+◌, ◌-◌, ◌<◌, ◌^◌, ◌∙◌, ◌∷◌, ◌≡◌, ◌≤◌, Bool, List, None, Option, Some, [], ap, append-nil, append_assoc, arith, drop, false, inl, inr, length, refl, subst, sym, true, ℕ}
 use Rattle.std.proofs.lemmas.List.{drop_all}
-use Rattle.std.specs.Prelude.{◌&&◌, MatchBool, if◌then◌else◌, nat_le, nat_lt, not}
+use Rattle.std.specs.Prelude.{◌&&◌, nat_le, nat_lt, not}
+use Rattle.acgrep.specs.Alone.{AreShownOf}
 use Rattle.acgrep.specs.Lines.{EndsLine, lines}
-use Rattle.acgrep.specs.Matches.{WritesColored, WritesMatches}
+use Rattle.acgrep.specs.Matches.{WritesMatches, shown_from}
 use Rattle.acgrep.specs.Objects.{objects_by}
-use Rattle.acgrep.specs.Printed.{colored_from, colored_line_by, head_of, line_number_at, matches_by}
-use Rattle.acgrep.specs.Written.{DoesMatch, DoesNotMatch, EachLine, HasNone, IsMatched, IsPassedOver, IsSelected, IsSettled, LineOf, SamePlace, SearchesTo, ShowsBy, ShowsLine, TellsLines, TellsOfLines, WritesLine, WritesNext, after_line, after_lines, is_full, is_numbered, next_count, one_more, place_behind, selects}
-use Rattle.acgrep.specs.declared.matches.Shape.TheVariants.{AsFields, OnLines}
-use Rattle.acgrep.proofs.Bools.{where_false, where_true}
+use Rattle.acgrep.specs.Printed.{colored_from, head_of, line_number_at, matches_by}
+use Rattle.acgrep.specs.Written.{DoesNotMatch, EachLine, HasNone, IsMatched, IsPassedOver, IsSelected, IsSettled, LineOf, SamePlace, SearchesTo, ShowsBy, ShowsLine, TellsLines, TellsOfLines, WritesLine, after_line, after_lines, is_full, is_numbered, one_more, place_behind, selects}
+use Rattle.acgrep.specs.declared.matches.Shape.{Shape}
 use Rattle.acgrep.proofs.LineLists.{ends_drop}
 
 -- what follows a place follows one in the text
@@ -45,45 +45,16 @@ asked_numbered : (shown : Shown) (asked : Bool) → asked ≡ true → is_number
 asked_numbered Objects asked is = refl
 asked_numbered _ asked is = is
 
--- a coloured line is what is written of a line where that is asked for
-pub colored_shows : (p : Patterns) (job : Job) (place : Place) (old new : Option (List ℕ)) (line : List ℕ) → job.shown ≡ Lines → (job.style.color && not job.invert) ≡ true
-    → WritesColored old new p job.fit job.style place line → WritesLine p job place old new line
-colored_shows p job place old new line whole colored writes = (
-  (colored_line_by job.style place line writes.matches),
-  rw whole (rw colored (writes.matches, writes.found, refl)),
-  writes.written,
-)
+-- the matches of a line are what is written of it
+pub matches_shown : (p : Patterns) (job : Job) (place : Place) (old new : Option (List ℕ)) (line : List ℕ) (shape : Shape)
+    → ((ms : List Occurrence) → AreShownOf p job.fit line ms → ShowsLine p job place line (shown_from shape job.style place line 0 ms))
+    → WritesMatches old new p shape job.fit job.style place line → WritesLine p job place old new line
+matches_shown p job place old new line shape shows writes = (shown_from shape job.style place line 0 writes.matches, shows writes.matches writes.found, writes.written)
 
--- the matches are what is written of a line where they are asked for
-pub matches_shows : (p : Patterns) (job : Job) (place : Place) (old new : Option (List ℕ)) (line : List ℕ) → job.shown ≡ Matches → job.invert ≡ false
-    → WritesMatches old new p OnLines job.fit job.style place line → WritesLine p job place old new line
-matches_shows p job place old new line whole plain writes = (
-  (matches_by job.style place line writes.matches),
-  rw whole (where_false _ job.invert plain (writes.matches, writes.found, refl)),
-  writes.written,
-)
-
--- the same of objects
-pub objects_shows : (p : Patterns) (job : Job) (place : Place) (old new : Option (List ℕ)) (line : List ℕ) → job.shown ≡ Objects → job.invert ≡ false
-    → WritesMatches old new p AsFields job.fit job.style place line → WritesLine p job place old new line
-objects_shows p job place old new line whole plain writes = (
-  (objects_by job.style place line writes.matches),
-  rw whole (where_false _ job.invert plain (writes.matches, writes.found, refl)),
-  writes.written,
-)
-
--- where lines are turned round no match is written
-pub nothing_of_matches : (p : Patterns) (job : Job) (place : Place) (line : List ℕ) → job.shown ≡ Matches → job.invert ≡ true → ShowsLine p job place line []
-nothing_of_matches p job place line whole turned = rw whole (where_true _ job.invert turned refl)
-
--- and no object
-pub nothing_of_objects : (p : Patterns) (job : Job) (place : Place) (line : List ℕ) → job.shown ≡ Objects → job.invert ≡ true → ShowsLine p job place line []
-nothing_of_objects p job place line whole turned = rw whole (where_true _ job.invert turned refl)
-
--- where neither lines nor matches nor objects are asked for nothing is written
-pub nothing_else : (p : Patterns) (shown : Shown) (fit : Fit) (invert : Bool) (style : Style) (place : Place) (line : List ℕ) → (shown ≡ Lines → ⊥) → (shown ≡ Matches → ⊥)
-    → (shown ≡ Objects → ⊥) → ShowsBy p shown fit invert style place line []
-nothing_else p shown fit invert style place line whole matches objects = grind (arith, common_steps)
+-- nothing is where lines are not asked for and are turned round, or neither matches nor objects are asked for
+pub nothing_shown : (p : Patterns) (shown : Shown) (fit : Fit) (invert : Bool) (style : Style) (place : Place) (line : List ℕ) → (shown ≡ Lines → ⊥) → (shown ≡ Matches → invert ≡ true)
+    → (shown ≡ Objects → invert ≡ true) → ShowsBy p shown fit invert style place line []
+nothing_shown p shown fit invert style place line whole matches objects = grind (arith, common_steps)
 
 -- what stands before a line is the same
 same_head : (job : Job) (a b : Place) (offset : ℕ) (bytes : List ℕ) → SamePlace job a b → head_of job.style (line_number_at a) offset bytes ≡ head_of job.style (line_number_at b) offset bytes
@@ -198,55 +169,31 @@ selected_by p fit invert matched line is selects = grind (arith, common_steps)
 pub passed_by : (p : Patterns) (fit : Fit) (invert matched : Bool) (line : List ℕ) → IsMatched p fit line matched → selects matched invert ≡ false → IsPassedOver p fit invert line
 passed_by p fit invert matched line is passes = grind (arith, common_steps)
 
--- where no pattern occurs in any line, and such lines are not selected, nothing is written
-tells_passed : (p : Patterns) (job : Job) (ls : List (List ℕ)) (place : Place) (count : ℕ) → job.invert ≡ false → EachLine (HasNone p) ls → TellsOfLines p job place count ls [] count
-tells_passed p job [] place count plain each = (refl, refl)
-tells_passed p job (line ∷ rest) place count plain (none, each) =
+-- where no line is selected nothing is told
+tells_passed : (p : Patterns) (job : Job) (ls : List (List ℕ)) (place : Place) (count : ℕ) → EachLine (IsPassedOver p job.fit job.invert) ls → TellsOfLines p job place count ls [] count
+tells_passed p job [] place count each = (refl, refl)
+tells_passed p job (line ∷ rest) place count (passed, each) =
     elim (cases_Bool (is_full job.most count)) [
       | inl full ↦ inl (full, refl, refl)
-      | inr goes ↦ inr (
-        goes,
-        inr (subst (λ (b : Bool). MatchBool b (DoesMatch p job.fit line) (DoesNotMatch p job.fit line)) (sym plain) (none_matches p job.fit line none), tells_passed p job rest (after_line place line) count plain each),
-      )
+      | inr goes ↦ inr (goes, inr (passed, tells_passed p job rest (after_line place line) count each))
     ]
 
 module _ (p : Patterns) (job : Job) where
   -- a line that is selected
-  pub one_selected : (before after : State) (old new : Option (List ℕ)) (line : List ℕ) → IsSelected p job.fit job.invert line → after.selected ≡ next_count job.most before.selected
-      → WritesNext p job before old new line → TellsLines p job before after old new (line ∷ [])
-  one_selected before after old new line selected counted writes =
-      elim (cases_Bool (is_full job.most before.selected)) [
-        | inl full ↦
-            let count : after.selected ≡ before.selected = counted ∙ ap (λ (b : Bool). if b then before.selected else one_more before.selected) full in
-            record { bytes = []; told = inl (full, refl, count); written = rw (rw full at writes) (Appends-nil old) }
-        | inr goes ↦
-            let (bytes, shows, written) = rw goes at writes in
-            record {
-              bytes = bytes;
-              told = inr (goes, inl (selected, (bytes, [], shows, (refl, (counted ∙ ap (λ (b : Bool). if b then before.selected else one_more before.selected) goes)), sym (append-nil bytes))));
-              written = written;
-            }
-      ]
+  pub one_selected : (a b : State) (x y : Option (List ℕ)) (line : List ℕ) → is_full job.most a.selected ≡ false → IsSelected p job.fit job.invert line → b.selected ≡ one_more a.selected
+      → WritesLine p job a.place x y line → TellsLines p job a b x y (line ∷ [])
+  one_selected a b x y line goes selected counted (bytes, shows, written) =
+      record { bytes = bytes; told = inr (goes, inl (selected, (bytes, [], shows, (refl, counted), sym (append-nil bytes)))); written = written }
 
-  -- a line that is not
-  pub one_passed : (before after : State) (old new : Option (List ℕ)) (line : List ℕ) → IsPassedOver p job.fit job.invert line → after.selected ≡ before.selected
-      → new ≡ old → TellsLines p job before after old new (line ∷ [])
-  one_passed before after old new line passed counted unwritten = record {
-    bytes = [];
-    told = elim (cases_Bool (is_full job.most before.selected)) [
-      | inl full ↦ inl (full, refl, counted)
-      | inr goes ↦ inr (goes, inr (passed, (refl, counted)))
-    ];
-    written = subst (λ (held : Option (List ℕ)). Appends old held []) (sym unwritten) (Appends-nil old);
-  }
+  -- lines that are not
+  pub all_passed : (a b : State) (x : Option (List ℕ)) (ls : List (List ℕ)) → EachLine (IsPassedOver p job.fit job.invert) ls → b.selected ≡ a.selected → TellsLines p job a b x x ls
+  all_passed a b x ls each counted =
+      record { bytes = []; told = subst (TellsOfLines p job a.place a.selected ls []) (sym counted) (tells_passed p job ls a.place a.selected each); written = Appends-nil x }
 
-  pub all_passed : (before after : State) (old new : Option (List ℕ)) (ls : List (List ℕ)) → job.invert ≡ false → EachLine (HasNone p) ls → after.selected ≡ before.selected
-      → new ≡ old → TellsLines p job before after old new ls
-  all_passed before after old new ls plain each counted unwritten = record {
-    bytes = [];
-    told = subst (λ (n : ℕ). TellsOfLines p job before.place before.selected ls [] n) (sym counted) (tells_passed p job ls before.place before.selected plain each);
-    written = subst (λ (held : Option (List ℕ)). Appends old held []) (sym unwritten) (Appends-nil old);
-  }
+  -- as those in which no pattern occurs
+  pub each_passed : (ls : List (List ℕ)) → job.invert ≡ false → EachLine (HasNone p) ls → EachLine (IsPassedOver p job.fit job.invert) ls
+  each_passed [] plain each = tt
+  each_passed (line ∷ rest) plain (none, each) = (passed_by p job.fit job.invert false line (none_matches p job.fit line none) (ap (selects false) plain), each_passed rest plain each)
 
   pub tells_join : (a b c : State) (x y z : Option (List ℕ)) (ls ms : List (List ℕ)) → TellsLines p job a b x y ls → SamePlace job b.place (after_lines a.place ls)
       → TellsLines p job b c y z ms → TellsLines p job a c x z (ls ++ ms)
@@ -285,61 +232,32 @@ module _ (p : Patterns) (job : Job) where
     rest = other.rest ∙ ap (drop other.at) one.rest ∙ drop-drop other.at one.at text;
   }
 
-  -- lines with no match, and one with a match
+  -- lines with no match, and one more
   pub searches_line : (a b c : State) (x y z : Option (List ℕ)) (text front line left : List ℕ) (at : ℕ)
-      → lines job.style.ending text ≡ lines job.style.ending front ++ (line ∷ lines job.style.ending left) → left ≡ drop at text
-      → TellsLines p job a b x y (lines job.style.ending front) → SamePlace job b.place (after_lines a.place (lines job.style.ending front))
-      → TellsLines p job b c y z (line ∷ []) → c.place ≡ after_line b.place line → SearchesTo p job a c x z text left
-  searches_line a b c x y z text front line left at cut rest one same other placed =
+      → lines job.style.ending text ≡ lines job.style.ending front ++ (line ∷ lines job.style.ending left) → left ≡ drop at text → SearchesTo p job a b x y front []
+      → EndsLine job.style.ending front → TellsLines p job b c y z (line ∷ []) → c.place ≡ after_line b.place line → SearchesTo p job a c x z text left
+  searches_line a b c x y z text front line left at cut rest so_far ends other placed =
       let (from, within, same_rest) = drop_within at text in
+      let same : SamePlace job b.place (after_lines a.place so_far.searched) = so_far.placed (inr ends) in
       record {
-        searched = lines job.style.ending front ++ (line ∷ []);
-        cut = cut ∙ sym (append_assoc (lines job.style.ending front) (line ∷ []) (lines job.style.ending left));
-        tells = tells_join a b c x y z (lines job.style.ending front) (line ∷ []) one same other;
-        placed = λ h. rw (after_append (lines job.style.ending front) (line ∷ []) a.place) (rw placed (same_line job b.place (after_lines a.place (lines job.style.ending front)) line same));
+        searched = so_far.searched ++ (line ∷ []);
+        cut = cut ∙ ap (λ (l : List (List ℕ)). l ++ (line ∷ lines job.style.ending left)) (so_far.cut ∙ append-nil so_far.searched) ∙ sym (append_assoc so_far.searched (line ∷ []) (lines job.style.ending left));
+        tells = tells_join a b c x y z so_far.searched (line ∷ []) so_far.tells same other;
+        placed = λ h. rw (after_append so_far.searched (line ∷ []) a.place) (rw placed (same_line job b.place (after_lines a.place so_far.searched) line same));
         at = from;
         within = within;
         rest = rest ∙ same_rest;
       }
 
   -- all lines
-  pub searches_all : (a b : State) (x y : Option (List ℕ)) (text left : List ℕ) → left ≡ [] → TellsLines p job a b x y (lines job.style.ending text)
-      → (EndsLine job.style.ending text → SamePlace job b.place (after_lines a.place (lines job.style.ending text))) → SearchesTo p job a b x y text left
-  searches_all a b x y text left none told placed = record {
+  pub searches_all : (a b : State) (x y : Option (List ℕ)) (text : List ℕ) → TellsLines p job a b x y (lines job.style.ending text)
+      → (EndsLine job.style.ending text → SamePlace job b.place (after_lines a.place (lines job.style.ending text))) → SearchesTo p job a b x y text []
+  searches_all a b x y text told placed = record {
     searched = lines job.style.ending text;
-    cut = sym (append-nil (lines job.style.ending text)) ∙ ap (λ (l : List ℕ). lines job.style.ending text ++ lines job.style.ending l) (sym none);
+    cut = sym (append-nil (lines job.style.ending text));
     tells = told;
-    placed = λ h. elim h [ inl more ↦ absurd (omega (arith, more, ap length none)) | inr ends ↦ placed ends ];
+    placed = λ h. elim h [ inl more ↦ absurd (omega (arith, more)) | inr ends ↦ placed ends ];
     at = length text;
     within = omega arith;
-    rest = none ∙ sym (drop_all (length text) text (omega arith));
+    rest = sym (drop_all (length text) text (omega arith));
   }
-
--- selected lines so far
-pub record Passing (p : Patterns) (job : Job) (before after : State) (old new : Option (List ℕ)) (text rest : List ℕ) : Type 0 where
-  pub searched : List (List ℕ)
-  pub cut : lines job.style.ending text ≡ searched ++ lines job.style.ending rest
-  pub tells : TellsLines p job before after old new searched
-  pub placed : after.place ≡ after_lines before.place searched
-  pub each : EachLine (HasNone p) (lines job.style.ending rest)
-
--- one more
-pub passing_step : (p : Patterns) (job : Job) (a b c : State) (x y z : Option (List ℕ)) (text rest line left : List ℕ) → job.invert ≡ true → lines job.style.ending rest ≡ line ∷ lines job.style.ending left
-    → c.place ≡ after_line b.place line → c.selected ≡ next_count job.most b.selected → WritesNext p job b y z line → Passing p job a b x y text rest → Passing p job a c x z text left
-passing_step p job a b c x y z text rest line left invert first placed counted writes so_far =
-    let each : EachLine (HasNone p) (line ∷ lines job.style.ending left) = subst (EachLine (HasNone p)) first so_far.each in
-    let selected : IsSelected p job.fit job.invert line =
-    subst (λ (b : Bool). MatchBool b (DoesNotMatch p job.fit line) (DoesMatch p job.fit line)) (sym invert) (none_matches p job.fit line each.0) in
-    let there : SamePlace job b.place (after_lines a.place so_far.searched) = subst (λ (place : Place). SamePlace job b.place place) so_far.placed (same_place job b.place) in
-    record {
-      searched = so_far.searched ++ (line ∷ []);
-      cut = so_far.cut ∙ ap (λ (l : List (List ℕ)). so_far.searched ++ l) first ∙ sym (append_assoc so_far.searched (line ∷ []) (lines job.style.ending left));
-      tells = tells_join p job a b c x y z so_far.searched (line ∷ []) so_far.tells there (one_selected p job b c y z line selected counted writes);
-      placed = placed ∙ ap (λ (place : Place). after_line place line) so_far.placed ∙ sym (after_append so_far.searched (line ∷ []) a.place);
-      each = each.1;
-    }
-
--- none is left
-pub passing_end : (p : Patterns) (job : Job) (a b : State) (x y : Option (List ℕ)) (text rest : List ℕ) → rest ≡ [] → Passing p job a b x y text rest → TellsLines p job a b x y (lines job.style.ending text)
-passing_end p job a b x y text rest none so_far =
-    subst (TellsLines p job a b x y) (sym (so_far.cut ∙ ap (λ (l : List ℕ). so_far.searched ++ lines job.style.ending l) none ∙ append-nil so_far.searched)) so_far.tells

@@ -3,7 +3,7 @@ use Rattle.acgrep.specs.Common.{Appends, Occurrence, Patterns, Writers}
 use Rattle.std.specs.Prelude.{List, OnOk, Option, Result, [], length, ℕ}
 use Rattle.acgrep.specs.Alone.{AreShownOf}
 use Rattle.acgrep.specs.Objects.{object_by, objects_by}
-use Rattle.acgrep.specs.Printed.{behind_match, colored_by, colored_from, colored_line_by, match_by, matches_by, part_of}
+use Rattle.acgrep.specs.Printed.{behind_match, colored_by, colored_from, match_by, matches_by, part_of}
 use Rattle.acgrep.specs.Searchers.{Seeks}
 use Rattle.acgrep.specs.declared.job.Query.{Query}
 use Rattle.acgrep.specs.declared.matches.Shape.{Shape}
@@ -40,19 +40,8 @@ pub record WritesMatches (old new : Option (List ℕ)) (p : Patterns) (shape : S
   pub found : AreShownOf p fit line matches
   pub written : Appends old new (shown_from shape style place line 0 matches)
 
--- a line with its matches in colour is written, and nothing else
-pub record WritesColored (old new : Option (List ℕ)) (p : Patterns) (fit : Fit) (style : Style) (place : Place) (line : List ℕ) : Type 0 where
-  pub matches : List Occurrence
-  pub found : AreShownOf p fit line matches
-  pub written : Appends old new (colored_line_by style place line matches)
-
 module _ {W : Type 0} (writers : Writers W) (query : Query) where
   -- where a call does not fail the matches of the patterns that are sought were written
   abbrev pub PutsMatches : Shape → Fit → Place → List ℕ → (old new : W) → {T E : Type 0} → Result T E → Type 0
   PutsMatches shape fit place line old new result = (p : Patterns) → Seeks query p
       → OnOk result (WritesMatches (writers.contents old) (writers.contents new) p shape fit query.job.style place line)
-
-  -- or a line was with those matches in colour
-  abbrev pub PutsColored : Place → List ℕ → (old new : W) → {T E : Type 0} → Result T E → Type 0
-  PutsColored place line old new result = (p : Patterns) → Seeks query p
-      → OnOk result (WritesColored (writers.contents old) (writers.contents new) p query.job.fit query.job.style place line)

@@ -1,7 +1,7 @@
 -- What searching does, whatever patterns the searcher was built from.
-use Rattle.acgrep.specs.Common.{Appends, Bor, Patterns, Readers, SinkGhosts, Writers}
-use Rattle.std.specs.Prelude.{◌∷◌, Bool, IfOk, List, OnErr, OnOk, Option, Result, [], ℕ}
-use Rattle.acgrep.specs.Contexts.{BeginsLines, BeginsSearched, IsChosenBy, SearchesText, ShowsEach, WalksBegun, WalksLines, WalksText, walk_of}
+use Rattle.acgrep.specs.Common.{Appends, Patterns, Readers, SinkGhosts, Writers}
+use Rattle.std.specs.Prelude.{◌∷◌, Bool, IfOk, List, OnErr, OnOk, Option, Result, [], true, ℕ}
+use Rattle.acgrep.specs.Contexts.{BeginsLines, BeginsSearched, IsChosenBy, SearchesText, ShowsEach, WalksBegun, WalksLines, walk_of}
 use Rattle.acgrep.specs.Files.{BeginsFile, SearchesReader}
 use Rattle.acgrep.specs.Filled.{bytes_buffered}
 use Rattle.acgrep.specs.Guarded.{FindsSelected}
@@ -9,7 +9,7 @@ use Rattle.acgrep.specs.InTurn.{IfBroken, IfSearched}
 use Rattle.acgrep.specs.Searchers.{ForQuery, Seeks}
 use Rattle.acgrep.specs.Selected.{lines_by}
 use Rattle.acgrep.specs.Streamed.{BeginsBehind}
-use Rattle.acgrep.specs.Written.{EachLine, HasNone, SearchesPlain, SearchesTo, TellsLines, WritesLine, WritesNext}
+use Rattle.acgrep.specs.Written.{EachLine, HasNone, IsSelected, SearchesPlain, SearchesTo, TellsLines, WritesLine}
 use Rattle.acgrep.specs.declared.buffer.Buffer.{Buffer}
 use Rattle.acgrep.specs.declared.files.Outcome.{Outcome}
 use Rattle.acgrep.specs.declared.options.Context.{Context}
@@ -21,9 +21,9 @@ use Rattle.acgrep.specs.declared.job.State.{State}
 abbrev pub WritesLineBy : Query → Place → (held held' : Option (List ℕ)) → List ℕ → {T E : Type 0} → Result T E → Type 0
 WritesLineBy query place held held' line result = (p : Patterns) → Seeks query p → OnOk result (WritesLine p query.job place held held' line)
 
--- the same of a selected line behind others
-abbrev pub WritesNextBy : Query → State → (held held' : Option (List ℕ)) → List ℕ → {T E : Type 0} → Result T E → Type 0
-WritesNextBy query before held held' line result = (p : Patterns) → Seeks query p → OnOk result (WritesNext p query.job before held held' line)
+-- a line is selected
+abbrev pub IsSelectedBy : Query → Patterns → List ℕ → Type 0
+IsSelectedBy query p line = IsSelected p query.job.fit query.job.invert line
 
 -- the lines of a text are searched where a call does not fail, and where it fails a beginning of what is told of them is written
 module _ {W : Type 0} (sinks : SinkGhosts W) (query : Query) (before after : State) (old new : W) where
@@ -44,16 +44,7 @@ module _ {W : Type 0} (sinks : SinkGhosts W) (query : Query) (before after : Sta
   BeginsPlainBy text result =
       ForQuery query (λ p. OnErr result (BeginsLines p query.job before after.selected (sinks.taken old) (sinks.taken new) (lines_by query.job text)))
 
-  -- where they are
-  abbrev pub WalksBy : {T E : Type 0} → Context → List ℕ → Result T E → Type 0
-  WalksBy context text result =
-      (p : Patterns) → Seeks query p → OnOk result (WalksText p query.job context before after (sinks.taken old) (sinks.taken new) text)
-
-  abbrev pub BegunBy : {T E : Type 0} → Context → List ℕ → Result T E → Type 0
-  BegunBy context text result =
-      (p : Patterns) → Seeks query p → OnErr result (WalksBegun p query.job context (walk_of before) (sinks.taken old) (sinks.taken new) (lines_by query.job text))
-
-  -- of one line
+  -- where they are, of one line
   abbrev pub StepsBy : {T E : Type 0} → Context → List ℕ → Result T E → Type 0
   StepsBy context line result = (p : Patterns) → Seeks query p
       → OnOk result (WalksLines p query.job context (walk_of before) (walk_of after) (sinks.taken old) (sinks.taken new) (line ∷ []))
@@ -62,19 +53,14 @@ module _ {W : Type 0} (sinks : SinkGhosts W) (query : Query) (before after : Sta
   BeginsLineAround context line result = (p : Patterns) → Seeks query p
       → OnErr result (WalksBegun p query.job context (walk_of before) (sinks.taken old) (sinks.taken new) (line ∷ []))
 
-  -- by whether it is selected, where more are asked for
-  abbrev pub WalksWhere : {T E : Type 0} → Bool → Context → List ℕ → Result T E → Type 0
-  WalksWhere chosen context line result = (p : Patterns) → Seeks query p → IsChosenBy p query.job before.selected line chosen
+  -- that is selected, where more are asked for
+  abbrev pub WalksChosen : {T E : Type 0} → Context → List ℕ → Result T E → Type 0
+  WalksChosen context line result = (p : Patterns) → Seeks query p → IsChosenBy p query.job before.selected line true
       → OnOk result (WalksLines p query.job context (walk_of before) (walk_of after) (sinks.taken old) (sinks.taken new) (line ∷ []))
 
-  abbrev pub BeginsWalkWhere : {T E : Type 0} → Bool → Context → List ℕ → Result T E → Type 0
-  BeginsWalkWhere chosen context line result = (p : Patterns) → Seeks query p → IsChosenBy p query.job before.selected line chosen
+  abbrev pub BeginsChosen : {T E : Type 0} → Context → List ℕ → Result T E → Type 0
+  BeginsChosen context line result = (p : Patterns) → Seeks query p → IsChosenBy p query.job before.selected line true
       → OnErr result (WalksBegun p query.job context (walk_of before) (sinks.taken old) (sinks.taken new) (line ∷ []))
-
-  -- up to those that are answered
-  abbrev pub SearchesSomeBy : {E : Type 0} → List ℕ → Result (Bor (List ℕ)) E → Type 0
-  SearchesSomeBy text result =
-      ForQuery query (λ p. IfOk result (λ left. SearchesTo p query.job before after (sinks.taken old) (sinks.taken new) text left.now))
 
   -- of a line of which that holds
   abbrev pub TellsWhere : {T E : Type 0} → (Patterns → List ℕ → Type 0) → List ℕ → Result T E → Type 0
@@ -85,9 +71,9 @@ module _ {W : Type 0} (sinks : SinkGhosts W) (query : Query) (before after : Sta
       (p : Patterns) → Seeks query p → Holds p line → OnErr result (BeginsLines p query.job before after.selected (sinks.taken old) (sinks.taken new) (line ∷ []))
 
   -- of lines without a match
-  abbrev pub TellsOthersBy : {T E : Type 0} → List ℕ → Result T E → Type 0
-  TellsOthersBy text result = (p : Patterns) → Seeks query p → EachLine (HasNone p) (lines_by query.job text)
-      → OnOk result (TellsLines p query.job before after (sinks.taken old) (sinks.taken new) (lines_by query.job text))
+  abbrev pub SearchesOthersBy : {T E : Type 0} → List ℕ → Result T E → Type 0
+  SearchesOthersBy text result = (p : Patterns) → Seeks query p → EachLine (HasNone p) (lines_by query.job text)
+      → OnOk result (SearchesTo p query.job before after (sinks.taken old) (sinks.taken new) text [])
 
   abbrev pub BeginsOthersBy : {T E : Type 0} → List ℕ → Result T E → Type 0
   BeginsOthersBy text result = (p : Patterns) → Seeks query p → EachLine (HasNone p) (lines_by query.job text)

@@ -3,7 +3,7 @@
 ghost use Rattle.std.specs.Prelude.{◌≡◌, ◌<◌, ◌++◌, decimal};
 ghost use Rattle.std.specs.Str.{is_utf8};
 ghost use Rattle.acgrep.specs.Printed.{Puts};
-ghost use Rattle.acgrep.specs.Objects.{bytes_named, escaped_byte, fields_told, formatted_by, hex_of, json_by, json_escaped, json_front, object_by, stands_for};
+ghost use Rattle.acgrep.specs.Objects.{bytes_named, escaped_byte, fields_told, hex_of, json_by, json_escaped, json_front, object_by, stands_for};
 
 use crate::fields::{Fields, fields_of, put_decimal};
 use crate::format::Piece;
@@ -31,7 +31,12 @@ pub fn put_object<W: Write>(
     let fields = fields_of(style, place, line, found);
     match style.form {
         Form::Json => put_json(output, &fields),
-        Form::Pieces(pieces) => put_formatted(output, pieces, &fields, style.ending),
+        Form::Pieces(pieces) => {
+            for piece in pieces {
+                put_piece(output, *piece, &fields)?;
+            }
+            output.write_all(&[style.ending])
+        }
     }
 }
 
@@ -82,22 +87,6 @@ pub fn is_text(bytes: &[u8]) -> bool
         Ok(_) => true,
         Err(_) => false,
     }
-}
-
-/// Writes a match by a format, on a line of its own.
-fn put_formatted<W: Write>(
-    output: &mut W,
-    pieces: &[Piece],
-    fields: &Fields<'_>,
-    ending: u8,
-) -> io::Result<()>
-    ensures written { Puts W.Write output.old output.new result
-        (formatted_by ending pieces.now (fields_told fields.now)) }
-{
-    for piece in pieces {
-        put_piece(output, *piece, fields)?;
-    }
-    output.write_all(&[ending])
 }
 
 /// Writes what a piece of a format stands for.

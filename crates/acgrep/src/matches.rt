@@ -5,7 +5,7 @@ ghost use Rattle.std.specs.Prelude.{◌≡◌, IfOk, IfSome, None};
 ghost use Rattle.aho_core.specs.Iteration.{AreFinds};
 ghost use Rattle.aho_core.specs.Search.{plain_search};
 ghost use Rattle.chromesquid.specs.Searcher.{ForItsPatterns, IsBuiltFromSome};
-ghost use Rattle.acgrep.specs.Matches.{PutsColored, PutsMatches, behind_by, found_by, rest_behind, shown_from};
+ghost use Rattle.acgrep.specs.Matches.{PutsMatches, behind_by, found_by, rest_behind, shown_from};
 ghost use Rattle.acgrep.specs.Printed.{Puts, PutsEach};
 ghost use Rattle.acgrep.specs.declared.options.Fit.TheVariants.{AnyPart, WholeLine, WholeWord};
 
@@ -14,7 +14,7 @@ use crate::failure::Stop;
 use crate::job::Query;
 use crate::json::put_object;
 use crate::options::Fit;
-use crate::print::{Place, Style, part, put_head, put_match, put_up_to};
+use crate::print::{Place, Style, part, put_match, put_up_to};
 use crate::whole::find_whole;
 use chromesquid::{AhoCorasick, Match};
 use std::alloc::Global;
@@ -30,25 +30,6 @@ pub enum Shape {
     OnLines,
     /// Each with its fields, as an object or by a format.
     AsFields,
-}
-
-/// Writes a line with its matches that fit coloured.
-pub fn put_colored_line<W: Write>(
-    query: &Query<'_>,
-    place: Place,
-    line: &[u8],
-    output: &mut W,
-) -> Result<(), Stop>
-    requires of { IsBuiltFromSome query.now.searcher.now }
-    ensures written { PutsColored W.Write query.now
-        place line.now output.old output.new result }
-{
-    let style = &query.job.style;
-    let number = place.lines.wrapping_add(1);
-    put_head(output, style, number, place.bytes, line)?;
-    put_matches(query, Shape::Colored, place, line, output)?;
-    output.write_all(&[style.ending])?;
-    Ok(())
 }
 
 /// Writes each match of a line that fits: each that is not empty, each of those that stand alone, or the one that is the line.

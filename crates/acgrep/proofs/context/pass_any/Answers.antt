@@ -1,26 +1,45 @@
--- A line is selected or not.
-use Rattle.std.proofs.Common.{subst}
-use Rattle.acgrep.specs.Contexts.{IsChosenBy, walk_of}
-use Rattle.acgrep.proofs.Beginnings.{on_err}
-use Rattle.acgrep.proofs.Stepped.{none_begun}
+-- A line is selected, or held, or written where it is due.
+use Rattle.acgrep.proofs.Common.{AppendsBeginning}
+use Rattle.std.proofs.Common.{◌≡◌, ap, arith, refl, subst}
+use Rattle.acgrep.specs.Contexts.{Holding, walk_of}
+use Rattle.acgrep.proofs.Beginnings.{on_err, page_bytes, page_writes}
+use Rattle.acgrep.proofs.Stepped.{due_begun, due_lines, none_begun, passed_lines, walk_same}
 use Rattle.acgrep.proofs.context.pass_any.Goals as goal
 
 pub returns-in_err-is_chosen-clause-begun : goal.returns-in_err-is_chosen-clause-begun
-returns-in_err-is_chosen-clause-begun g c = λ p is.
-    on_err c.from_residual.result (none_begun p c.args.query.now.job c.args.context.now (walk_of c.args.state.now) c.args.line.now _)
+returns-in_err-is_chosen-clause-begun g c = λ p is. on_err c.from_residual.result (none_begun p _ _ _ _ _)
 
 pub returns-then-branch-clause-walks : goal.returns-then-branch-clause-walks
-returns-then-branch-clause-walks g c = λ p is.
-    c.pass_chosen.ensures.walks p is (subst (IsChosenBy p c.args.query.now.job c.args.state.now.selected c.args.line.now) c.if-branch.true (c.in_ok-is_chosen.ensures.chosen p is))
+returns-then-branch-clause-walks g c = λ p is. c.pass_chosen.ensures.walks p is (rw c.if-branch.true at c.in_ok-is_chosen.ensures.chosen p is)
 
 pub returns-then-branch-clause-begun : goal.returns-then-branch-clause-begun
-returns-then-branch-clause-begun g c = λ p is.
-    c.pass_chosen.ensures.begun p is (subst (IsChosenBy p c.args.query.now.job c.args.state.now.selected c.args.line.now) c.if-branch.true (c.in_ok-is_chosen.ensures.chosen p is))
+returns-then-branch-clause-begun g c = λ p is. c.pass_chosen.ensures.begun p is (rw c.if-branch.true at c.in_ok-is_chosen.ensures.chosen p is)
+
+pub returns-then-state-eq0-clause-walks : goal.returns-then-state-eq0-clause-walks
+returns-then-state-eq0-clause-walks g c = λ p is.
+    let held = c.in_ok-hold.ensures.held in
+    passed_lines p _ _ (walk_of c.args.state.now) _ _ _ (omega arith) (rw c.if-branch.false at c.in_ok-is_chosen.ensures.chosen p is)
+    (walk_same _ _ c.behind_line-state.ensures.place refl c.in_ok-hold.ensures.due c.in_ok-hold.ensures.some (ap (λ (h : Holding). h.apart) held) (ap (λ (h : Holding). h.first) held) (ap (λ (h : Holding). h.held) held))
+
+pub returns-in_err-hold-clause-begun : goal.returns-in_err-hold-clause-begun
+returns-in_err-hold-clause-begun g c = λ p is. on_err _ (none_begun p _ _ _ _ _)
+
+pub returns-in_err-put_shown-clause-begun : goal.returns-in_err-put_shown-clause-begun
+returns-in_err-put_shown-clause-begun g c = λ p is. on_err _ (none_begun p _ _ _ _ _)
+
+pub returns-in_err-write_whole-clause-begun : goal.returns-in_err-write_whole-clause-begun
+returns-in_err-write_whole-clause-begun g c = λ p is.
+    let held = g.W.Sink.taken c.args.output.now in
+    let held' = g.W.Sink.taken c.write_whole.new.sink in
+    let (bytes, shows, put) = rw c.beside.ensures.beside at c.in_ok-put_shown.ensures.shown p is in
+    let same : c.as_slice.result.now ≡ bytes =
+    page_bytes c.clear.new.self.items c.put_shown.new.output.items c.as_slice.result.now bytes c.clear.ensures.items c.as_slice.ensures.value put in
+    on_err _ (due_begun p _ c.args.context.now (walk_of c.args.state.now) c.args.line.now bytes held held' (omega arith) (rw c.if-branch.false at c.in_ok-is_chosen.ensures.chosen p is) shows
+    (subst (AppendsBeginning held held') same c.in_err-write_whole.ensures.beginning))
 
 pub returns-clause-walks : goal.returns-clause-walks
 returns-clause-walks g c = λ p is.
-    c.pass_beside.ensures.walks p is (subst (IsChosenBy p c.args.query.now.job c.args.state.now.selected c.args.line.now) c.if-branch.false (c.in_ok-is_chosen.ensures.chosen p is))
-
-pub returns-clause-begun : goal.returns-clause-begun
-returns-clause-begun g c = λ p is.
-    c.pass_beside.ensures.begun p is (subst (IsChosenBy p c.args.query.now.job c.args.state.now.selected c.args.line.now) c.if-branch.false (c.in_ok-is_chosen.ensures.chosen p is))
+    due_lines p _ c.args.context.now (walk_of c.args.state.now) _ c.args.line.now _ _ (omega arith) (rw c.if-branch.false at c.in_ok-is_chosen.ensures.chosen p is)
+    (rw (c.beside.ensures.beside) at (page_writes p c.beside.result _ _ _ _ c.clear.new.self.items c.put_shown.new.output.items c.as_slice.result.now
+    c.clear.ensures.items c.as_slice.ensures.value (c.in_ok-put_shown.ensures.shown p is) c.in_ok-write_whole.ensures.whole))
+    (walk_same _ _ c.behind_line-state.ensures.place refl refl refl refl refl refl)

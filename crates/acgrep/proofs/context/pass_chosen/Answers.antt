@@ -20,21 +20,21 @@ group_of g c p is =
     let meanwhile = Some c.put_each_line.new.output.items in
     let all = c.put_shown.new.output.items in
     let held = subst (λ (job : Job). (bytes : List ℕ) × ShowsEach p job trail.first (held_lines trail.held) bytes × Appends between meanwhile bytes) c.beside.ensures.beside (c.in_ok-put_each_line.ensures.shown p is) in
-    let (bytes, shows, put) = group_put p c.args.query.now.job c.args.context.now (walk_of c.args.state.now) c.args.line.now c.is_parted.result (Some none) between meanwhile (Some all)
-    c.is_parted.ensures.parted c.in_ok-put_between.ensures.written held (c.in_ok-put_shown.ensures.shown p is) in
+    let (bytes, shows, put) = group_put p c.args.query.now.job c.args.context.now (walk_of c.args.state.now) c.args.line.now (Some none) between meanwhile (Some all)
+    c.in_ok-put_between.ensures.written held (c.in_ok-put_shown.ensures.shown p is) in
     (bytes, shows, page_bytes none all c.as_slice.result.now bytes c.clear.ensures.items c.as_slice.ensures.value put)
 
 pub returns-in_err-put_between-clause-begun : goal.returns-in_err-put_between-clause-begun
 returns-in_err-put_between-clause-begun g c = λ p is chosen.
-    on_err c.from_residual.result (none_begun p c.args.query.now.job c.args.context.now (walk_of c.args.state.now) c.args.line.now _)
+    on_err c.from_residual.result (none_begun p _ _ _ _ _)
 
 pub returns-in_err-put_each_line-clause-begun : goal.returns-in_err-put_each_line-clause-begun
 returns-in_err-put_each_line-clause-begun g c = λ p is chosen.
-    on_err c.from_residual-in_err-put_each_line.result (none_begun p c.args.query.now.job c.args.context.now (walk_of c.args.state.now) c.args.line.now _)
+    on_err c.from_residual-in_err-put_each_line.result (none_begun p _ _ _ _ _)
 
 pub returns-in_err-put_shown-clause-begun : goal.returns-in_err-put_shown-clause-begun
 returns-in_err-put_shown-clause-begun g c = λ p is chosen.
-    on_err c.from_residual-in_err-put_shown.result (none_begun p c.args.query.now.job c.args.context.now (walk_of c.args.state.now) c.args.line.now _)
+    on_err c.from_residual-in_err-put_shown.result (none_begun p _ _ _ _ _)
 
 pub returns-in_err-write_whole-clause-begun : goal.returns-in_err-write_whole-clause-begun
 returns-in_err-write_whole-clause-begun g c = λ p is chosen.
