@@ -3,7 +3,7 @@ use Rattle.acgrep.proofs.Common.{Appends, AppendsBeginning, Job, Patterns, Place
 use Rattle.std.proofs.Common.{◌++◌, ◌<◌, ◌∙◌, ◌∷◌, ◌≡◌, List, None, Option, Some, [], ap, append-nil, false, inl, inr, length, refl, subst, sym, ℕ}
 use Rattle.std.specs.Prelude.{Err, Ok, OnErr, Result}
 use Rattle.acgrep.specs.Contexts.{BeginsLines, TellsFrom}
-use Rattle.acgrep.specs.Lines.{lines}
+use Rattle.acgrep.specs.Lines.{EndsLine, lines}
 use Rattle.acgrep.specs.Written.{IsSelected, SamePlace, SearchesTo, TellsLines, WritesLine, after_lines, is_full, one_more}
 use Rattle.acgrep.proofs.Begun.{begins_behind, begins_more, begins_some}
 use Rattle.acgrep.proofs.Tellings.{tells_append, tells_same}

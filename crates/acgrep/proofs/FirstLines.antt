@@ -3,6 +3,7 @@ use Rattle.acgrep.proofs.Common.{Nowhere, cases_Bool, pieces_of, true≢false}
 use Rattle.std.proofs.Common.{◌++◌, ◌+◌, ◌<◌, ◌==◌, ◌∙◌, ◌∷◌, ◌≡◌, ◌≤◌, Bor, List, [], add-one, ap, arith, drop, false, inl, inr, length, refl, suc, sym, take, true, zero, ℕ}
 use Rattle.std.proofs.lemmas.List.Sums.{fails_before_first, passes_at_first, prefix_len-le-length}
 use Rattle.std.specs.List.{position_or_len}
+use Rattle.std.specs.Prelude.{not}
 use Rattle.memchr.specs.Find.{is_byte}
 use Rattle.acgrep.specs.Lines.{IsEnding, joined_to, lines}
 
@@ -41,8 +42,11 @@ module _ (ending : ℕ) where
   abbrev pub first_end : List ℕ → ℕ
   first_end text = position_or_len (is_byte ending) text
 
+  pub first_within : (text : List ℕ) → first_end text ≤ length text
+  first_within text = prefix_len-le-length (λ byte. not (is_byte ending byte)) text
+
   pub lines_cut : (text : List ℕ) → 0 < length text → lines ending text ≡ take (first_end text) text ∷ lines ending (drop (suc (first_end text)) text)
-  lines_cut text some = lines_first text (first_end text) some (prefix_len-le-length _ text) (λ k low high is. true≢false (sym is ∙ fails_before_first (is_byte ending) text k 0 high))
+  lines_cut text some = lines_first text (first_end text) some (first_within text) (λ k low high is. true≢false (sym is ∙ fails_before_first (is_byte ending) text k 0 high))
       (passes_at_first (is_byte ending) text 0)
 
 -- one more piece, and others behind it

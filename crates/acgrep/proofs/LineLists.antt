@@ -1,7 +1,6 @@
 -- The lines of a text that is cut, and patterns that occur in none of them.
 use Rattle.acgrep.proofs.Common.{IsSameWord, Occurrence, Occurs-in, OccursIn, Patterns, cases_Bool, cases_lt, common_steps, drop-drop, length-drop, length-take-le, pattern_at, plain_search, take_all}
 use Rattle.std.proofs.Common.{◌++◌, ◌+◌, ◌-◌, ◌<◌, ◌==◌, ◌∙◌, ◌∷◌, ◌≡◌, ◌≤◌, List, [], ap, arith, drop, inl, inr, length, refl, subst, suc, sym, take, take-append-drop, true, ℕ}
-use Rattle.std.proofs.lemmas.List.Sums.{prefix_len-le-length}
 use Rattle.std.specs.Prelude.{slice_range}
 use Rattle.aho_core.specs.Occurs.{Occurs}
 use Rattle.aho_core.specs.declared.search.Anchored.TheVariants.{No}
@@ -12,7 +11,7 @@ use Rattle.acgrep.specs.Lines.{EndsLine, IsEnding, joined_to, lines}
 use Rattle.acgrep.specs.Selected.{HoldNoEnding, IsFirstWith}
 use Rattle.acgrep.specs.Written.{EachLine, HasMatch, HasNone}
 use Rattle.acgrep.proofs.Around.{behind_newline, ends_before, front_newline, newline_behind}
-use Rattle.acgrep.proofs.FirstLines.{first_end, lines_cut, lines_first, lines_joined}
+use Rattle.acgrep.proofs.FirstLines.{first_end, first_within, lines_cut, lines_first, lines_joined}
 
 pub drop_zero : (xs : List ℕ) → drop 0 xs ≡ xs
 drop_zero _ = refl
@@ -38,7 +37,7 @@ module _ (ending : ℕ) where
 
   -- a text that is not empty begins with its first line
   pub first_line : (rest : List ℕ) (byte : ℕ) → (end : ℕ) × (others : List (List ℕ)) × (end ≤ suc (length rest)) × (lines ending (byte ∷ rest) ≡ take end (byte ∷ rest) ∷ others)
-  first_line rest byte = (first_end ending (byte ∷ rest), _, prefix_len-le-length _ (byte ∷ rest), lines_cut ending (byte ∷ rest) (omega arith))
+  first_line rest byte = (first_end ending (byte ∷ rest), _, first_within ending (byte ∷ rest), lines_cut ending (byte ∷ rest) (omega arith))
 
   -- behind a newline new lines begin
   pub lines_append : (a b : List ℕ) → EndsLine ending a → lines ending (a ++ b) ≡ lines ending a ++ lines ending b

@@ -1,14 +1,14 @@
 -- What occurs in no line of a text does not occur in it.
 use Rattle.acgrep.proofs.Common.{Occurrence, Occurs-in, OccursIn, Patterns, cases_lt, length-drop, plain_search, take_rest}
 use Rattle.std.proofs.Common.{◌-◌, ◌<◌, ◌≤◌, List, arith, drop, inl, inr, length, subst, suc, take, zero, ℕ}
-use Rattle.std.proofs.lemmas.List.Sums.{passes_at_first, prefix_len-le-length}
+use Rattle.std.proofs.lemmas.List.Sums.{passes_at_first}
 use Rattle.memchr.specs.Find.{is_byte}
 use Rattle.aho_laws.proofs.SpanTexts.{moved_back}
 use Rattle.acgrep.specs.Lines.{lines}
 use Rattle.acgrep.specs.Selected.{HoldNoEnding}
 use Rattle.acgrep.specs.Written.{EachLine, HasNone}
 use Rattle.acgrep.proofs.Around.{ends_before}
-use Rattle.acgrep.proofs.FirstLines.{first_end, lines_cut}
+use Rattle.acgrep.proofs.FirstLines.{first_end, first_within, lines_cut}
 use Rattle.acgrep.proofs.LineLists.{empty_first, in_part, slice_front}
 
 module _ (ending : ℕ) (p : Patterns) (plain : HoldNoEnding ending p) where
@@ -20,7 +20,7 @@ module _ (ending : ℕ) (p : Patterns) (plain : HoldNoEnding ending p) where
       let some : 0 < length text = omega (arith, occurs.before_end, full) in
       let (none, rest) = subst (EachLine (HasNone p)) (lines_cut ending text some) each in
       elim (cases_lt end m.start) [
-        | inr low ↦ none (moved_back 0 m) (subst (λ (l : List ℕ). OccursIn p (plain_search l) (moved_back 0 m)) (slice_front text end) (in_part ending p text 0 end m (omega arith) (prefix_len-le-length _ text)
+        | inr low ↦ none (moved_back 0 m) (subst (λ (l : List ℕ). OccursIn p (plain_search l) (moved_back 0 m)) (slice_front text end) (in_part ending p text 0 end m (omega arith) (first_within ending text)
             (Occurs-in p text 0 (length text) 0 end m (omega arith) (ends_before ending p plain text end m occurs low (passes_at_first (is_byte ending) text 0)) occurs)))
         | inl high ↦
             let at = suc end in

@@ -1,8 +1,8 @@
 -- One line of a walk: what is written of it, and where the walk then is.
 use Rattle.acgrep.proofs.Common.{Appends, Appends-nil, Appends-trans, AppendsBeginning, Context, Job, Patterns, Place, lt-ltb}
-use Rattle.std.proofs.Common.{◌++◌, ◌<◌, ◌∙◌, ◌∷◌, ◌≡◌, List, Option, [], ap, append_assoc, false, inl, inr, refl, subst, sym, true, ℕ}
+use Rattle.std.proofs.Common.{◌++◌, ◌<◌, ◌∙◌, ◌∷◌, ◌≡◌, List, Option, [], ap, append_assoc, inr, refl, subst, sym, ℕ}
 use Rattle.std.specs.Prelude.{◌&&◌, nat_lt}
-use Rattle.acgrep.specs.Contexts.{IsChosenBy, IsNotChosen, PassesBy, ShowsEach, ShowsGroup, Steps, Walk, WalksBegun, WalksLines, WalksSome, behind_chosen, behind_due, behind_passed, beside, separator_if}
+use Rattle.acgrep.specs.Contexts.{IsNotChosen, ShowsEach, ShowsGroup, Steps, Walk, WalksBegun, WalksLines, WalksSome, behind_due, behind_passed, beside, separator_if}
 use Rattle.acgrep.specs.Lines.{lines}
 use Rattle.acgrep.specs.Written.{ShowsLine, WritesLine, after_line}
 use Rattle.acgrep.proofs.Begun.{begins_more, begins_nothing, begins_some}
@@ -15,48 +15,21 @@ module _ (p : Patterns) (job : Job) where
     pub none_begun : (w : Walk) (line : List ℕ) (x : Option (List ℕ)) → WalksBegun p job context w x x (line ∷ [])
     none_begun w line x = begins_nothing (WalksSome p job context w) (line ∷ []) x x [] (w, (refl, refl)) (Appends-nil x)
 
-    -- a selected line and those held before it are written
-    pub takes_lines : (w w' : Walk) (line bytes : List ℕ) (x y : Option (List ℕ)) → IsChosenBy p job w.selected line true → ShowsGroup p job context w line bytes → w' ≡ behind_chosen context w line
-        → Appends x y bytes → WalksLines p job context w w' x y (line ∷ [])
-    takes_lines w w' line bytes x y chosen shows is written = record {
-      bytes = bytes;
-      walks = walks_one p job context w w' line bytes (inl (record { more = chosen.0; selected = chosen.1; shows = shows; behind = is }));
-      written = written;
-    }
+    -- what is told of a line is written, or a beginning of it
+    pub step_lines : (w w' : Walk) (line bytes : List ℕ) (x y : Option (List ℕ)) → Steps p job context w line bytes w' → Appends x y bytes → WalksLines p job context w w' x y (line ∷ [])
+    step_lines w w' line bytes x y step written = record { bytes = bytes; walks = walks_one p job context w w' line bytes step; written = written }
 
-    -- or a beginning of that
-    pub takes_begun : (w : Walk) (line bytes : List ℕ) (x y : Option (List ℕ)) → IsChosenBy p job w.selected line true → ShowsGroup p job context w line bytes → AppendsBeginning x y bytes
-        → WalksBegun p job context w x y (line ∷ [])
-    takes_begun w line bytes x y chosen shows begins =
-        begins_some _ _ _ _ _ ((behind_chosen context w line), walks_one _ _ _ _ _ _ _ (inl (record { more = chosen.0; selected = chosen.1; shows = shows; behind = refl }))) begins
+    pub step_begun : (w w' : Walk) (line bytes : List ℕ) (x y : Option (List ℕ)) → Steps p job context w line bytes w' → AppendsBeginning x y bytes → WalksBegun p job context w x y (line ∷ [])
+    step_begun w w' line bytes x y step begins = begins_some _ _ _ _ _ (w', walks_one _ _ _ _ _ _ _ step) begins
 
-    due_step : (w w' : Walk) (line bytes : List ℕ) → 0 < w.due → IsNotChosen p job w.selected line → ShowsLine p (beside job) w.place line bytes → w' ≡ behind_due w line
+    -- a line that is due
+    pub due_step : (w w' : Walk) (line bytes : List ℕ) → 0 < w.due → IsNotChosen p job w.selected line → ShowsLine p (beside job) w.place line bytes → w' ≡ behind_due w line
         → Steps p job context w line bytes w'
     due_step w w' line bytes some_due passed shows is = inr (record { passed = passed; passes = rw (lt-ltb 0 w.due some_due) (shows, is) })
 
-    -- a line that is due is written
-    pub due_lines : (w w' : Walk) (line : List ℕ) (x y : Option (List ℕ)) → 0 < w.due → IsChosenBy p job w.selected line false → WritesLine p (beside job) w.place x y line → w' ≡ behind_due w line
-        → WalksLines p job context w w' x y (line ∷ [])
-    due_lines w w' line x y some_due passed (bytes, shows, written) is = record {
-      bytes = bytes;
-      walks = walks_one p job context w w' line bytes (due_step w w' line bytes some_due passed shows is);
-      written = written;
-    }
-
-    pub due_begun : (w : Walk) (line bytes : List ℕ) (x y : Option (List ℕ)) → 0 < w.due → IsChosenBy p job w.selected line false → ShowsLine p (beside job) w.place line bytes → AppendsBeginning x y bytes
-        → WalksBegun p job context w x y (line ∷ [])
-    due_begun w line bytes x y some_due passed shows begins =
-        let next = behind_due w line in
-        begins_some (WalksSome p job context w) (line ∷ []) x y bytes (next, walks_one p job context w next line bytes (due_step w next line bytes some_due passed shows refl)) begins
-
-    -- a line that is passed over is held, and nothing is written
-    pub passed_lines : (w w' : Walk) (line : List ℕ) (x : Option (List ℕ)) → w.due ≡ 0 → IsChosenBy p job w.selected line false → w' ≡ behind_passed context w line
-        → WalksLines p job context w w' x x (line ∷ [])
-    passed_lines w w' line x past passed is = record {
-      bytes = [];
-      walks = walks_one p job context w w' line [] (inr (record { passed = passed; passes = subst (PassesBy p job context w line [] w') (sym (ap (nat_lt 0) past)) (refl, is) }));
-      written = Appends-nil x;
-    }
+    -- and one that is passed over where none is
+    pub held_step : (w w' : Walk) (line : List ℕ) → w.due ≡ 0 → IsNotChosen p job w.selected line → w' ≡ behind_passed context w line → Steps p job context w line [] w'
+    held_step w w' line past passed is = inr (record { passed = passed; passes = rw (ap (nat_lt 0) past) (refl, is) })
 
     -- the lines of a text up to those that are left are searched
     pub record WalksTo (a b : Walk) (x y : Option (List ℕ)) (text rest : List ℕ) : Type 0 where

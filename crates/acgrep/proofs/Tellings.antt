@@ -2,13 +2,11 @@
 use Rattle.acgrep.proofs.Common.{Appends-nil, Appends-trans, Fit, Job, Lines, Matches, Objects, Occurrence, Patterns, Place, Shown, State, Style, and_parts, cases_Bool, cases_lt, common_steps, drop-drop, length-drop, ltb-true, true≢false}
 use Rattle.std.proofs.Common.{◌%◌, ◌++◌, ◌+◌, ◌-◌, ◌<◌, ◌^◌, ◌∙◌, ◌∷◌, ◌≡◌, ◌≤◌, Bool, List, None, Option, Some, [], ap, append-nil, append_assoc, arith, drop, false, inl, inr, length, refl, subst, sym, true, ℕ}
 use Rattle.std.proofs.lemmas.List.{drop_all}
-use Rattle.std.specs.Prelude.{◌&&◌, nat_le, nat_lt, not}
+use Rattle.std.specs.Prelude.{nat_le, nat_lt, not}
 use Rattle.acgrep.specs.Alone.{AreShownOf}
 use Rattle.acgrep.specs.Lines.{EndsLine, lines}
 use Rattle.acgrep.specs.Matches.{WritesMatches, shown_from}
-use Rattle.acgrep.specs.Objects.{objects_by}
-use Rattle.acgrep.specs.Printed.{colored_from, head_of, line_number_at, matches_by}
-use Rattle.acgrep.specs.Written.{DoesNotMatch, EachLine, HasNone, IsMatched, IsPassedOver, IsSelected, IsSettled, LineOf, SamePlace, SearchesTo, ShowsBy, ShowsLine, TellsLines, TellsOfLines, WritesLine, after_line, after_lines, is_full, is_numbered, one_more, place_behind, selects}
+use Rattle.acgrep.specs.Written.{DoesNotMatch, EachLine, HasNone, IsMatched, IsPassedOver, IsSelected, IsSettled, SamePlace, SearchesTo, ShowsBy, ShowsLine, TellsLines, TellsOfLines, WritesLine, after_line, after_lines, is_full, is_numbered, one_more, place_behind, selects}
 use Rattle.acgrep.specs.declared.matches.Shape.{Shape}
 use Rattle.acgrep.proofs.LineLists.{ends_drop}
 
@@ -40,11 +38,6 @@ pub after_append : (ls ms : List (List ℕ)) (place : Place) → after_lines pla
 after_append [] ms place = refl
 after_append (line ∷ rest) ms place = after_append rest ms (after_line place line)
 
--- where the numbers of lines are asked for they are written
-asked_numbered : (shown : Shown) (asked : Bool) → asked ≡ true → is_numbered shown asked ≡ true
-asked_numbered Objects asked is = refl
-asked_numbered _ asked is = is
-
 -- the matches of a line are what is written of it
 pub matches_shown : (p : Patterns) (job : Job) (place : Place) (old new : Option (List ℕ)) (line : List ℕ) (shape : Shape)
     → ((ms : List Occurrence) → AreShownOf p job.fit line ms → ShowsLine p job place line (shown_from shape job.style place line 0 ms))
@@ -56,36 +49,21 @@ pub nothing_shown : (p : Patterns) (shown : Shown) (fit : Fit) (invert : Bool) (
     → (shown ≡ Objects → invert ≡ true) → ShowsBy p shown fit invert style place line []
 nothing_shown p shown fit invert style place line whole matches objects = grind (arith, common_steps)
 
--- what stands before a line is the same
-same_head : (job : Job) (a b : Place) (offset : ℕ) (bytes : List ℕ) → SamePlace job a b → head_of job.style (line_number_at a) offset bytes ≡ head_of job.style (line_number_at b) offset bytes
-same_head job a b offset bytes same =
-    elim (cases_Bool job.style.number) [
-      | inl asked ↦ ap (λ (n : ℕ). head_of job.style ((n + 1) % 2 ^ 64) offset bytes) (same.lines (asked_numbered job.shown job.style.number asked))
-      | inr not ↦ rw not refl
+-- where lines are not numbered what is written of one is the same whatever its number
+unnumbered : (p : Patterns) (shown : Shown) (fit : Fit) (invert : Bool) (style : Style) (count other offset : ℕ) (line bytes : List ℕ) → is_numbered shown style.number ≡ false
+    → ShowsBy p shown fit invert style (place_behind count offset) line bytes → ShowsBy p shown fit invert style (place_behind other offset) line bytes
+unnumbered p Lines fit invert style count other offset line bytes not shows = rw not (rw not at shows)
+unnumbered p Matches fit invert style count other offset line bytes not shows = rw not (rw not at shows)
+unnumbered p Objects fit invert style count other offset line bytes not shows = absurd (cc)
+unnumbered p _ fit invert style count other offset line bytes not shows = shows
+
+shows_same : (p : Patterns) (job : Job) (a b : Place) (line bytes : List ℕ) → SamePlace job a b → ShowsLine p job a line bytes → ShowsLine p job b line bytes
+shows_same p job a b line bytes same shows =
+    let moved : ShowsLine p job (place_behind a.lines b.bytes) line bytes = subst (λ (n : ℕ). ShowsLine p job (place_behind a.lines n) line bytes) same.bytes shows in
+    elim (cases_Bool (is_numbered job.shown job.style.number)) [
+      | inl asked ↦ subst (λ (n : ℕ). ShowsLine p job (place_behind n b.bytes) line bytes) (same.lines asked) moved
+      | inr not ↦ unnumbered p job.shown job.fit job.invert job.style a.lines b.lines b.bytes line bytes not moved
     ]
-
-matches_same : (job : Job) (a b : Place) (line : List ℕ) (ms : List Occurrence) → SamePlace job a b → matches_by job.style a line ms ≡ matches_by job.style b line ms
-matches_same job a b line ms same = grind (arith, common_steps)
-
-place_same : (a b : Place) → a.lines ≡ b.lines → a.bytes ≡ b.bytes → a ≡ b
-place_same a b counts bytes = ap (λ (n : ℕ). place_behind n a.bytes) counts ∙ ap (place_behind b.lines) bytes
-
-start_same : (job : Job) (a b : Place) (line : List ℕ) → SamePlace job a b → head_of job.style (line_number_at a) a.bytes line ≡ head_of job.style (line_number_at b) b.bytes line
-start_same job a b line same = same_head job a b a.bytes line same ∙ ap (λ (n : ℕ). head_of job.style (line_number_at b) n line) same.bytes
-
-line_same : (p : Patterns) (fit : Fit) (colored : Bool) (job : Job) (a b : Place) (line bytes : List ℕ) → SamePlace job a b
-    → LineOf p fit colored job.style a line bytes → LineOf p fit colored job.style b line bytes
-line_same p fit true job a b line bytes same (ms, finds, is) = (ms, finds, is ∙ ap (λ (head : List ℕ). head ++ (colored_from job.style line 0 ms ++ (job.style.ending ∷ []))) (start_same job a b line same))
-line_same p fit false job a b line bytes same is = is ∙ ap (λ (head : List ℕ). head ++ (line ++ (job.style.ending ∷ []))) (start_same job a b line same)
-
-pub by_same : (p : Patterns) (shown : Shown) (fit : Fit) (invert : Bool) (job : Job) (a b : Place) (line bytes : List ℕ)
-    → (is_numbered shown job.style.number ≡ true → a.lines ≡ b.lines) → SamePlace job a b
-    → ShowsBy p shown fit invert job.style a line bytes → ShowsBy p shown fit invert job.style b line bytes
-by_same p Lines fit invert job a b line bytes counted same shows = line_same p fit (job.style.color && not invert) job a b line bytes same shows
-by_same p Matches fit false job a b line bytes counted same (ms, finds, is) = (ms, finds, is ∙ matches_same job a b line ms same)
-by_same p Objects fit false job a b line bytes counted same (ms, finds, is) =
-    (ms, finds, is ∙ ap (λ (place : Place). objects_by job.style place line ms) (place_same a b (counted refl) same.bytes))
-by_same p _ fit _ job a b line bytes counted same shows = shows
 
 -- lines tell the same from places that are the same
 pub tells_same : (p : Patterns) (job : Job) (ls : List (List ℕ)) (a b : Place) (count : ℕ) (bytes : List ℕ) (total : ℕ) → SamePlace job a b
@@ -100,7 +78,7 @@ tells_same p job (line ∷ rest) a b count bytes total same (inr (goes, inl (sel
         (
           shown,
           more,
-          by_same p job.shown job.fit job.invert job a b line shown same.lines same shows,
+          shows_same p job a b line shown same shows,
           tells_same p job rest (after_line a line) (after_line b line) (one_more count) more total (same_line job a b line same) behind,
           is,
         ),

@@ -1,7 +1,7 @@
 -- What searching does, whatever patterns the searcher was built from.
 use Rattle.acgrep.specs.Common.{Appends, Patterns, Readers, SinkGhosts, Writers}
-use Rattle.std.specs.Prelude.{◌∷◌, Bool, IfOk, List, OnErr, OnOk, Option, Result, [], true, ℕ}
-use Rattle.acgrep.specs.Contexts.{BeginsLines, BeginsSearched, IsChosenBy, SearchesText, ShowsEach, WalksBegun, WalksLines, walk_of}
+use Rattle.std.specs.Prelude.{◌&&◌, ◌∷◌, Bool, IfOk, List, OnErr, OnOk, Option, Result, [], true, ℕ}
+use Rattle.acgrep.specs.Contexts.{BeginsLines, BeginsSearched, IsChosenBy, SearchesText, ShowsEach, WalksBegun, WalksLines, separator_if, walk_of}
 use Rattle.acgrep.specs.Files.{BeginsFile, SearchesReader}
 use Rattle.acgrep.specs.Filled.{bytes_buffered}
 use Rattle.acgrep.specs.Guarded.{FindsSelected}
@@ -14,8 +14,10 @@ use Rattle.acgrep.specs.declared.buffer.Buffer.{Buffer}
 use Rattle.acgrep.specs.declared.files.Outcome.{Outcome}
 use Rattle.acgrep.specs.declared.options.Context.{Context}
 use Rattle.acgrep.specs.declared.print.Place.{Place}
+use Rattle.acgrep.specs.declared.job.Job.{Job}
 use Rattle.acgrep.specs.declared.job.Query.{Query}
 use Rattle.acgrep.specs.declared.job.State.{State}
+use Rattle.acgrep.specs.declared.trail.Trail.{Trail}
 
 -- what is asked of a selected line is written where a call does not fail
 abbrev pub WritesLineBy : Query → Place → (held held' : Option (List ℕ)) → List ℕ → {T E : Type 0} → Result T E → Type 0
@@ -108,6 +110,10 @@ module _ {R W : Type 0} (readers : Readers R) (sinks : SinkGhosts W) (query : Qu
   abbrev pub FindsBy : {E : Type 0} → Buffer → R → R → W → W → Result Bool E → Type 0
   FindsBy buffer reader reader' old new result = ForQuery query
       (λ p. IfOk result (FindsSelected p query.job (bytes_buffered buffer) (readers.remaining reader) (readers.remaining reader') (sinks.taken old) (sinks.taken new)))
+
+-- what is written before a selected line and those held before it
+abbrev pub between_by : Job → Context → Trail → List ℕ
+between_by job context trail = separator_if (context.parted && (trail.some && trail.apart)) job.style
 
 -- what is asked of lines around a selected one is written, from a place on
 abbrev pub ShowsEachBy : {W : Type 0} → Writers W → Query → Place → List (List ℕ) → W → W → {T E : Type 0} → Result T E → Type 0

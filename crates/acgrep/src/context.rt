@@ -1,12 +1,12 @@
 //! Searching a text, also where the lines around selected ones are written.
 
-ghost use Rattle.std.specs.Prelude.{◌&&◌, IfOk, OnOk};
+ghost use Rattle.std.specs.Prelude.{IfOk, OnOk};
 ghost use Rattle.aho_core.specs.Patterns.{Patterns};
 ghost use Rattle.chromesquid.specs.Searcher.{IsBuiltFromSome};
-ghost use Rattle.acgrep.specs.Contexts.{IsChosenBy, separator_if};
+ghost use Rattle.acgrep.specs.Contexts.{IsChosenBy};
 ghost use Rattle.acgrep.specs.Filled.{held_lines};
 ghost use Rattle.acgrep.specs.Printed.{Puts};
-ghost use Rattle.acgrep.specs.Searched.{BeginsChosen, BeginsLineAround, BeginsTextBy, SearchesTextBy, ShowsEachBy, StepsBy, WalksChosen};
+ghost use Rattle.acgrep.specs.Searched.{BeginsChosen, BeginsLineAround, BeginsTextBy, SearchesTextBy, ShowsEachBy, StepsBy, WalksChosen, between_by};
 ghost use Rattle.acgrep.specs.Searchers.{ForQuery, Seeks};
 ghost use Rattle.acgrep.specs.Selected.{IsNoneSelected};
 
@@ -143,7 +143,7 @@ fn put_between<W: Write>(
     output: &mut W,
 ) -> io::Result<()>
     ensures written { Puts W.Write output.old output.new result
-        (separator_if (context.now.parted && (trail.now.some && trail.now.apart)) job.now.style) }
+        (between_by job.now context.now trail.now) }
 {
     if context.parted && trail.some && trail.apart {
         return put_separator(output, &job.style);

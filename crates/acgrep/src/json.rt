@@ -3,7 +3,7 @@
 ghost use Rattle.std.specs.Prelude.{◌≡◌, ◌<◌, ◌++◌, decimal};
 ghost use Rattle.std.specs.Str.{is_utf8};
 ghost use Rattle.acgrep.specs.Printed.{Puts};
-ghost use Rattle.acgrep.specs.Objects.{bytes_named, escaped_byte, fields_told, hex_of, json_by, json_escaped, json_front, object_by, stands_for};
+ghost use Rattle.acgrep.specs.Objects.{bytes_named, escaped_byte, fields_told, hex_of, json_escaped, json_front, object_by, stands_for};
 
 use crate::fields::{Fields, fields_of, put_decimal};
 use crate::format::Piece;
@@ -30,7 +30,11 @@ pub fn put_object<W: Write>(
     }
     let fields = fields_of(style, place, line, found);
     match style.form {
-        Form::Json => put_json(output, &fields),
+        Form::Json => {
+            put_front(output, &fields)?;
+            put_bytes(output, fields.text)?;
+            output.write_all(b"\"}\n")
+        }
         Form::Pieces(pieces) => {
             for piece in pieces {
                 put_piece(output, *piece, &fields)?;
@@ -38,17 +42,6 @@ pub fn put_object<W: Write>(
             output.write_all(&[style.ending])
         }
     }
-}
-
-/// Writes a match as an object.
-fn put_json<W: Write>(output: &mut W, fields: &Fields<'_>) -> io::Result<()>
-    ensures written { Puts W.Write output.old output.new result
-        (json_by (fields_told fields.now)) }
-{
-    put_front(output, fields)?;
-    put_bytes(output, fields.text)?;
-    output.write_all(b"\"}\n")?;
-    Ok(())
 }
 
 /// Writes what stands in an object before the bytes of a match: the file's name, the line's number, the range in the file in bytes, and

@@ -1,7 +1,7 @@
 //! Writing lines and matches with what stands before them.
 
 ghost use Rattle.std.specs.Prelude.{◌≡◌, ◌≤◌, IfOk, decimal, drop};
-ghost use Rattle.acgrep.specs.Printed.{Puts, behind_match, colored_by, count_by, escape_by, file_line, head_of, line_by, match_by, match_code, name_ended, name_part, number_by, number_if, painted, part_by, part_of, separator_by, tab_before};
+ghost use Rattle.acgrep.specs.Printed.{Puts, behind_match, colored_by, count_by, escape_by, file_line, head_of, line_by, match_by, match_code, name_ended, name_part, number_if, painted, part_by, part_of, separator_by, tab_before};
 ghost use Rattle.acgrep.specs.Written.{after_line};
 
 use crate::colors::Colors;
@@ -148,21 +148,6 @@ pub fn put_digits(number: u64, room: &mut [u8; DIGITS]) -> usize
     write_digits(number, room, DIGITS)
 }
 
-/// Writes a number, and a colon or a hyphen.
-fn put_number<W: Write>(
-    output: &mut W,
-    style: &Style<'_>,
-    code: &[u8],
-    number: u64,
-) -> io::Result<()>
-    ensures written { Puts W.Write output.old output.new result
-        (number_by style.now code.now number) }
-{
-    let mut digits = [0; DIGITS];
-    let start = put_digits(number, &mut digits);
-    put_part(output, style, code, &digits[start..])
-}
-
 /// Writes what stands before a line, or before a match that begins at a place of it.
 pub fn put_head<W: Write>(
     output: &mut W,
@@ -206,7 +191,7 @@ fn put_file<W: Write>(output: &mut W, style: &Style<'_>) -> io::Result<()>
     put_part(output, style, style.colors.name, style.name)
 }
 
-/// Writes a number where it is asked for.
+/// Writes a number where it is asked for, and a colon or a hyphen.
 fn put_if<W: Write>(
     output: &mut W,
     asked: bool,
@@ -218,7 +203,9 @@ fn put_if<W: Write>(
         (number_if asked style.now code.now number) }
 {
     if asked {
-        return put_number(output, style, code, number);
+        let mut digits = [0; DIGITS];
+        let start = put_digits(number, &mut digits);
+        return put_part(output, style, code, &digits[start..]);
     }
     Ok(())
 }

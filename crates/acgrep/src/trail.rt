@@ -1,6 +1,6 @@
 //! What is known of the lines before the next one, for the lines around selected ones.
 
-ghost use Rattle.std.specs.Prelude.{◌≡◌, ◌<◌, ◌-◌, ◌==◌, ◌^◌, if◌then◌else◌, [], OnOk, false, length, true};
+ghost use Rattle.std.specs.Prelude.{◌≡◌, ◌<◌, ◌-◌, ◌==◌, [], OnOk, false, length, true};
 ghost use Rattle.acgrep.specs.Filled.{held_lines};
 
 use crate::held::Held;
@@ -26,7 +26,7 @@ pub struct Trail {
 }
 
 impl Trail {
-    ghost use Rattle.acgrep.specs.Contexts.{IsTrailBegun, holding, holding_in, with_line, without_first};
+    ghost use Rattle.acgrep.specs.Contexts.{IsTrailBegun, holding, holding_in, without_first};
 
     /// Where no file was begun.
     pub fn new(alloc: Global, first: Place) -> Trail {
@@ -87,18 +87,7 @@ impl Trail {
         if self.count >= most {
             self.drop_first();
         }
-        self.push(line, place)
-    }
-
-    /// Holds a line more.
-    fn push(&mut self, line: &[u8], place: Place) -> Result<(), AllocError>
-        requires room { self.now.count < 2 ^ 64 - 1 }
-        ensures held { OnOk result (holding_in self.new
-            ≡ with_line place (holding_in self.old) line.now) }
-        ensures due { self.new.due ≡ self.old.due }
-        ensures some { self.new.some ≡ self.old.some }
-    {
-        let first = first_of(self.count, self.first, place);
+        let first = if self.count == 0 { place } else { self.first };
         if let Err(error) = self.held.push(line) {
             self.count = 0;
             self.held.clear();
@@ -122,11 +111,4 @@ impl Trail {
         self.count -= 1;
         self.apart = true;
     }
-}
-
-/// Where so many held lines and one more begin: the first of them there, and the one more here.
-fn first_of(count: u64, first: Place, place: Place) -> Place
-    ensures first { result ≡ (if count == 0 then place else first) }
-{
-    if count == 0 { place } else { first }
 }

@@ -1,11 +1,11 @@
 -- What was put together of a selected line and those that are held before it is written, or a beginning of it.
 use Rattle.acgrep.proofs.Common.{Appends, AppendsBeginning, Job, Patterns}
-use Rattle.std.proofs.Common.{◌≡◌, List, Some, subst, ℕ}
+use Rattle.std.proofs.Common.{◌≡◌, List, Some, inl, refl, subst, ℕ}
 use Rattle.acgrep.specs.Contexts.{ShowsEach, ShowsGroup, walk_of}
 use Rattle.acgrep.specs.Filled.{held_lines}
 use Rattle.acgrep.specs.Searchers.{Seeks}
 use Rattle.acgrep.proofs.Beginnings.{on_err, page_bytes}
-use Rattle.acgrep.proofs.Stepped.{group_put, none_begun, takes_begun, takes_lines, walk_same}
+use Rattle.acgrep.proofs.Stepped.{group_put, none_begun, step_begun, step_lines, walk_same}
 use Rattle.acgrep.proofs.context.pass_chosen.Given.{Over}
 use Rattle.acgrep.proofs.context.pass_chosen.Goals.{After-as_slice}
 use Rattle.acgrep.proofs.context.pass_chosen.Goals as goal
@@ -41,7 +41,7 @@ returns-in_err-write_whole-clause-begun g c = λ p is chosen.
     let held = g.W.Sink.taken c.args.output.now in
     let held' = g.W.Sink.taken c.write_whole.new.sink in
     let (bytes, shows, same) = group_of g (goal.at.returns-in_err-write_whole-clause-begun g c).After-as_slice p is in
-    on_err c.from_residual-in_err-write_whole.result (takes_begun p c.args.query.now.job c.args.context.now (walk_of c.args.state.now) c.args.line.now bytes held held' chosen shows
+    on_err c.from_residual-in_err-write_whole.result (step_begun p _ c.args.context.now (walk_of c.args.state.now) _ c.args.line.now bytes held held' (inl (record { more = chosen.0; selected = chosen.1; shows = shows; behind = refl }))
     (subst (AppendsBeginning held held') same c.in_err-write_whole.ensures.beginning))
 
 pub returns-clause-walks : goal.returns-clause-walks
@@ -49,6 +49,6 @@ returns-clause-walks g c = λ p is chosen.
     let held = g.W.Sink.taken c.args.output.now in
     let held' = g.W.Sink.taken c.write_whole.new.sink in
     let (bytes, shows, same) = group_of g (goal.at.returns-clause-walks g c).After-as_slice p is in
-    takes_lines p c.args.query.now.job c.args.context.now (walk_of c.args.state.now) _ c.args.line.now bytes held held' chosen shows
-    (walk_same _ _ c.behind_line-state.ensures.place c.saturating_add-state.ensures c.restart.ensures.due c.restart.ensures.some c.restart.ensures.apart c.restart.ensures.first c.restart.ensures.held)
+    let behind = walk_same _ _ c.behind_line-state.ensures.place c.saturating_add-state.ensures c.restart.ensures.due c.restart.ensures.some c.restart.ensures.apart c.restart.ensures.first c.restart.ensures.held in
+    step_lines p _ c.args.context.now (walk_of c.args.state.now) _ c.args.line.now bytes held held' (inl (record { more = chosen.0; selected = chosen.1; shows = shows; behind = behind }))
     (subst (Appends held held') same c.in_ok-write_whole.ensures.whole)
