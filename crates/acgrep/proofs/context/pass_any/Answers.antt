@@ -43,4 +43,4 @@ returns-clause-walks g c = λ p is.
     let (bytes, shows, written) = rw c.beside.ensures.beside at (page_writes p c.beside.result _ _ _ _ c.clear.new.self.items c.put_shown.new.output.items c.as_slice.result.now
     c.clear.ensures.items c.as_slice.ensures.value (c.in_ok-put_shown.ensures.shown p is) c.in_ok-write_whole.ensures.whole) in
     step_lines p _ c.args.context.now (walk_of c.args.state.now) _ c.args.line.now bytes _ _ (due_step p _ _ _ _ _ _ (omega arith) (rw c.if-branch.false at c.in_ok-is_chosen.ensures.chosen p is) shows
-    (walk_same _ _ c.behind_line-state.ensures.place refl refl refl refl refl refl)) written
+    (walk_same _ _ c.behind_line-state-2.ensures.place refl refl refl refl refl refl)) written

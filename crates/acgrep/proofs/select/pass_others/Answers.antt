@@ -1,6 +1,6 @@
 -- No line is selected where lines with a match are, and else one after another.
 use Rattle.acgrep.proofs.Common.{Patterns, common_steps, nil_from_length}
-use Rattle.std.proofs.Common.{◌%◌, ◌+◌, ◌<◌, ◌^◌, ◌≡◌, [], ap, arith, length, refl, subst, true}
+use Rattle.std.proofs.Common.{◌%◌, ◌+◌, ◌<◌, ◌^◌, ◌≡◌, [], ap, arith, false, length, refl, subst, true}
 use Rattle.acgrep.specs.Lines.{lines}
 use Rattle.acgrep.specs.Written.{EachLine, HasNone, IsSelected, selects}
 use Rattle.acgrep.specs.declared.job.Job.{Job}

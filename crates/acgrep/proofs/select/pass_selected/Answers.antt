@@ -12,8 +12,11 @@ returns-then-is_full-clause-written g c = λ p is selected. record { bytes = [];
 
 pub returns-clause-written : goal.returns-clause-written
 returns-clause-written g c = λ p is selected.
-    one_selected p _ _ _ _ _ _ (sym c.is_full.ensures.full ∙ c.if-is_full.false) selected c.saturating_add-state.ensures
-    (page_writes p _ _ _ _ _ c.clear.new.self.items c.put_shown.new.output.items c.as_slice.result.now
+    let held = g.W.Sink.taken c.args.output.now in
+    let held' = g.W.Sink.taken c.write_whole.new.sink in
+    let job = c.args.query.now.job in
+    one_selected p job c.args.state.now _ held held' c.args.line.now (sym c.is_full.ensures.full ∙ c.if-is_full.false) selected c.saturating_add-state.ensures
+    (page_writes p job c.args.state.now.place held held' c.args.line.now c.clear.new.self.items c.put_shown.new.output.items c.as_slice.result.now
     c.clear.ensures.items c.as_slice.ensures.value (c.in_ok-put_shown.ensures.shown p is) c.in_ok-write_whole.ensures.whole)
 
 pub returns-in_err-put_shown-clause-begun : goal.returns-in_err-put_shown-clause-begun
