@@ -39,7 +39,7 @@ pub returns-clause-none : goal.returns-clause-none
 returns-clause-none g c = λ p is plain.
     let to = c.loop-rest.invariant p is in
     let (bytes, tells) = walks_tells p c.args.query.now.job c.in-Some.context to.searched (walk_of c.args.state.now) (walk_of c.loop-rest.state) to.tells.bytes to.tells.walks in
-    nothing_in p _ c.args.state.now _ _ _ bytes to.searched plain to.cut (c.goes_on.ensures.ends c.loop-rest-test.false) tells
+    nothing_in p c.args.query.now.job c.args.state.now c.loop-rest.state c.args.text.now c.loop-rest.rest.now bytes to.searched plain to.cut (c.goes_on.ensures.ends c.loop-rest-test.false) tells
 
 pub returns-clause-written : goal.returns-clause-written
 returns-clause-written g c = λ p is plain.
@@ -53,14 +53,14 @@ returns-in_err-pass_any-clause-begun g c = λ p is plain.
     on_err c.from_residual.result (rw (sym c.around.ensures.around ∙ c.in-Some.is)
     (to_begun p _ c.in-Some.context _ _ _ _ _ _ c.loop-rest.rest.now _ _ (lines_then _ _ _ c.line_end-end.result some end.within end.none end.ends refl) (c.loop-rest.invariant p is) (c.in_err-pass_any.ensures.begun p is)))
 
-pub returns-else-clause-none : goal.returns-else-clause-none
-returns-else-clause-none g c = λ p is plain.
+pub returns-in_default-clause-none : goal.returns-in_default-clause-none
+returns-in_default-clause-none g c = λ p is plain.
     on_ok_weaker c.search_plain.result
     (λ (one : SearchesPlain p c.args.query.now.job c.args.state.now c.search_plain.new.state _ _ c.args.text.now). nothing_in p _ c.args.state.now _ _ one.left one.searches.tells.bytes one.searches.searched plain
     one.searches.cut one.ends one.searches.tells.told) (c.search_plain.ensures.written p is plain)
 
-pub returns-else-clause-written : goal.returns-else-clause-written
-returns-else-clause-written g c = λ p is plain. rw (sym c.around.ensures.around ∙ c.in_default.is) (c.search_plain.ensures.written p is plain)
+pub returns-in_default-clause-written : goal.returns-in_default-clause-written
+returns-in_default-clause-written g c = λ p is plain. rw (sym c.around.ensures.around ∙ c.in_default.is) (c.search_plain.ensures.written p is plain)
 
-pub returns-else-clause-begun : goal.returns-else-clause-begun
-returns-else-clause-begun g c = λ p is plain. rw (sym c.around.ensures.around ∙ c.in_default.is) (c.search_plain.ensures.begun p is plain)
+pub returns-in_default-clause-begun : goal.returns-in_default-clause-begun
+returns-in_default-clause-begun g c = λ p is plain. rw (sym c.around.ensures.around ∙ c.in_default.is) (c.search_plain.ensures.begun p is plain)

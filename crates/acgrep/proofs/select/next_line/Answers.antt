@@ -8,7 +8,7 @@ pub returns-clause-next : goal.returns-clause-next
 returns-clause-next c = λ p is plain.
     let text = c.args.text.now in
     let place = c.start-place.result in
-    let best : IsAnswer p (plain_search text) (Some c.in-Some.found) = subst (IsAnswer p (plain_search text)) c.in-Some.is (c.in_ok-try_find.ensures.found p is) in
+    let best : IsAnswer p (plain_search text) (Some c.in-Some.found) = subst (IsAnswer p (plain_search text)) c.in-Some.is (c.in_ok-found.ensures.found p is) in
     let rest = take (length text - place) (drop place text) in
     let same : rest ≡ drop place text = take_all (length text - place) (drop place text) (omega (arith, length-drop place text)) in
     let front = c.line_start-start.ensures in

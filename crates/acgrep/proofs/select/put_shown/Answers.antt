@@ -6,8 +6,8 @@ use Rattle.acgrep.proofs.Tellings.{matches_shown, nothing_shown}
 use Rattle.std.proofs.lemmas.Result.{on_ok_weaker}
 use Rattle.acgrep.proofs.select.put_shown.Goals as goal
 
-pub returns-in-Lines : goal.returns-in-Lines
-returns-in-Lines g c = record {
+pub returns-in_ok-write_all-in-Lines : goal.returns-in_ok-write_all-in-Lines
+returns-in_ok-write_all-in-Lines g c = record {
   shown = λ p is.
       let shown = c.in_ok-put_matches-in-Lines.ensures.written p is in (
         _,
@@ -23,8 +23,8 @@ returns-in_default g c = record {
 
 pub returns-in-Matches : goal.returns-in-Matches
 returns-in-Matches g c = record {
-  shown = λ p is. on_ok_weaker c.put_matches.result (matches_shown p c.args.query.now.job c.args.place _ _ c.args.line.now OnLines (λ ms found. rw (c.in-Matches.is, c.if-job.false) (ms, found, refl)))
-      (c.put_matches.ensures.written p is);
+  shown = λ p is. on_ok_weaker c.put_matches-in-Matches.result (matches_shown p c.args.query.now.job c.args.place _ _ c.args.line.now OnLines (λ ms found. rw (c.in-Matches.is, c.if-job.false) (ms, found, refl)))
+      (c.put_matches-in-Matches.ensures.written p is);
 }
 
 pub returns-in-Objects : goal.returns-in-Objects
