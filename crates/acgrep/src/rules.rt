@@ -2,7 +2,7 @@
 //! the globs of its file take its place before the search.
 
 ghost use Rattle.std.specs.Prelude.{◌≡◌, ◌≤◌, ◌+◌, length};
-ghost use Rattle.acgrep.specs.Rules.{after_rule, begins_by_including, is_of_folders, kept_len, leaves_file, leaves_folder, is_left_out, name_fits, rule_said, rules_said, without_slashes};
+ghost use Rattle.acgrep.specs.Rules.{after_rule, begins_by_including, is_of_folders, kept_len, is_left_out, name_fits, rule_said, rules_said, without_slashes};
 
 use crate::globs::{base_name, fits, operand_fits};
 
@@ -33,28 +33,14 @@ pub fn is_left_out(rules: &[Rule<'_>], is_folder: bool, given: bool, name: &[u8]
     ensures left { result ≡ is_left_out (rules_said rules.now) is_folder given name.now }
 {
     if is_folder {
-        leaves_folder(rules, given, name)
-    } else {
-        leaves_file(rules, given, name)
-    }
-}
-
-/// Whether a rule leaves out a folder.
-fn leaves_folder(rules: &[Rule<'_>], given: bool, name: &[u8]) -> bool
-    ensures left { result ≡ leaves_folder (rules_said rules.now) given name.now }
-{
-    for rule in rules {
-        if is_of_folders(rule.sense) && name_fits(rule.glob, given, name) {
-            return true;
+        for own in rules {
+            if is_of_folders(own.sense) && name_fits(own.glob, given, name) {
+                return true;
+            }
         }
+        return false;
     }
-    false
-}
-
-/// Whether the last rule whose glob fits leaves out a file. Where none fits, the first decides.
-fn leaves_file(rules: &[Rule<'_>], given: bool, name: &[u8]) -> bool
-    ensures left { result ≡ leaves_file (rules_said rules.now) given name.now (begins_by_including (rules_said rules.now)) }
-{
+    // The last rule whose glob fits decides of a file. Where none fits, the first does.
     let mut left = begins_by_including(rules);
     for rule in rules {
         left = after_rule(rule, given, name, left);

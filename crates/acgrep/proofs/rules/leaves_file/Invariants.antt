@@ -1,7 +1,0 @@
--- What is left decides.
-use Rattle.std.proofs.Common.{◌≡◌, drop}
-use Rattle.acgrep.specs.Rules.{begins_by_including, leaves_file, rules_said}
-use Rattle.acgrep.proofs.rules.leaves_file.Given as goal
-
-abbrev pub invariant-loop-rule : goal.invariant-loop-rule
-invariant-loop-rule l = leaves_file (rules_said l.fn.rules) l.fn.given l.fn.name (begins_by_including (rules_said l.fn.rules)) ≡ leaves_file (rules_said (drop l.rule-index l.fn.rules)) l.fn.given l.fn.name l.left
