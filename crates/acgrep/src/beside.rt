@@ -3,7 +3,7 @@
 ghost use Rattle.std.specs.Prelude.{◌≡◌, option_map};
 ghost use Rattle.tool_parts.specs.Telling.{TellsBytes};
 ghost use Rattle.acgrep.specs.Arguments.{said};
-ghost use Rattle.acgrep.specs.Beside.{last_beside, line_beside, name_beside_rules, output_beside, pattern_beside, source_beside, unfit_line, unfit_said, is_color};
+ghost use Rattle.acgrep.specs.Beside.{line_beside, name_beside_rules, output_beside, pattern_beside, unfit_line, unfit_said};
 
 use crate::arguments::{Given, Source};
 use crate::options::{Color, Flags};
@@ -47,8 +47,10 @@ pub fn unfit_of(given: &Given<'_>) -> Option<Unfit>
 fn name_of(given: &Given<'_>) -> Option<&'static [u8]>
     ensures name { option_map (λ name. name.now) result ≡ name_beside_rules (said given.now) }
 {
-    if let Some(name) = source_of(given) {
-        return Some(name);
+    match given.sources.first() {
+        Some(Source::Text(_)) => return Some(b"-e"),
+        Some(Source::File(_)) => return Some(b"-f"),
+        None => {}
     }
     if let Some(name) = pattern_option(&given.flags) {
         return Some(name);
@@ -57,17 +59,6 @@ fn name_of(given: &Given<'_>) -> Option<&'static [u8]>
         return Some(name);
     }
     line_option(given)
-}
-
-/// The option that gives patterns, if one does.
-fn source_of(given: &Given<'_>) -> Option<&'static [u8]>
-    ensures name { option_map (λ name. name.now) result ≡ source_beside (said given.now).sources }
-{
-    match given.sources.first() {
-        Some(Source::Text(_)) => Some(b"-e"),
-        Some(Source::File(_)) => Some(b"-f"),
-        None => None,
-    }
 }
 
 /// One that says how patterns are searched for.
@@ -147,22 +138,15 @@ fn line_option(given: &Given<'_>) -> Option<&'static [u8]>
     if flags.context.is_some() {
         return Some(b"-C");
     }
-    last_option(given)
-}
-
-/// One of the others.
-fn last_option(given: &Given<'_>) -> Option<&'static [u8]>
-    ensures name { option_map (λ name. name.now) result ≡ last_beside (said given.now) }
-{
-    let flags = &given.flags;
     if flags.joined {
         return Some(b"--no-group-separator");
     }
     if given.separator != SEPARATOR {
         return Some(b"--group-separator");
     }
-    if is_color(flags.color) {
-        return Some(b"--color");
+    match flags.color {
+        Color::Auto | Color::Always => return Some(b"--color"),
+        Color::Never => {}
     }
     if flags.text {
         return Some(b"-a");
@@ -171,16 +155,6 @@ fn last_option(given: &Given<'_>) -> Option<&'static [u8]>
         return Some(b"-I");
     }
     None
-}
-
-/// Whether something is coloured.
-fn is_color(color: Color) -> bool
-    ensures color { result ≡ is_color color }
-{
-    match color {
-        Color::Auto | Color::Always => true,
-        Color::Never => false,
-    }
 }
 
 /// Tells what does not go together.
