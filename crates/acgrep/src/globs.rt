@@ -3,8 +3,8 @@
 //! `*` stands for any bytes, `?` for one, and a set in brackets for one of its bytes, or behind `!` or `^` for one that is none of
 //! them. A backslash makes the byte behind it stand for itself. A bracket that nothing closes stands for itself too.
 
-ghost use Rattle.std.specs.Prelude.{◌≡◌, ◌≤◌, [], IfSome, length};
-ghost use Rattle.acgrep.specs.Globs.{any_suffix, base_name, begins_part, closing, fits, front_fits, has_behind, has_in_brackets, has_in_set, in_item, is_range, item_len, negation, operand_fits, own_len, part_len, range_end, range_len, stands_for, value_at};
+ghost use Rattle.std.specs.Prelude.{◌≡◌, ◌≤◌, IfSome, length};
+ghost use Rattle.acgrep.specs.Globs.{any_suffix, base_name, begins_part, closing, fits, front_fits, has_behind, has_in_brackets, has_in_set, in_item, is_range, item_len, negation, operand_fits, own_len, part_len, stands_for, value_at};
 
 /// What a name comes to where it is read along a glob, up to the first star.
 #[derive(Clone, Copy)]
@@ -44,14 +44,8 @@ fn fits_some_suffix(glob: &[u8], name: &[u8]) -> bool
             }
         }
     }
-    are_stars(rest)
-}
-
-/// Whether there are stars alone: those fit an empty name.
-fn are_stars(glob: &[u8]) -> bool
-    ensures stars { result ≡ fits 0 glob.now [] }
-{
-    for byte in glob {
+    // Stars alone fit an empty name.
+    for byte in rest {
         if *byte != b'*' {
             return false;
         }
@@ -191,8 +185,11 @@ fn in_item(first: u8, behind: &[u8], byte: u8) -> bool
     ensures has { result ≡ in_item first behind.now byte }
 {
     let low = value_at(first, behind);
-    let high = range_end(low, &behind[own_len(first, behind)..]);
-    low <= byte && byte <= high
+    let rest = &behind[own_len(first, behind)..];
+    if is_range(rest) {
+        return low <= byte && byte <= value_at(rest[1], &rest[2..]);
+    }
+    byte == low
 }
 
 /// How many further bytes belong to such an item.
@@ -201,7 +198,11 @@ fn item_len(first: u8, behind: &[u8]) -> usize
     ensures within { result ≤ length behind.now }
 {
     let own = own_len(first, behind);
-    own + range_len(&behind[own..])
+    let rest = &behind[own..];
+    if is_range(rest) {
+        return own + 2 + own_len(rest[1], &rest[2..]);
+    }
+    own
 }
 
 /// Whether a hyphen and the end of a range stand here.
@@ -209,27 +210,6 @@ fn is_range(behind: &[u8]) -> bool
     ensures range { result ≡ is_range behind.now }
 {
     behind.len() > 1 && behind[0] == b'-' && behind[1] != b']'
-}
-
-/// How many bytes those take.
-fn range_len(behind: &[u8]) -> usize
-    ensures len { result ≡ range_len behind.now }
-    ensures within { result ≤ length behind.now }
-{
-    if is_range(behind) {
-        return 2 + own_len(behind[1], &behind[2..]);
-    }
-    0
-}
-
-/// The end of a range: its begin where no other stands here.
-fn range_end(low: u8, behind: &[u8]) -> u8
-    ensures end { result ≡ range_end low behind.now }
-{
-    if is_range(behind) {
-        return value_at(behind[1], &behind[2..]);
-    }
-    low
 }
 
 /// How many further bytes belong to this byte: one behind a backslash.
