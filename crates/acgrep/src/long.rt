@@ -1,7 +1,7 @@
 //! The long names of options, and their beginnings.
 
 ghost use Rattle.std.specs.Prelude.{◌≡◌, Some, None, IfErr, IfOk, map};
-ghost use Rattle.acgrep.specs.Long.{found_by, named_by, option_by, or_own};
+ghost use Rattle.acgrep.specs.Long.{found_by, named_by, option_by};
 ghost use Rattle.acgrep.specs.Mistakes.{wrong_name};
 ghost use Rattle.acgrep.specs.Told.{wrong_parts};
 ghost use Rattle.tool_parts.specs.OptionNames.{found_among, found_more};
@@ -114,16 +114,9 @@ pub fn option_of(name: &[u8]) -> Result<Long, Wrong<'_>>
 fn found_of(name: &[u8]) -> Found<Long>
     ensures found { result ≡ found_by name.now }
 {
-    or_own(among(SHARED, name), name)
-}
-
-/// What it means with the options that only acgrep has, where none of grep has a name that begins so.
-fn or_own(found: Found<Long>, name: &[u8]) -> Found<Long>
-    ensures found { result ≡ or_own found name.now }
-{
-    match found {
+    match among(SHARED, name) {
         Found::Unknown => among(OWN, name),
-        _ => found,
+        found => found,
     }
 }
 
@@ -132,10 +125,8 @@ fn among(rows: &[Row], name: &[u8]) -> Found<Long>
     ensures found { result ≡ found_among (map named_by rows.now) name.now Unknown }
 {
     let mut found = Found::Unknown;
-    let mut rest = rows;
-    while let Some((row, behind)) = rest.split_first() {
+    for row in rows {
         found = or_row(found, name, row);
-        rest = behind;
     }
     found
 }

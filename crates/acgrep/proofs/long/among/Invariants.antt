@@ -1,13 +1,10 @@
 -- What the name means with the options so far, and then with the others, is what it means with all.
 use Rattle.acgrep.proofs.Common.{found_among}
-use Rattle.std.proofs.Common.{◌≡◌, length}
+use Rattle.std.proofs.Common.{◌≡◌, drop}
 use Rattle.std.specs.Prelude.{map}
 use Rattle.tool_parts.specs.declared.options.found.Found.TheVariants.{Unknown}
 use Rattle.acgrep.specs.Long.{named_by}
 use Rattle.acgrep.proofs.long.among.Given as goal
 
 abbrev pub invariant-loop-row : goal.invariant-loop-row
-invariant-loop-row l = found_among (map named_by l.rest) l.fn.name l.found ≡ found_among (map named_by l.fn.rows) l.fn.name Unknown
-
-abbrev pub decreases-loop-row : goal.decreases-loop-row
-decreases-loop-row l = length l.rest
+invariant-loop-row l = found_among (map named_by (drop l.row-index l.fn.rows)) l.fn.name l.found ≡ found_among (map named_by l.fn.rows) l.fn.name Unknown
