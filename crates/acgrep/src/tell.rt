@@ -1,7 +1,7 @@
 //! What is told on standard error: why something was not done.
 
 ghost use Rattle.acgrep.specs.Mistakes.{memory_line};
-ghost use Rattle.acgrep.specs.Told.{TellsCause, TellsOfFile, TellsOfNamed, TellsWrong, misuse_parts, named_parts, number_parts, obstacle_line, obstacle_text, valued_name};
+ghost use Rattle.acgrep.specs.Told.{TellsCause, TellsOfFile, TellsOfNamed, TellsWrong, misuse_parts, obstacle_line, obstacle_text, valued_name};
 ghost use Rattle.std.specs.List.{concat};
 ghost use Rattle.tool_parts.specs.Telling.{TellsBytes};
 ghost use Rattle.std.specs.Prelude.{◌≡◌};
@@ -147,10 +147,14 @@ pub fn tell_wrong<E: Sink>(errors: &mut Errors<'_, E>, wrong: Wrong<'_>)
             b"'\n",
             USAGE,
         ]),
-        Wrong::NoNumber(valued, number) => {
-            let name = name_beside(valued, number);
-            tell_number(name, number, errors)
-        }
+        Wrong::NoNumber(valued, number) => errors.write(&[
+            b"acgrep: option '",
+            valued_name(valued),
+            b"' takes a number below 2^64, not '",
+            number,
+            b"'\n",
+            USAGE,
+        ]),
     }
 }
 
@@ -158,28 +162,13 @@ pub fn tell_wrong<E: Sink>(errors: &mut Errors<'_, E>, wrong: Wrong<'_>)
 fn tell_misuse<E: Sink>(misuse: Misuse, name: &[u8], errors: &mut Errors<'_, E>)
     ensures told { TellsBytes E.Sink errors.old errors.new (concat (misuse_parts misuse name.now)) }
 {
-    tell_named(misuse.before(), name, misuse.behind(), errors);
-}
-
-/// Tells of something that was given, between what stands before and behind it, and how to get help.
-fn tell_named<E: Sink>(before: &[u8], name: &[u8], behind: &[u8], errors: &mut Errors<'_, E>)
-    ensures told { TellsBytes E.Sink errors.old errors.new
-        (concat (named_parts before.now name.now behind.now)) }
-{
-    errors.write(&[PROGRAM, b": ", before, name, behind, b"\n", USAGE]);
-}
-
-/// Tells that the argument of the option of a name is no number.
-fn tell_number<'a, E: Sink>(name: &'a [u8], argument: &'a [u8], errors: &mut Errors<'_, E>)
-    ensures told { TellsBytes E.Sink errors.old errors.new
-        (concat (number_parts name.now argument.now)) }
-{
     errors.write(&[
-        b"acgrep: option '",
+        PROGRAM,
+        b": ",
+        misuse.before(),
         name,
-        b"' takes a number below 2^64, not '",
-        argument,
-        b"'\n",
+        misuse.behind(),
+        b"\n",
         USAGE,
     ]);
 }
@@ -211,11 +200,4 @@ fn valued_name<'a>(valued: Valued) -> &'a [u8]
         Valued::RuleFile => b"--rules",
         Valued::LineLimit => b"--max-line",
     }
-}
-
-/// The same, for as long as other bytes are lent.
-fn name_beside<'a>(valued: Valued, _others: &'a [u8]) -> &'a [u8]
-    ensures name { result.now ≡ valued_name valued }
-{
-    valued_name(valued)
 }
