@@ -4,7 +4,7 @@ ghost use Rattle.std.specs.Prelude.{◌≡◌, IfErr, OnErr, OnOk};
 ghost use Rattle.std.specs.Io.KnownBytes.{Appends};
 ghost use Rattle.aho_devices.specs.Counts.{AppendsBeginning};
 ghost use Rattle.secret_rules.specs.Visitors.{IsVisitRefusal};
-ghost use Rattle.acgrep.specs.Marked.{is_marked, is_too_long, line_len, more_if, pass_behind, task_line};
+ghost use Rattle.acgrep.specs.Marked.{is_marked, line_len, more_if, pass_behind, task_line};
 ghost use Rattle.acgrep.specs.Written.{needs_one};
 
 use crate::marking::put_marked;
@@ -82,13 +82,6 @@ fn is_marked(runs: &[Match]) -> bool
     !runs.is_empty()
 }
 
-/// Whether a line is one that is too long: its bytes are not there.
-fn is_too_long(line: &[u8], runs: &[Match]) -> bool
-    ensures long { result ≡ is_too_long line.now runs.now }
-{
-    line.is_empty() && is_marked(runs)
-}
-
 /// How many bytes a line has. One that is too long is one run.
 fn line_len(line: &[u8], runs: &[Match]) -> usize
     ensures len { result ≡ line_len line.now runs.now }
@@ -124,7 +117,8 @@ fn behind(pass: Pass, line: &[u8], runs: &[Match]) -> Pass
             bytes: pass.place.bytes.wrapping_add(len).wrapping_add(1),
         },
         selected: more_if(is_marked(runs), pass.selected),
-        long: more_if(is_too_long(line, runs), pass.long),
+        // One that is too long comes without its bytes.
+        long: more_if(line.is_empty() && is_marked(runs), pass.long),
     }
 }
 
@@ -156,21 +150,12 @@ fn write_marked<W: Sink>(
         line,
         runs,
     );
-    match put {
-        Ok(()) => hand_on(output, page.as_slice()),
-        Err(_) => Err(StreamError::Memory),
-    }
-}
-
-/// Writes bytes, if there are some, and has the output hand them on.
-fn hand_on<W: Sink>(output: &mut W, bytes: &[u8]) -> Result<(), StreamError>
-    ensures written { OnOk result (Appends (W.taken output.old) (W.taken output.new) bytes.now) }
-    ensures begun { OnErr result (AppendsBeginning (W.taken output.old) (W.taken output.new) bytes.now) }
-    ensures only { IfErr result IsVisitRefusal }
-{
-    if bytes.is_empty() {
+    let Ok(()) = put else {
+        return Err(StreamError::Memory);
+    };
+    if page.is_empty() {
         return Ok(());
     }
-    write_whole(output, bytes)?;
+    write_whole(output, page.as_slice())?;
     output.flush()
 }
