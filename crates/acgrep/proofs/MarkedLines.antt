@@ -1,11 +1,11 @@
 -- What is written of lines, one after another, by what a visitor of them leaves.
-use Rattle.acgrep.proofs.Common.{Appends, Appends-nil, Appends-trans, Covering, Occurrence, Patterns, Rule, SinkGhosts, StartsWith, length-map, stream_lines}
-use Rattle.std.proofs.Common.{◌++◌, ◌∙◌, ◌∷◌, ◌≡◌, Bool, List, [], ap, append-nil, append_assoc, arith, drop, inl, inr, length, refl, subst, suc, sym, take, take-append-drop, true, ℕ}
+use Rattle.acgrep.proofs.Common.{Appends, Appends-nil, Appends-trans, Covering, Occurrence, Patterns, Rule, SinkGhosts, length-map, stream_lines, take_all}
+use Rattle.std.proofs.Common.{◌++◌, ◌∙◌, ◌∷◌, ◌≡◌, Bool, List, [], ap, append-nil, append_assoc, arith, inl, inr, length, refl, subst, suc, sym, take, true, ℕ}
 use Rattle.std.proofs.lemmas.List.{map-append}
 use Rattle.std.specs.Borrow.{MutBor}
 use Rattle.std.specs.Prelude.{Err, Ok, Result}
 use Rattle.aho_core.specs.declared.error.stream.StreamError.{StreamError}
-use Rattle.aho_cover.proofs.Copied.{begins_with}
+use Rattle.aho_cover.proofs.Copied.{begins_shorter}
 use Rattle.aho_devices.specs.declared.device.Source.{Ghosts as SourceGhosts}
 use Rattle.aho_stream.specs.Replacing.{SourceGave}
 use Rattle.secret_rules.specs.Covering.{AreLineRuns, covering_by, seen_line}
@@ -17,17 +17,6 @@ use Rattle.acgrep.specs.Marked.{FileAsked, StopsMarked, WritesMarked, asked_of, 
 use Rattle.acgrep.specs.MarkedFiles.{AreFirstGiven, BeginsWalk, WalksLines, seen_lines}
 use Rattle.acgrep.specs.declared.marked.Pass.{Pass}
 use Rattle.acgrep.specs.declared.marked.Task.{Task}
-
--- a text starts with itself, and with its first bytes
-pub starts_taken : (text : List ℕ) (count : ℕ) → StartsWith text (take count text)
-starts_taken text count = subst (λ (all : List ℕ). StartsWith all (take count text)) (take-append-drop count text) (begins_with (take count text) (drop count text))
-
-pub starts_all : (text : List ℕ) → StartsWith text text
-starts_all text = subst (λ (all : List ℕ). StartsWith all text) (append-nil text) (begins_with text [])
-
-starts_behind : (front all first : List ℕ) → StartsWith all first → StartsWith (front ++ all) (front ++ first)
-starts_behind [] all first is = is
-starts_behind (byte ∷ front) all first is = ap (λ l. byte ∷ l) (starts_behind front all first is)
 
 -- the runs of some lines without the last
 runs_front : (covering : Covering) (before : List (List ℕ)) (first : List Line) (line : Line) (more : List (List Occurrence)) (own : List Occurrence) → AreLineRuns covering before (first ++ line ∷ []) (more ++ own ∷ [])
@@ -114,7 +103,7 @@ module _ {V W : Type 0} (L : VisitorGhosts V) (K : SinkGhosts W) (most : ℕ) (o
           runs = runs;
           are = are;
           part = all;
-          begins = starts_all all;
+          begins = take_all (length all) all (omega arith);
           written = each.written;
           passed = lines;
           own = runs;
@@ -159,7 +148,7 @@ module _ {V W : Type 0} (L : VisitorGhosts V) (K : SinkGhosts W) (most : ℕ) (o
             runs = more ++ own ∷ [];
             are = are;
             part = front ++ take count rest;
-            begins = subst (λ l. StartsWith l (front ++ take count rest)) (sym all_is) (starts_behind _ rest (take count rest) (starts_taken rest _));
+            begins = rw all_is (begins_shorter (front ++ rest) front rest count stop_last.begun.1 (take_all (length (front ++ rest)) (front ++ rest) (omega arith)));
             written = Appends-trans _ _ _ _ (take count rest) each_first.written stop_last.begun.2;
             passed = passed;
             own = runs;

@@ -128,11 +128,6 @@ pub record ComesName (job : Job) (covering : Covering) (holds : List ℕ → Opt
   pub searched : IfSearched outcome (MarksName job covering holds left read name held held')
   pub begun : IfBroken outcome (BeginsMarksName job covering holds left read name held held')
 
--- the same, where so much is left of standard input now: what it had at first is known where it was not read before
-abbrev pub ComesOfName : Job → Covering → (List ℕ → Option (List ℕ)) → (now : Option (List ℕ)) → (read : Bool) → List ℕ → (held held' : Option (List ℕ)) → Outcome → Type 0
-ComesOfName job covering holds now read name held held' outcome =
-    (left : Option (List ℕ)) → (read ≡ false → now ≡ left) → ComesName job covering holds left read name held held' outcome
-
 -- what is searched of files by rules, where what stands under a name is held so and the input has this left at first: what is left of
 -- it then is whether it was read
 abbrev pub mark_work : Job → Covering → (List ℕ → Option (List ℕ)) → (left : Option (List ℕ)) → FileWork Bool
@@ -199,7 +194,3 @@ pub record WalksLines {R W : Type 0} (S : SourceGhosts R) (K : SinkGhosts W) (as
 -- what holds of all by which a cover marks lines
 abbrev pub IfMarks : {A : Type 0} → Automata A → LineCover A → (Covering → Type 0) → Type 0
 IfMarks G cover Holds = (covering : Covering) → MarksBy G cover covering → Holds covering
-
--- what comes of a file of these bytes, whatever it marks by
-abbrev pub MarksBytes : {W A : Type 0} → Automata A → SinkGhosts W → Marking A → Job → Option (List ℕ) → W → W → Outcome → Type 0
-MarksBytes G K marking job known output output' outcome = IfMarks G marking.cover (λ covering. ComesMarked job covering known (K.taken output) (K.taken output') outcome)

@@ -6,7 +6,7 @@ ghost use Rattle.tool_parts.specs.Names.{is_input};
 ghost use Rattle.tool_parts.specs.Telling.{TellsSome};
 ghost use Rattle.acgrep.specs.InTurn.{AreSeen};
 ghost use Rattle.acgrep.specs.Listed.{listed_bytes};
-ghost use Rattle.acgrep.specs.MarkedFiles.{ComesOfName, IfMarks, IsMarking, MarksBytes, SameMarking, mark_work};
+ghost use Rattle.acgrep.specs.MarkedFiles.{ComesMarked, ComesName, IfMarks, IsMarking, SameMarking, mark_work};
 ghost use Rattle.acgrep.specs.Told.{TellsIf, TellsOutcome};
 ghost use Rattle.acgrep.specs.ToldByRules.{IsMarkTold};
 
@@ -92,8 +92,9 @@ fn mark_name<A: Automaton, F: Open, R: Read, W: Sink, E: Sink>(
 ) -> Outcome
     requires ready { IsMarking A.Automaton marking.old }
     // Of standard input it is known what it has left at first, where it was not read before.
-    ensures comes { IfMarks A.Automaton marking.old.cover (λ covering.
-        ComesOfName job.now covering (F.holds files.now) (R.remaining input.old) marking.old.input_read
+    ensures comes { IfMarks A.Automaton marking.old.cover (λ covering. (left : Option (List ℕ))
+        → (marking.old.input_read ≡ false → R.remaining input.old ≡ left)
+        → ComesName job.now covering (F.holds files.now) left marking.old.input_read
         name.now (W.taken output.old) (W.taken output.new) result) }
     ensures read { marking.new.input_read ≡ (marking.old.input_read || is_input name.now) }
     ensures leaves { is_input name.now ≡ false → input.new ≡ input.old }
@@ -135,7 +136,8 @@ fn mark_reader<A: Automaton, R: Read + Drop, W: Sink, E: Sink>(
 ) -> Outcome
     requires ready { IsMarking A.Automaton marking.old }
     ensures comes { (known : Option (List ℕ)) → Keeps known (R.remaining reader)
-        → MarksBytes A.Automaton W.Sink marking.old job.now known output.old output.new result }
+        → IfMarks A.Automaton marking.old.cover (λ covering.
+        ComesMarked job.now covering known (W.taken output.old) (W.taken output.new) result) }
     ensures read { marking.new.input_read ≡ marking.old.input_read }
     ensures told { TellsOutcome E.Sink IsMarkTold job.now.hushed result errors.old errors.new }
     ensures same { SameMarking marking.old marking.new }
@@ -167,11 +169,10 @@ fn mark_reader<A: Automaton, R: Read + Drop, W: Sink, E: Sink>(
 fn tell_too_big<E: Sink>(alloc: Global, rules: &[Rule], number: usize, errors: &mut Errors<'_, E>)
     ensures told { TellsSome E.Sink IsMarkTold errors.old errors.new }
 {
-    let Some(rule) = rules.get(number) else {
-        return tell_memory(errors);
-    };
-    match bad_rule(alloc, number.saturating_add(1), rule, RuleFlaw::TooBig) {
-        Ok(bad) => tell_rule(errors, PROGRAM, RULES, &bad),
-        Err(_) => tell_memory(errors),
+    if let Some(rule) = rules.get(number) {
+        if let Ok(bad) = bad_rule(alloc, number.saturating_add(1), rule, RuleFlaw::TooBig) {
+            return tell_rule(errors, PROGRAM, RULES, &bad);
+        }
     }
+    tell_memory(errors);
 }

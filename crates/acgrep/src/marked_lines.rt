@@ -57,23 +57,16 @@ pub fn mark_source<A: Automaton, S: Source, W: Sink>(
     let marked = Marked {
         output: sink,
         task,
-        pass: pass_from(first),
+        pass: Pass {
+            place: first,
+            selected: 0,
+            long: 0,
+        },
     };
     let walked = mark_with(cover, source, marked);
     let Walked { output, came } = walked;
     let _output = output;
     came
-}
-
-/// How far a file was searched of which no line was read.
-fn pass_from(first: Place) -> Pass
-    ensures from { result ≡ pass_from first }
-{
-    Pass {
-        place: first,
-        selected: 0,
-        long: 0,
-    }
 }
 
 /// Has what writes of lines take those that a source gives.

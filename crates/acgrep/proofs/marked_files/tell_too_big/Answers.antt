@@ -5,13 +5,10 @@ use Rattle.acgrep.specs.ToldByRules.{IsMarkTold}
 use Rattle.acgrep.proofs.MarksTold.{some-told}
 use Rattle.acgrep.proofs.marked_files.tell_too_big.Goals as goal
 
-pub returns-in_default : goal.returns-in_default
-returns-in_default g c = record { told = some-told g.E.Sink [] c.args.errors.now c.tell_memory.new.errors (c.tell_memory.ensures.told []) }
-
 pub returns-in-Ok : goal.returns-in-Ok
 returns-in-Ok g c =
     let (line, is, told) = c.tell_rule.ensures.told in
     record { told = some-one g.E.Sink IsMarkTold c.args.errors.now c.tell_rule.new.errors line (inr (inr (inl (c.in-Ok.bad, is)))) told }
 
-pub returns-in-Err : goal.returns-in-Err
-returns-in-Err g c = record { told = some-told g.E.Sink [] c.args.errors.now c.tell_memory-in-Err.new.errors (c.tell_memory-in-Err.ensures.told []) }
+pub returns : goal.returns
+returns g c = record { told = some-told g.E.Sink [] c.args.errors.now c.tell_memory.new.errors (c.tell_memory.ensures.told []) }
