@@ -1,16 +1,17 @@
 //! A call by rules: the lines are selected in which they mark something.
 
 ghost use Rattle.std.specs.Prelude.{◌≡◌, ◌<◌, ◌≤◌, IfOk, false};
+ghost use Rattle.tool_parts.specs.Names.{name_bytes};
 ghost use Rattle.tool_parts.specs.Telling.{TellsBytes};
 ghost use Rattle.secret_rules.specs.Covering.{covering_by};
 ghost use Rattle.secret_rules.specs.Ready.{CanCoverLines, rules_of};
 ghost use Rattle.acgrep.specs.Arguments.{said, shown_by};
 ghost use Rattle.acgrep.specs.Folders.{known_by};
-ghost use Rattle.acgrep.specs.MarkedFiles.{IsMarking, MarksBy};
+ghost use Rattle.acgrep.specs.MarkedFiles.{IfMarks, IsMarking, MarksBy};
 ghost use Rattle.acgrep.specs.Told.{TellsStatus};
 ghost use Rattle.acgrep.specs.ToldByRules.{IsMarkTold};
 ghost use Rattle.acgrep.specs.declared.options.Shown.TheVariants.{Nothing};
-ghost use Rattle.acgrep.specs.RunsByRules.{BeginsMarking, MarksAsked, MarksReached, MayBeginAsked, MayBeginMarks, SearchesMarking, unwritten_line, long_message, most_said, no_patterns};
+ghost use Rattle.acgrep.specs.RunsByRules.{MarksAsked, MayBeginAsked, MayReachMarked, ReachesMarked, long_message, most_said, no_patterns};
 
 use crate::arguments::Given;
 use crate::below::{are_several, reach, status_below};
@@ -36,7 +37,7 @@ const USUAL_MOST: u64 = 1024 * 1024;
 /// How many rules there may be at most.
 const MOST_RULES: usize = 2_147_483_646;
 
-/// Reads the rules, and searches by them.
+/// Reads the rules, searches by them, and tells how many lines are too long.
 pub fn mark_asked<F: Open + Folders, R: Read, W: Sink, E: Sink>(
     alloc: Global,
     given: &Given<'_>,
@@ -57,29 +58,8 @@ pub fn mark_asked<F: Open + Folders, R: Read, W: Sink, E: Sink>(
     let Some(rules) = read_rules(alloc, names, files, input, errors) else {
         return 2;
     };
-    search_by(alloc, given, &rules, screen, files, input, output, errors)
-}
-
-/// Searches by these rules, and tells how many lines are too long.
-fn search_by<F: Open + Folders, R: Read, W: Sink, E: Sink>(
-    alloc: Global,
-    given: &Given<'_>,
-    rules: &Rules,
-    screen: &Screen<'_>,
-    files: &F,
-    input: &mut R,
-    output: &mut W,
-    errors: &mut Errors<'_, E>,
-) -> u8
-    ensures bound { result ≤ 2 }
-    ensures searches { result < 2 → MarksReached (known_by F.Open F.Folders files.now) screen.now (said given.now) rules.now
-        (R.remaining input.old) (W.taken output.old) (W.taken output.new) result }
-    ensures begins { MayBeginMarks (known_by F.Open F.Folders files.now) screen.now (said given.now) rules.now
-        (R.remaining input.old) (W.taken output.old) (W.taken output.new) }
-    ensures told { TellsStatus E.Sink IsMarkTold given.now.flags.no_messages Nothing result errors.old errors.new }
-{
     let most = most_of(&given.flags);
-    let cover = match cover_of(alloc, rules, most) {
+    let cover = match cover_of(alloc, &rules, most) {
         Ok(cover) => cover,
         Err(error) => {
             tell_all(&error, errors);
@@ -154,10 +134,12 @@ fn mark_operands<A: Automaton, F: Open + Folders, R: Read, W: Sink, E: Sink>(
     requires ready { IsMarking A.Automaton marking.old }
     requires unread { marking.old.input_read ≡ false }
     ensures bound { result ≤ 2 }
-    ensures searched { SearchesMarking F.Open F.Folders R.Read W.Sink A.Automaton operands.now.files.now
-        marking.old screen.now (said given.now) operands.now.names.now input.old output.old output.new result }
-    ensures begun { BeginsMarking F.Open F.Folders R.Read W.Sink A.Automaton operands.now.files.now
-        marking.old screen.now (said given.now) operands.now.names.now input.old output.old output.new }
+    ensures searched { IfMarks A.Automaton marking.old.cover (λ covering. result < 2
+        → ReachesMarked (known_by F.Open F.Folders operands.now.files.now) screen.now (said given.now) covering
+        (name_bytes operands.now.names.now) (R.remaining input.old) (W.taken output.old) (W.taken output.new) result) }
+    ensures begun { IfMarks A.Automaton marking.old.cover (λ covering.
+        MayReachMarked (known_by F.Open F.Folders operands.now.files.now) screen.now (said given.now) covering
+        (name_bytes operands.now.names.now) (R.remaining input.old) (W.taken output.old) (W.taken output.new)) }
     ensures told { TellsStatus E.Sink IsMarkTold given.now.flags.no_messages (shown_by given.now.flags)
         result errors.old errors.new }
 {
@@ -180,13 +162,6 @@ fn tell_long<E: Sink>(most: usize, count: u64, errors: &mut Errors<'_, E>)
     if count == 0 {
         return;
     }
-    tell_some_long(most, count, errors);
-}
-
-/// Tells that so many lines have more bytes than this.
-fn tell_some_long<E: Sink>(most: usize, count: u64, errors: &mut Errors<'_, E>)
-    ensures told { TellsBytes E.Sink errors.old errors.new (unwritten_line most count) }
-{
     let mut room = [0; MAX_DIGITS];
     let mut other_room = [0; MAX_DIGITS];
     let digits = digits_of(most as u64, &mut room);

@@ -1,5 +1,0 @@
--- The line by its parts.
-use Rattle.acgrep.proofs.ruled.tell_some_long.Goals as goal
-
-pub returns : goal.returns
-returns g c = record { told = rw (c.digits_of-digits.ensures.digits, c.digits_of-other_digits.ensures.digits) at c.write.ensures.told }
