@@ -7,7 +7,7 @@ ghost use Rattle.tool_parts.specs.Names.{name_bytes};
 ghost use Rattle.secret_rules.specs.Rules.{AreSound};
 ghost use Rattle.secret_rules.specs.Tables.{TellsRules};
 ghost use Rattle.acgrep.specs.Gathered.{AddsGiven};
-ghost use Rattle.acgrep.specs.RunsByRules.{AreAllRules, AreNamedRules, is_own};
+ghost use Rattle.acgrep.specs.RunsByRules.{AreAllRules, AreNamedRules};
 
 use crate::arguments::Source;
 use crate::keys::{read_text, tell_source};
@@ -48,8 +48,13 @@ pub fn read_rules<F: Open, R: Read, E: Sink>(
     }
     match Rules::new(alloc, rules) {
         Ok(rules) => Some(rules),
-        Err(error) => {
-            tell_refused(&error, errors);
+        Err(RulesError::Keywords(error)) => {
+            tell_all(&error, errors);
+            None
+        }
+        // Each of them was looked at before.
+        Err(_) => {
+            tell_memory(errors);
             None
         }
     }
@@ -69,7 +74,7 @@ fn add_rules<F: Open, R: Read, E: Sink>(
     ensures silent { result ≡ true → errors.new ≡ errors.old }
     ensures told { result ≡ false → TellsSome E.Sink IsMarkTold errors.old errors.new }
 {
-    if is_own(name) {
+    if name == OWN {
         return add_text(alloc, rules, name, BUILTIN.as_bytes(), errors);
     }
     let mut text = Vec::new(alloc);
@@ -80,13 +85,6 @@ fn add_rules<F: Open, R: Read, E: Sink>(
             false
         }
     }
-}
-
-/// Whether the name stands for the rules of the program.
-fn is_own(name: &[u8]) -> bool
-    ensures own { result ≡ is_own name.now }
-{
-    name == OWN
 }
 
 /// Adds the rules of the text of a file, and answers whether there are some. Where there are none that is told.
@@ -117,16 +115,6 @@ fn more_rules(alloc: Global, rules: &mut Vec<Rule>, text: &[u8]) -> Result<(), T
     let mut more = rules_in(alloc, text, false)?;
     rules.append(&mut more)?;
     Ok(())
-}
-
-/// Tells why all rules together are refused: each of them was looked at before.
-fn tell_refused<E: Sink>(error: &RulesError, errors: &mut Errors<'_, E>)
-    ensures told { TellsSome E.Sink IsMarkTold errors.old errors.new }
-{
-    match error {
-        RulesError::Keywords(error) => tell_all(error, errors),
-        RulesError::Rule(_, _, _) | RulesError::OutOfMemory => tell_memory(errors),
-    }
 }
 
 /// Tells why no searcher is built for all rules.

@@ -3,6 +3,7 @@ use Rattle.acgrep.proofs.Common.{Rule, common_steps, get_or, name_bytes}
 use Rattle.std.proofs.Common.{◌+◌, ◌∙◌, ◌∷◌, ◌≡◌, Bor, List, [], arith, drop, subst, sym, ℕ}
 use Rattle.acgrep.specs.RunsByRules.{AreAllRules, AreNamedRules}
 use Rattle.acgrep.proofs.Gathered.{all_given, more_given}
+use Rattle.acgrep.proofs.MarksTold.{some-told}
 use Rattle.acgrep.proofs.rule_lists.read_rules.Goals as goal
 
 pub loop-name-preserved : goal.loop-name-preserved
@@ -23,3 +24,6 @@ returns-in-Ok-clause-rules g c =
     subst (λ (l : List Rule). AreAllRules holds (name_bytes c.args.names.now) (g.R.Read.remaining c.args.input.now) (g.R.Read.remaining c.loop-name.input) l) (sym c.in-Ok.ensures.rules)
     (all_given (AreNamedRules holds) (name_bytes c.args.names.now) (g.R.Read.remaining c.args.input.now) (λ n. n.now) (drop c.loop-name.name-index c.args.names.now) (g.R.Read.remaining c.loop-name.input) c.loop-name.rules.items
     (grind (arith, common_steps, c.loop-name-test.false)) c.loop-name.invariant.so_far)
+
+pub returns-in-Err-2-clause-told : goal.returns-in-Err-2-clause-told
+returns-in-Err-2-clause-told g c none = rw c.loop-name.invariant.told at (some-told g.E.Sink [] c.loop-name.errors c.tell_memory.new.errors (c.tell_memory.ensures.told []))
