@@ -209,6 +209,10 @@ with_rule sense glob s = record s { rules = s.rules ++ (record { sense = sense; 
 abbrev pub with_rule_file : List ℕ → Said → Said
 with_rule_file name s = record s { flags = record s.flags { by_rules = true }; rule_files = s.rule_files ++ (name ∷ []) }
 
+-- what an argument names, if it names something
+abbrev pub with_switch : Option Switch → Said → Option Said
+with_switch named s = option_map (λ switch. record s { flags = switched switch s.flags }) named
+
 -- what is done with folders that are operands, with devices, and with lines from the first on that holds a zero byte
 abbrev pub with_folders : List ℕ → Said → Option Said
 with_folders argument s = option_map (λ switch. record s { flags = switched switch s.flags }) (folders_named argument)

@@ -3,19 +3,18 @@
 //! Options may be joined, take their argument joined or as the next one, and stand behind files. A long name may be a beginning that
 //! no other option's name has. Two hyphens end the options.
 
-ghost use Rattle.std.specs.Prelude.{◌≡◌, ◌≤◌, ◌<◌, Some, IfOk, IfErr, OnOk, length};
+ghost use Rattle.std.specs.Prelude.{◌≡◌, ◌≤◌, Some, IfOk, IfErr, OnOk, length};
 ghost use Rattle.tool_parts.specs.Arguments.{kind_by};
-ghost use Rattle.acgrep.specs.Arguments.{AreDigits, FailsBy, ReadsBy, SaysMore, argument_by, behind_by, color_by, fresh_by, joined_by, letters_by, named_by, nothing_said, number_by, said, said_by, source_option, so_far, taken_by, turned_by, value_by, valued_letter, with_binary, with_devices, with_folders, with_format, with_operand, with_rule, with_rule_file, with_separator, with_source};
+ghost use Rattle.acgrep.specs.Arguments.{AreDigits, FailsBy, ReadsBy, SaysMore, argument_by, behind_by, fresh_by, joined_by, letters_by, named_by, nothing_said, number_by, said, said_by, source_option, so_far, taken_by, value_by, valued_letter, with_format, with_operand, with_rule, with_rule_file, with_source, with_switch};
 ghost use Rattle.acgrep.specs.Listed.{listed_bytes};
 ghost use Rattle.acgrep.specs.Long.{option_by};
-ghost use Rattle.acgrep.specs.Rules.{rules_said, without_slashes};
+ghost use Rattle.acgrep.specs.Rules.{rules_said};
 ghost use Rattle.acgrep.specs.Runs.{ruled};
-ghost use Rattle.acgrep.specs.declared.rules.Sense.TheVariants.{ExcludeFolder};
 ghost use Rattle.acgrep.specs.Mistakes.{IsFirstMistake, TellsBy, mistake_at, wrong_behind, wrong_fresh, wrong_joined, wrong_letters, wrong_name, wrong_value};
-ghost use Rattle.acgrep.specs.Told.{binary_parts, color_parts, devices_parts, folders_parts, format_parts, kind_parts, number_parts, valued_name};
+ghost use Rattle.acgrep.specs.Told.{format_parts, kind_parts, number_parts, valued_name, wrong_parts};
 
 use crate::actions::{binary_in, color_in, devices_in, folders_in};
-use crate::all_options::Valued;
+use crate::all_options::{Switch, Valued};
 use crate::format::{Piece, read_format};
 use crate::long::{Long, option_of};
 use crate::options::{Color, Flags, switch_of};
@@ -110,10 +109,8 @@ pub fn parse<'a>(alloc: Global, arguments: &'a [Vec<u8>]) -> Result<Given<'a>, R
 {
     let mut given = Given::new(alloc);
     let mut awaited = Awaited::Fresh;
-    let mut left = arguments;
-    while let Some((argument, behind)) = left.split_first() {
+    for argument in arguments {
         awaited = read_argument(&mut given, awaited, argument.as_slice())?;
-        left = behind;
     }
     match awaited {
         Awaited::Argument(valued) => Err(Refusal::Wrong(Wrong::NoArgument(valued))),
@@ -166,21 +163,17 @@ fn read_named<'a>(given: &mut Given<'a>, name: &'a [u8]) -> Result<Awaited, Refu
     ensures wrong { TellsBy (wrong_name name.now) result }
 {
     match option_of(name) {
-        Ok(long) => Ok(turn_on(given, long)),
+        Ok(Long::Plain(switch)) => {
+            given.flags = given.flags.switched(switch);
+            Ok(Awaited::Fresh)
+        }
+        Ok(Long::Takes(valued)) => Ok(Awaited::Argument(valued)),
+        Ok(Long::When) => {
+            given.flags.color = Color::Auto;
+            Ok(Awaited::Fresh)
+        }
         Err(wrong) => Err(Refusal::Wrong(wrong)),
     }
-}
-
-/// Turns on what a long name means, and answers what it waits for.
-fn turn_on(given: &mut Given<'_>, long: Long) -> Awaited
-    ensures turned { turned_by long (said given.old) ≡ so_far result given.new }
-{
-    match long {
-        Long::Plain(switch) => given.flags = given.flags.switched(switch),
-        Long::Takes(valued) => return Awaited::Argument(valued),
-        Long::When => given.flags.color = Color::Auto,
-    }
-    Awaited::Fresh
 }
 
 /// Reads a long name with an argument behind an equals sign.
@@ -195,23 +188,16 @@ fn read_joined<'a>(
 {
     match option_of(name) {
         Ok(Long::Takes(valued)) => read_value(given, valued, value),
-        Ok(Long::When) => read_color(given, value),
+        Ok(Long::When) => match color_in(value) {
+            Some(color) => {
+                given.flags.color = color;
+                Ok(Awaited::Fresh)
+            }
+            None => Err(Refusal::Wrong(Wrong::UnknownColor(value))),
+        },
         Ok(Long::Plain(_)) => Err(Refusal::Wrong(Wrong::TakesNone(name))),
         Err(wrong) => Err(Refusal::Wrong(wrong)),
     }
-}
-
-/// Reads the argument of `--color`.
-fn read_color<'a>(given: &mut Given<'a>, argument: &'a [u8]) -> Result<Awaited, Refusal<'a>>
-    ensures read { ReadsBy (color_by argument.now) given.old given.new result }
-    ensures refused { FailsBy (color_by argument.now (said given.old)) result }
-    ensures wrong { TellsBy (color_parts argument.now) result }
-{
-    match color_in(argument) {
-        Some(color) => given.flags.color = color,
-        None => return Err(Refusal::Wrong(Wrong::UnknownColor(argument))),
-    }
-    Ok(Awaited::Fresh)
 }
 
 /// Reads the argument of an option.
@@ -228,16 +214,27 @@ fn read_value<'a>(
         Valued::Regexp => add_source(given, false, argument)?,
         Valued::PatternFile => add_source(given, true, argument)?,
         Valued::Kind => given.flags.kind = read_kind(argument)?,
-        Valued::Separator => set_separator(given, argument),
+        Valued::Separator => {
+            given.flags.joined = false;
+            given.separator = argument;
+        }
         Valued::Label => given.label = argument,
         Valued::Format => set_format(given, argument)?,
         Valued::Included => add_rule(given, Sense::Include, argument)?,
         Valued::Excluded => add_rule(given, Sense::Exclude, argument)?,
         Valued::ExcludedFrom => add_rule(given, Sense::ExcludeFrom, argument)?,
-        Valued::ExcludedFolder => add_folder_rule(given, argument)?,
-        Valued::Folders => set_folders(given, argument)?,
-        Valued::Devices => set_devices(given, argument)?,
-        Valued::BinaryFiles => set_binary(given, argument)?,
+        Valued::ExcludedFolder => {
+            add_rule(given, Sense::ExcludeFolder, without_slashes(argument))?;
+        }
+        Valued::Folders => {
+            set_switch(given, folders_in(argument), Wrong::UnknownFolders(argument))?;
+        }
+        Valued::Devices => {
+            set_switch(given, devices_in(argument), Wrong::UnknownDevices(argument))?;
+        }
+        Valued::BinaryFiles => {
+            set_switch(given, binary_in(argument), Wrong::UnknownBinary(argument))?;
+        }
         Valued::RuleFile => add_rule_file(given, argument)?,
         _ => {
             let number = read_number(valued, argument)?;
@@ -245,14 +242,6 @@ fn read_value<'a>(
         }
     }
     Ok(Awaited::Fresh)
-}
-
-/// Takes an argument for what stands between lines that do not follow one another.
-fn set_separator<'a>(given: &mut Given<'a>, argument: &'a [u8])
-    ensures set { said given.new ≡ with_separator argument.now (said given.old) }
-{
-    given.flags.joined = false;
-    given.separator = argument;
 }
 
 /// Takes an argument for the format of matches.
@@ -266,41 +255,19 @@ fn set_format<'a>(given: &mut Given<'a>, argument: &'a [u8]) -> Result<(), Refus
     Ok(())
 }
 
-/// Takes an argument for what is done with folders.
-fn set_folders<'a>(given: &mut Given<'a>, argument: &'a [u8]) -> Result<(), Refusal<'a>>
-    ensures set { OnOk result (with_folders argument.now (said given.old) ≡ Some (said given.new)) }
-    ensures refused { FailsBy (with_folders argument.now (said given.old)) result }
-    ensures wrong { TellsBy (folders_parts argument.now) result }
+/// Turns on what an argument names, if it names something. Else it is wrong, for this reason.
+fn set_switch<'a>(
+    given: &mut Given<'a>,
+    named: Option<Switch>,
+    wrong: Wrong<'a>,
+) -> Result<(), Refusal<'a>>
+    ensures set { OnOk result (with_switch named (said given.old) ≡ Some (said given.new)) }
+    ensures refused { FailsBy (with_switch named (said given.old)) result }
+    ensures wrong { TellsBy (wrong_parts wrong.entry) result }
 {
-    match folders_in(argument) {
+    match named {
         Some(switch) => given.flags = given.flags.switched(switch),
-        None => return Err(Refusal::Wrong(Wrong::UnknownFolders(argument))),
-    }
-    Ok(())
-}
-
-/// Takes an argument for what is done with devices.
-fn set_devices<'a>(given: &mut Given<'a>, argument: &'a [u8]) -> Result<(), Refusal<'a>>
-    ensures set { OnOk result (with_devices argument.now (said given.old) ≡ Some (said given.new)) }
-    ensures refused { FailsBy (with_devices argument.now (said given.old)) result }
-    ensures wrong { TellsBy (devices_parts argument.now) result }
-{
-    match devices_in(argument) {
-        Some(switch) => given.flags = given.flags.switched(switch),
-        None => return Err(Refusal::Wrong(Wrong::UnknownDevices(argument))),
-    }
-    Ok(())
-}
-
-/// Takes an argument for what is done with lines from the first on that holds a zero byte.
-fn set_binary<'a>(given: &mut Given<'a>, argument: &'a [u8]) -> Result<(), Refusal<'a>>
-    ensures set { OnOk result (with_binary argument.now (said given.old) ≡ Some (said given.new)) }
-    ensures refused { FailsBy (with_binary argument.now (said given.old)) result }
-    ensures wrong { TellsBy (binary_parts argument.now) result }
-{
-    match binary_in(argument) {
-        Some(switch) => given.flags = given.flags.switched(switch),
-        None => return Err(Refusal::Wrong(Wrong::UnknownBinary(argument))),
+        None => return Err(Refusal::Wrong(wrong)),
     }
     Ok(())
 }
@@ -311,24 +278,14 @@ fn read_kind(argument: &[u8]) -> Result<MatchKind, Refusal<'_>>
     ensures refused { FailsBy (kind_by argument.now) result }
     ensures wrong { TellsBy (kind_parts argument.now) result }
 {
-    match kind_in(argument) {
-        Some(kind) => Ok(kind),
-        None => Err(Refusal::Wrong(Wrong::UnknownKind(argument))),
-    }
-}
-
-/// The match kind that bytes name, if they are the name of one.
-fn kind_in(bytes: &[u8]) -> Option<MatchKind>
-    ensures kind { result ≡ kind_by bytes.now }
-{
-    if bytes == STANDARD {
-        Some(MatchKind::Standard)
-    } else if bytes == FIRST {
-        Some(MatchKind::LeftmostFirst)
-    } else if bytes == LONGEST {
-        Some(MatchKind::LeftmostLongest)
+    if argument == STANDARD {
+        Ok(MatchKind::Standard)
+    } else if argument == FIRST {
+        Ok(MatchKind::LeftmostFirst)
+    } else if argument == LONGEST {
+        Ok(MatchKind::LeftmostLongest)
     } else {
-        None
+        Err(Refusal::Wrong(Wrong::UnknownKind(argument)))
     }
 }
 
@@ -378,7 +335,9 @@ fn read_letters<'a>(given: &mut Given<'a>, letters: &'a [u8]) -> Result<Awaited,
     while let Some((letter, behind)) = rest.split_first() {
         let digits = digits_in(rest);
         if digits > 0 {
-            rest = take_digits(given, rest, digits)?;
+            let number = read_number(Valued::Around, &rest[..digits])?;
+            given.flags.context = Some(number);
+            rest = &rest[digits..];
             continue;
         }
         if *letter == b'e' || *letter == b'f' {
@@ -444,40 +403,17 @@ fn take_value<'a>(
     read_value(given, valued, behind)
 }
 
-/// Takes the digits at the front of letters for the argument of `-C`, and answers what follows.
-fn take_digits<'a>(
-    given: &mut Given<'a>,
-    letters: &'a [u8],
-    count: usize,
-) -> Result<&'a [u8], Refusal<'a>>
-    requires digits { AreDigits letters.now count }
-    requires within { count ≤ length letters.now }
-    requires some { 0 < count }
-    ensures shorter { IfOk result (λ rest. length rest.now < length letters.now) }
-    ensures read { IfOk result (λ rest.
-        letters_by letters.now (said given.old) ≡ letters_by rest.now (said given.new)) }
-    ensures refused { FailsBy (letters_by letters.now (said given.old)) result }
-    ensures wrong { TellsBy (wrong_letters letters.now) result }
-    ensures behind { IfOk result (λ rest. wrong_letters letters.now ≡ wrong_letters rest.now) }
-{
-    let number = read_number(Valued::Around, &letters[..count])?;
-    given.flags.context = Some(number);
-    Ok(&letters[count..])
-}
-
 /// How many digits stand at the front of letters.
 fn digits_in(letters: &[u8]) -> usize
     ensures within { result ≤ length letters.now }
     ensures digits { AreDigits letters.now result }
 {
-    let mut count = 0;
-    while count < letters.len() {
+    for count in 0..letters.len() {
         if !letters[count].is_ascii_digit() {
             return count;
         }
-        count += 1;
     }
-    count
+    letters.len()
 }
 
 /// The option that gives a file of patterns, or patterns.
@@ -514,13 +450,6 @@ fn add_rule<'a>(given: &mut Given<'a>, sense: Sense, glob: &'a [u8]) -> Result<(
 {
     given.rules.push(Rule { sense, glob })?;
     Ok(())
-}
-
-/// Adds a rule of folders. Slashes at the end of its glob mean nothing.
-fn add_folder_rule<'a>(given: &mut Given<'a>, glob: &'a [u8]) -> Result<(), AllocError>
-    ensures added { SaysMore (with_rule ExcludeFolder (without_slashes glob.now)) given.old given.new result }
-{
-    add_rule(given, Sense::ExcludeFolder, without_slashes(glob))
 }
 
 /// Adds a file of rules that mark lines.
