@@ -35,11 +35,6 @@ file_among (rule ∷ rules) (suc i) d lt file =
     let later = file_among rules i d (omega (arith, lt)) file in
     elim (cases_Bool (is_from_file rule.sense)) [ inl own ↦ rw own (inr later) | inr glob ↦ rw glob later ]
 
--- no rule is left, or no text
-pub expanded_none : (rules : List RuleSaid) → expanded rules [] ≡ []
-expanded_none [] = refl
-expanded_none (rule ∷ rules) = refl
-
 -- that of a glob stands before others
 pub rule_front : (glob : List ℕ) (rules : List RuleSaid) → rule_before glob rules ≡ rule_before glob [] ++ rules
 rule_front [] rules = refl

@@ -316,11 +316,6 @@ module _ {E : Type 0} (K : SinkGhosts E) where
   abbrev pub TellsOfRules : List RuleSaid → Errors E → Errors E → Type 0
   TellsOfRules rules old new = TellsSome K (IsMessage (rule_files rules)) old new
 
-  -- and why those of one are not
-  abbrev pub TellsOfRule : RuleSaid → Errors E → Errors E → Type 0
-  TellsOfRule rule old new =
-      (names : List (List ℕ)) → (is_from_file rule.sense ≡ true → IsOneOf rule.glob names) → TellsSome K (IsMessage names) old new
-
   -- and of a call whose arguments say this
   abbrev pub TellsOfCall : Known → (left : Option (List ℕ)) → Said → ℕ → Errors E → Errors E → Type 0
   TellsOfCall known left given status old new = TellsStatus K (MaySaid known left (Some given)) given.flags.no_messages (shown_by given.flags) status old new

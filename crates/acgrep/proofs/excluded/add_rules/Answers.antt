@@ -5,7 +5,7 @@ use Rattle.acgrep.specs.Lines.{lines}
 use Rattle.acgrep.specs.Rules.{glob_of_line, rule_before, rules_in, rules_of_lines, rules_said}
 use Rattle.acgrep.proofs.FirstLines.{lines_first}
 use Rattle.acgrep.proofs.RuleTexts.{rule_front}
-use Rattle.acgrep.proofs.excluded.add_globs.Goals as goal
+use Rattle.acgrep.proofs.excluded.add_rules.Goals as goal
 
 pub loop-rest-preserved : goal.loop-rest-preserved
 loop-rest-preserved c =
