@@ -1,14 +1,10 @@
 -- What was read of a reader so far, up to its end.
-use Rattle.acgrep.proofs.Common.{Consumes, Consumes-nil, Consumes-trans, IsAtEnd, common_steps}
-use Rattle.std.proofs.Common.{◌++◌, ◌≡◌, List, Option, [], arith, subst, sym, take, ℕ}
+use Rattle.acgrep.proofs.Common.{Consumes, Consumes-trans, IsAtEnd, common_steps}
+use Rattle.std.proofs.Common.{◌++◌, ◌≡◌, List, Option, arith, subst, sym, take, ℕ}
 use Rattle.std.specs.Prelude.{IfSome}
 
--- nothing
-pub text_begun : (left : Option (List ℕ)) (text : List ℕ) → text ≡ [] → Consumes left left text
-text_begun left text none = subst (Consumes left left) (sym none) (Consumes-nil left)
-
 module _ (begin left left' : Option (List ℕ)) (text room : List ℕ) (count : ℕ) where
-  -- and what a read gave more
+  -- what a read gave more
   pub text_more : (new : List ℕ) → Consumes begin left text → Consumes left left' (take count room) → new ≡ text ++ take count room → Consumes begin left' new
   text_more new read more grown = subst (Consumes begin left') (sym grown) (Consumes-trans begin left left' text (take count room) read more)
 
