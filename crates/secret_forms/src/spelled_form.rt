@@ -92,7 +92,8 @@ pub fn url_forms(alloc: Global, secret: &[u8]) -> Result<Vec<Vec<u8>>, FormError
     spelled_forms(alloc, secret, &url_encoders())
 }
 
-/// The encoders of XML and HTML: with quotes as they are, and as named, decimal and hexadecimal references; and with each reference by its number.
+/// The encoders of XML and HTML: with both quotes or one as they are, as canonical XML has it, with quotes by named, decimal and
+/// hexadecimal references, and with quotes and marks by their numbers.
 pub(crate) fn xml_encoders() -> [Spelling; 11]
     ensures { result ≡ xml_spellings }
 {
@@ -136,7 +137,7 @@ pub(crate) fn shell_encoders() -> [Spelling; 7]
     ]
 }
 
-/// A secret as it is quoted for a shell: within single quotes, within double quotes, or by backslashes.
+/// A secret as it is quoted for a shell: within single quotes, double quotes, or `$'` and `'`, or by backslashes.
 pub fn shell_forms(alloc: Global, secret: &[u8]) -> Result<Vec<Vec<u8>>, FormError>
     ensures short { length secret.now < 4 → result ≡ Err TooShort }
     ensures long { IfErr result (λ e. e ≡ TooShort → length secret.now < 4) }
