@@ -200,6 +200,8 @@ pub(crate) struct Handle(CsSearcher);
 
 // SAFETY: a handle may be used by any thread, by one call at a time; each call takes it by `&mut`.
 unsafe impl Send for Handle {}
+// SAFETY: by a shared reference nothing is called.
+unsafe impl Sync for Handle {}
 
 impl Drop for Handle {
     fn drop(&mut self) {
@@ -432,6 +434,8 @@ pub(crate) struct Stream(CsStream);
 
 // SAFETY: as of a `Handle`.
 unsafe impl Send for Stream {}
+// SAFETY: as of a `Handle`.
+unsafe impl Sync for Stream {}
 
 impl Drop for Stream {
     fn drop(&mut self) {

@@ -4,7 +4,7 @@ use crate::kinds::AhoCorasickKind;
 use crate::library::{Facts, Handle, States, Stream, Wishes};
 use crate::search::{Anchored, Input, Match, MatchKind, StartKind};
 use crate::shares::{Share, Shares};
-use std::{fmt, sync::Arc};
+use std::{fmt, marker::PhantomData, ops::Deref, sync::Arc};
 
 /// A searcher for some patterns. A clone is the same searcher. Any threads may search by one at the same time.
 #[derive(Clone)]
@@ -185,7 +185,7 @@ impl AhoCorasick {
     pub fn try_find_iter<'a, 'h, I: Into<Input<'h>>>(&'a self, input: I) -> Result<FindIter<'a, 'h>, MatchError> {
         let input = input.into();
         self.refusal(&input)?;
-        Ok(FindIter { share: self.shares.share(), input, last_end: None })
+        Ok(FindIter { share: self.shares.kept_share(), of: PhantomData, input, last_end: None })
     }
 
     /// As `replace_all`, with an error in place of a panic where the searcher was not built for such a search.
@@ -342,7 +342,7 @@ impl fmt::Debug for AhoCorasick {
 }
 
 /// The answer of a search that is not refused.
-fn searched(share: &mut Share<'_>, input: &Input<'_>) -> Option<Match> {
+fn searched<S: Deref<Target = Shares>>(share: &mut Share<S>, input: &Input<'_>) -> Option<Match> {
     if input.is_done() {
         return None;
     }
@@ -351,7 +351,8 @@ fn searched(share: &mut Share<'_>, input: &Input<'_>) -> Option<Match> {
 
 /// Matches, each searched for as it is asked for. It has a share of the searcher.
 pub struct FindIter<'a, 'h> {
-    share: Share<'a>,
+    share: Share<Arc<Shares>>,
+    of: PhantomData<&'a AhoCorasick>,
     input: Input<'h>,
     last_end: Option<usize>,
 }

@@ -1,6 +1,9 @@
 //! One searcher for any threads: each call has a share of its own, which is kept for a later one.
 use crate::library::Handle;
-use std::sync::{Mutex, MutexGuard, PoisonError};
+use std::{
+    ops::Deref,
+    sync::{Arc, Mutex, MutexGuard, PoisonError},
+};
 
 /// A searcher and the shares of it that nobody uses now: at most as many as calls and iterators have run at the same time.
 pub(crate) struct Shares {
@@ -8,9 +11,10 @@ pub(crate) struct Shares {
     free: Mutex<Vec<Handle>>,
 }
 
-/// A share, for one call or one iterator. It is given back as it goes.
-pub(crate) struct Share<'a> {
-    shares: &'a Shares,
+/// A share, for one call or one iterator. It is given back as it goes. An iterator has the searcher by an `Arc`: so its end asks for no
+/// borrow, and it may be the last expression of a function whose searcher goes before it.
+pub(crate) struct Share<S: Deref<Target = Shares>> {
+    shares: S,
     /// None where no memory was left for a share: then each call waits for the first one.
     handle: Option<Handle>,
 }
@@ -30,13 +34,23 @@ impl Shares {
         locked(&self.first).share()
     }
 
-    pub(crate) fn share(&self) -> Share<'_> {
+    /// For one call.
+    pub(crate) fn share(&self) -> Share<&Shares> {
+        Share { shares: self, handle: self.taken() }
+    }
+
+    /// For an iterator.
+    pub(crate) fn kept_share(self: &Arc<Shares>) -> Share<Arc<Shares>> {
+        Share { shares: self.clone(), handle: self.taken() }
+    }
+
+    fn taken(&self) -> Option<Handle> {
         let free = locked(&self.free).pop();
-        Share { shares: self, handle: free.or_else(|| locked(&self.first).share()) }
+        free.or_else(|| locked(&self.first).share())
     }
 }
 
-impl Share<'_> {
+impl<S: Deref<Target = Shares>> Share<S> {
     /// Calls with the handle.
     pub(crate) fn with<T>(&mut self, call: impl FnOnce(&mut Handle) -> T) -> T {
         match &mut self.handle {
@@ -46,7 +60,7 @@ impl Share<'_> {
     }
 }
 
-impl Drop for Share<'_> {
+impl<S: Deref<Target = Shares>> Drop for Share<S> {
     fn drop(&mut self) {
         if let Some(handle) = self.handle.take() {
             locked(&self.shares.free).push(handle);

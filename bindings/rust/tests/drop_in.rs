@@ -1,8 +1,10 @@
 //! Calls as programs for the Rust crate make them.
 use chromesquid::{
-    automaton::{OverlappingState, StateID},
-    packed, AhoCorasick, AhoCorasickBuilder, AhoCorasickKind, Anchored, Input, Match, MatchError, MatchErrorKind, MatchKind, PatternID,
-    Span, StartKind,
+    automaton::{self, Automaton, OverlappingState, StateID},
+    dfa::DFA,
+    nfa::{contiguous, noncontiguous},
+    packed, AhoCorasick, AhoCorasickBuilder, AhoCorasickKind, Anchored, BuildError, FindIter, FindOverlappingIter, Input, Match,
+    MatchError, MatchErrorKind, MatchKind, PatternID, Span, StartKind, StreamFindIter,
 };
 
 /// A set of globs keeps, for each literal, the places of the globs that it belongs to.
@@ -319,4 +321,55 @@ fn texts_of_a_book() {
         mat.start() < 10
     });
     assert_eq!(result, "Home of { {it}} {{");
+}
+
+/// A searcher and a text of a function's own, whose iterator stands in its last expression: it goes after them.
+#[test]
+fn iterators_in_a_last_expression() {
+    fn ends(patterns: &[&str], text: &str) -> Option<usize> {
+        let (searcher, text) = (AhoCorasick::new(patterns).unwrap(), text.to_lowercase());
+        searcher.find_iter(&text).last().or_else(|| searcher.find_iter(&text).next()).map(|found| found.end())
+    }
+    fn overlap(patterns: &[&str], text: &str) -> bool {
+        let (searcher, text) = (AhoCorasick::new(patterns).unwrap(), text.to_lowercase());
+        searcher.find_overlapping_iter(&text).any(|found| found.start() > 0)
+    }
+    fn walks(patterns: &[&str], text: &str) -> bool {
+        let (automaton, text) = (contiguous::NFA::new(patterns).unwrap(), text.to_lowercase());
+        automaton.try_find_iter(Input::new(&text)).unwrap().any(|found| found.start() > 0)
+    }
+    fn few(patterns: &[&str], text: &str) -> bool {
+        let (searcher, text) = (packed::Searcher::new(patterns).unwrap(), text.to_lowercase());
+        searcher.find_iter(&text).any(|found| found.start() > 0)
+    }
+    fn streamed(patterns: &[&str], text: &str) -> bool {
+        let (searcher, text) = (AhoCorasick::new(patterns).unwrap(), text.to_lowercase());
+        searcher.stream_find_iter(text.as_bytes()).any(|found| found.unwrap().start() > 0)
+    }
+    assert_eq!(ends(&["sam"], "A SAM"), Some(5));
+    for call in [overlap, walks, few, streamed] {
+        assert!(call(&["sam"], "A SAM"));
+    }
+}
+
+/// What may go to another thread, be shared by several, and stand in a closure whose panic is caught.
+#[test]
+fn bounds() {
+    fn has<T: Send + Sync + std::panic::UnwindSafe + std::panic::RefUnwindSafe + Unpin>() {}
+    type Text = &'static [u8];
+    has::<(AhoCorasick, AhoCorasickBuilder, BuildError, MatchError, Match, Input<'static>)>();
+    has::<(FindIter<'static, 'static>, FindOverlappingIter<'static, 'static>, StreamFindIter<'static, Text>)>();
+    has::<(noncontiguous::NFA, contiguous::NFA, DFA, OverlappingState, automaton::StateID)>();
+    has::<(automaton::FindIter<'static, 'static, DFA>, automaton::StreamFindIter<'static, DFA, Text>)>();
+    has::<(packed::Searcher, packed::FindIter<'static, 'static>, packed::Builder)>();
+    let searcher = AhoCorasick::new(["sam"]).unwrap();
+    let matches = std::sync::Mutex::new(searcher.find_iter("sam, sam, sam"));
+    let shared = &searcher.find_iter("sam");
+    std::thread::scope(|threads| {
+        for _ in 0..2 {
+            threads.spawn(|| matches.lock().unwrap().next());
+        }
+        threads.spawn(|| assert!(format!("{shared:?}").contains("FindIter")));
+    });
+    assert_eq!(matches.into_inner().unwrap().map(|found| found.start()).collect::<Vec<_>>(), [10]);
 }
