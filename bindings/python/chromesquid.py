@@ -1142,9 +1142,13 @@ def _text_of(covered: bytes) -> str:
     return covered.decode("utf-8", "chromesquid.text")
 
 
+_OF_RECORDS = frozenset([*vars(logging.makeLogRecord({})), "message", "asctime", "taskName"])  # what formatters ask for by these names
+
+
 class LogFilter(logging.Filter):
-    """Covers what a record of logging says: its message with its arguments, its traceback, and what else it has but numbers. Add it to a
-    handler, since one of a logger is not asked about the records of the loggers below it.
+    """Covers what a record of logging says: its message with its arguments, its traceback, and what else it has, names too, but numbers. Of an
+    object of another class it covers what str and repr tell, and not attributes, which a formatter may ask for. Add it to a handler, since one
+    of a logger is not asked about the records of the loggers below it.
 
         >>> handler = logging.StreamHandler()
         >>> handler.addFilter(LogFilter(Redactor(["swordfish"])))
@@ -1160,35 +1164,59 @@ class LogFilter(logging.Filter):
         record.msg, record.args = self._message(record), ()
         if record.exc_info:
             if not record.exc_text and isinstance(record.exc_info, tuple):
-                record.exc_text = logging.Formatter().formatException(record.exc_info)
+                record.exc_text = self._traceback(record.exc_info)
             record.exc_info = None
-        for name, value in list(vars(record).items()):
-            setattr(record, name, self._covered(value))
+        held = vars(record)
+        for name, value in list(held.items()):
+            told = name if name in _OF_RECORDS else self._looked_at(name)
+            if told is not name:
+                del held[name]
+            held[told] = self._looked_at(value)
         return True
 
+    def _looked_at(self, value: Any) -> Any:
+        """A value without secrets. One that cannot be looked at is left out, and nothing is raised where a program only writes a line."""
+        try:
+            return self._covered(value)
+        except Exception:
+            return f"({type(value).__name__} that cannot be looked at is left out)"
+
     def _covered(self, value: Any, within: Tuple[int, ...] = ()) -> Any:
-        """A value without secrets, also in its parts. What holds none is left as it is, and so is a number."""
+        """A value without secrets, also in its parts. What holds none is the same object, which is asked for no comparison."""
+        if value is None or type(value) in (bool, int, float):
+            return value
         if isinstance(value, str):
             return self._redactor.text(value)
         if isinstance(value, (bytes, bytearray)):
-            return self._redactor.bytes(value)
-        if value is None or isinstance(value, (int, float)):
-            return value
+            told = self._redactor.bytes(value)
+            return value if told == value else told
         around = (*within, id(value))
         if isinstance(value, Mapping) and id(value) not in within:
-            named = {self._covered(name, around): self._covered(it, around) for name, it in value.items()}
-            if named != dict(value):
-                return named
+            pairs = [*value.items()]
+            named = [(self._covered(name, around), self._covered(it, around)) for name, it in pairs]
+            if any(one is not other for new, old in zip(named, pairs) for one, other in zip(new, old)):
+                return dict(named)
         if isinstance(value, (list, tuple, set, frozenset)) and id(value) not in within:
-            parts = [self._covered(it, around) for it in value]
-            if parts != [*value]:
-                return parts if isinstance(value, list) else tuple(parts)
+            given = [*value]
+            parts = [self._covered(it, around) for it in given]
+            if any(new is not old for new, old in zip(parts, given)):
+                made = getattr(value, "_make", tuple)  # a named tuple stays one
+                return parts if isinstance(value, list) else made(parts)
+        for show in (str, repr):
+            try:
+                shown = show(value)
+            except Exception:  # nor can logging show it so
+                continue
+            told = self._redactor.text(shown)
+            if told != shown:
+                return told
+        return value
+
+    def _traceback(self, error: Any) -> str:
         try:
-            shown = str(value)
-        except Exception:  # nor can logging show it
-            return value
-        told = self._redactor.text(shown)
-        return value if told == shown else told
+            return logging.Formatter().formatException(error)
+        except Exception:
+            return "(a traceback that cannot be shown is left out)"
 
     def _message(self, record: logging.LogRecord) -> str:
         try:

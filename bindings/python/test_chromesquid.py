@@ -664,6 +664,63 @@ class Logs(unittest.TestCase):
         self.assertIs(record.kept, extra["kept"])
 
 
+    def test_values_that_cannot_be_looked_at(self):
+        class Odd:
+            def __init__(self, text):
+                self.text = text
+
+            def __str__(self):
+                return self.text
+
+            __repr__ = __str__
+
+            def __eq__(self, other):
+                raise ValueError("as of an array, this has no truth")
+
+            def __bool__(self):
+                raise ValueError("as of an array, this has no truth")
+
+            __hash__ = None
+
+        class Broken(collections.UserDict):
+            def items(self):
+                raise KeyError("swordfish")
+
+        deep = ["swordfish"]
+        for _ in range(100000):
+            deep = [deep]
+        clean = [Odd("clean")]
+        given = {"parts": [Odd("a swordfish")], "named": {"a": Odd("swordfish"), "b": clean}, "clean": clean, "broken": Broken(), "deep": deep}
+        self.log.warning("by %s", 7, extra={**given, 5: "swordfish"})  # and nothing is raised
+        self.assertEqual(self.written(), "tests WARNING by 7\n")
+        record = logging.makeLogRecord({"msg": "by", **given, 5: "swordfish", "swordfish": 1, "exc_info": (ValueError, 3, 3)})
+        self.assertTrue(self.handler.filter(record))
+        self.assertEqual((record.parts, record.named, vars(record)[5]), (["a *"], {"a": "*", "b": clean}, "*"))
+        self.assertIs(record.clean, clean)
+        self.assertEqual(record.broken, "(Broken that cannot be looked at is left out)")
+        self.assertIsInstance(record.deep, str)
+        self.assertEqual((vars(record)["*"], hasattr(record, "swordfish"), record.exc_info), (1, False, None))
+        self.assertNotIn("swordfish", record.deep + record.exc_text)
+        while deep:  # which recursion could not let go
+            deep = deep.pop() if isinstance(deep, list) else None
+
+    def test_values_that_str_does_not_show(self):
+        class Hidden:
+            def __repr__(self):
+                return "Hidden(swordfish)"
+
+            def __str__(self):
+                return "hidden"
+
+        class Number(int):
+            __str__ = __repr__ = Hidden.__repr__
+
+        user = collections.namedtuple("User", "name word")("sam", "swordfish")
+        record = logging.makeLogRecord({"msg": "by", "hidden": Hidden(), "number": Number(7), "user": user, "users": [user]})
+        self.assertTrue(self.handler.filter(record))
+        self.assertEqual((record.hidden, record.number, record.user.word, record.users[0].name), ("Hidden(*)", "Hidden(*)", "*", "sam"))
+
+
 class BesideTheModel(unittest.TestCase):
     def compare(self, dice, letters, empty):
         patterns = [empty.join(dice.choices(letters, k=dice.randrange(4))) for _ in range(dice.randrange(6))]
