@@ -545,8 +545,10 @@ class AhoCorasick:
         return self._written(_cover_all, haystack, pieces)
 
     def __reduce__(self) -> Tuple[Any, ...]:
-        made = _rebuilt, (self._patterns, self._kind, self._ignore_case, self._prefilter, *self._rest)
-        return made if self._items is None else (*made, {"_items": self._items})
+        given = self._patterns, self._kind, self._ignore_case, self._prefilter, *self._rest
+        made = (_rebuilt, given) if type(self) is AhoCorasick else (_rebuilt_as, (type(self), *given))
+        more = {name: value for name, value in vars(self).items() if name not in _BUILT or name == "_items" and value is not None}
+        return (*made, more) if more else made
 
     def __repr__(self) -> str:
         return f"<AhoCorasick of {len(self._patterns)} patterns, {self._kind}>"
@@ -833,7 +835,12 @@ def _build_error(error: _Error) -> BuildError:
     return BuildError(room.raw[: size.value].decode(), pattern, error.requested, error.max)
 
 
-def _rebuilt(
+# What an AhoCorasick is built with anew; what else it has is copied.
+_BUILT = frozenset("_patterns _of_texts _items _kind _ignore_case _prefilter _longest _handle _lock _own _rest _small".split())
+
+
+def _rebuilt_as(
+    kind_of_searcher: Any,
     patterns: Tuple[Union[str, bytes], ...],
     kind: str,
     ignore_case: bool,
@@ -841,9 +848,16 @@ def _rebuilt(
     automaton: Optional[str] = None,
     *limits: Optional[int],
 ) -> AhoCorasick:
+    """What a pickled searcher of some class is read as: its own __init__ may want something else, and is not called."""
+    named: Any = dict(zip(("max_index", "max_pattern", "max_len"), limits))
+    searcher = kind_of_searcher.__new__(kind_of_searcher)
+    AhoCorasick.__init__(searcher, patterns, kind=kind, ignore_case=ignore_case, prefilter=prefilter, automaton=automaton, **named)
+    return searcher
+
+
+def _rebuilt(*given: Any) -> AhoCorasick:
     """What a pickled searcher is read as."""
-    named = dict(zip(("max_index", "max_pattern", "max_len"), limits))
-    return AhoCorasick(patterns, kind=kind, ignore_case=ignore_case, prefilter=prefilter, automaton=automaton, **named)
+    return _rebuilt_as(AhoCorasick, *given)
 
 
 class Stream:
@@ -886,6 +900,9 @@ class Stream:
         """The matches that are left, where nothing more is pushed."""
         self._end()
         return list(self._certain())
+
+    def __reduce__(self) -> Any:
+        raise TypeError("a stream cannot be copied or pickled: its bytes are gone")
 
     def _reference(self) -> Any:
         return ctypes.byref(self._handle)
@@ -939,6 +956,9 @@ class Replacer:
         self._decoder = codecs.getincrementaldecoder(_ENCODING[0])(_ENCODING[1])
         self._len = ctypes.c_size_t()
         self._room = ctypes.create_string_buffer(65536)
+
+    def __reduce__(self) -> Any:
+        return self._stream.__reduce__()
 
     def push(self, piece: Haystack) -> Union[str, bytes]:
         """What is certain of the replacement with this piece and was not answered before: a str where the replacements are, else bytes."""
@@ -1024,7 +1044,7 @@ def forms(secret: Haystack, names: Union[str, Iterable[str]] = "all") -> Union[L
 
 class Redactor:
     """Replaces each run of what lies in some secrets, or in their `forms`, by one `replacement`, so that nothing of them is left, whichever
-    overlap or touch. Any threads may use one at the same time.
+    overlap or touch. Any threads may use one at the same time. It is pickled with its secrets, and so another process may use it too.
 
         >>> redactor = Redactor(["key/+", b"pass word"])
         >>> redactor.text("Basic dTprZXkvKw== key%2F%2B key/+pass+word")
@@ -1058,6 +1078,12 @@ class Redactor:
 
     def __repr__(self) -> str:
         return f"<Redactor of {self._count} secrets>"
+
+    def __getstate__(self) -> Any:
+        return {name: value for name, value in vars(self).items() if name != "_pieces"}
+
+    def __setstate__(self, state: Any) -> None:
+        vars(self).update(state, _pieces=_slices([state["_replacement"]] * len(state["_searcher"].patterns)))
 
     def text(self, text: str) -> str:
         """The text with each run replaced. A character that a secret of bytes cuts in two becomes U+FFFD."""

@@ -427,6 +427,14 @@ class Streams(unittest.TestCase):
             self.assertEqual((stream.push(b"a"), stream.push(b"-"), stream.push(b"a"), stream.end()), ([], [Match(0, 0, 1)], [], [Match(0, 2, 3)]))
 
 
+class Named(AhoCorasick):
+    """A class of a program's own, that is made otherwise."""
+
+    def __init__(self, letters, name):
+        super().__init__(letters, kind="leftmost-longest", items=[1, 2])
+        self.name = name
+
+
 class Copies(unittest.TestCase):
     def test_pickled_and_copied(self):
         for patterns in (["né", "E"], [b"n\xff", b"E"]):
@@ -436,6 +444,28 @@ class Copies(unittest.TestCase):
                 self.assertEqual(list(other.find_iter(haystack)), list(searcher.find_iter(haystack)))
                 self.assertEqual(len(list(other.find_iter(haystack))), 3)
                 self.assertEqual((other.patterns, other.kind), (searcher.patterns, searcher.kind))
+
+    def test_classes_of_others(self):
+        searcher = Named(["a", "n\xe9"], "letters")
+        for it in (pickle.loads(pickle.dumps(searcher)), copy.copy(searcher), copy.deepcopy(searcher)):
+            self.assertEqual((type(it), it.name, it.kind, it.items, it.find("an\xe9").end), (Named, "letters", "leftmost-longest", (1, 2), 1))
+
+    def test_redactors_and_filters(self):
+        redactor = Redactor(["swordfish", b"\xffkey"], forms=["hex"], replacement="*")
+        for it in (redactor, LogFilter(redactor)):
+            for other in (pickle.loads(pickle.dumps(it)), copy.copy(it), copy.deepcopy(it)):
+                other = other._redactor if isinstance(it, LogFilter) else other
+                self.assertEqual((other.bytes(b"a swordfish, \xffkey ff6b6579"), repr(other)), (b"a *, * *", repr(redactor)))
+                there = io.StringIO()
+                other.stream(["a sword", "fish"], there)
+                self.assertEqual(there.getvalue(), "a *")
+
+    def test_streams_are_not_copied(self):
+        searcher = AhoCorasick(["a"])
+        for it in (Stream(searcher), Replacer(searcher, ["b"])):
+            for call in (copy.copy, copy.deepcopy, pickle.dumps):
+                with self.assertRaisesRegex(TypeError, "a stream cannot be copied or pickled"):
+                    call(it)
 
     def test_threads_that_share_an_iterator(self):
         matches = AhoCorasick([b"sam"]).find_iter(b"sam " * 100000)
