@@ -27,6 +27,7 @@ import io
 import itertools
 import logging
 import os
+import select
 import struct
 import threading
 import weakref
@@ -759,11 +760,30 @@ def _read(reader: Any) -> Iterator[Haystack]:
     prompt = isinstance(reader, io.BufferedIOBase) and type(reader).read1 is not io.BufferedIOBase.read1
     read = reader.read1 if prompt else getattr(reader, "read", None)
     for piece in iter(lambda: read(_PIECE), reader) if read else iter(reader):
+        if read and piece is not None and not len(piece):
+            if not _may_wait(reader):
+                return
+            piece = read(_PIECE) if _is_ready(reader) else None
+            if piece is not None and not len(piece):
+                return
         if piece is None:
             raise BlockingIOError("the reader has nothing for now")
-        if read and not len(piece):
-            return
         yield piece
+
+
+def _may_wait(reader: Any) -> bool:
+    """Whether the descriptor of a reader does not block. Then one that decodes gives nothing both at the end and for now, and so does a buffered
+    one up to Python 3.13."""
+    with contextlib.suppress(AttributeError, OSError, TypeError, ValueError):  # it has no descriptor
+        return not os.get_blocking(reader.fileno())
+    return False
+
+
+def _is_ready(reader: Any) -> bool:
+    """Whether it has something now, or its end."""
+    poll = select.poll()
+    poll.register(reader.fileno(), select.POLLIN)
+    return bool(poll.poll(0))
 
 
 def _write(writer: Any, part: Union[str, bytes]) -> None:

@@ -364,6 +364,25 @@ class Streams(unittest.TestCase):
         text = "é" * 100000 + "sam" + "é" * 100000 + "sam"  # a piece longer than the buffer of the stream
         self.assertEqual([it.start for it in searcher.stream([text])], [100000, 200003])
 
+    def test_a_reader_that_does_not_block(self):
+        searcher = AhoCorasick(["sam"])
+        for opened in ({"mode": "rb"}, {"mode": "rb", "buffering": 0}, {"mode": "r"}):
+            below, above = os.pipe()
+            os.set_blocking(below, False)
+            with open(below, **opened) as reader:
+                for _ in range(2):
+                    os.write(above, b"a sam")
+                    told = []
+                    with self.assertRaises(BlockingIOError):  # what has nothing for now has not ended
+                        for match in searcher.stream(reader):
+                            told.append(match)
+                    self.assertEqual(told, [Match(0, 2, 5)])
+                with self.assertRaises(BlockingIOError):
+                    Redactor(["swordfish"]).stream(reader, io.BytesIO())
+                os.write(above, b"a sam")
+                os.close(above)
+                self.assertEqual(list(searcher.stream(reader)), [Match(0, 2, 5)])
+
     def test_a_match_is_told_as_soon_as_it_is_certain(self):
         stream = Stream(AhoCorasick([b"sam", b"samwise"]))
         self.assertEqual((stream.push(b"xsa"), stream.push(b"m"), stream.push(b"wise"), stream.end()), ([], [Match(0, 1, 4)], [], []))
