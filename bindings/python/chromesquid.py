@@ -32,12 +32,12 @@ import struct
 import threading
 import weakref
 from bisect import bisect_right
-from typing import Any, Iterable, Iterator, List, Mapping, NamedTuple, Optional, Sequence, Tuple, Union
+from typing import Any, Iterable, Iterator, List, Mapping, NamedTuple, Optional, Sequence, Tuple, Union, overload
 
 try:
-    import _chromesquid as _small
+    import _chromesquid as _small  # type: ignore[import]
 except ImportError:  # it was not built: ctypes serves small calls too
-    _small = None  # type: ignore[assignment]
+    _small = None
 
 __all__ = [
     "AhoCorasick",
@@ -58,8 +58,9 @@ __all__ = [
 Haystack = Union[str, bytes, bytearray, memoryview, Any]
 Bytes = Union[bytes, bytearray, memoryview, Any]
 _Raw = bytes
-# One for each pattern, by the patterns' numbers, or by the patterns themselves as they were given.
-Replacements = Union[List[Haystack], Tuple[Haystack, ...], Mapping[Any, Haystack]]
+# One for each pattern, by the patterns' numbers, or by the patterns themselves as they were given. A list of any type is one: a type checker
+# takes a list of str for no list of Haystack.
+Replacements = Union[List[Any], Tuple[Haystack, ...], Mapping[Any, Haystack]]
 
 
 class Match(NamedTuple):
@@ -184,7 +185,7 @@ class _Lent:
         self._as_parameter_ = ctypes.c_void_p(self._view.buf)
 
     def __len__(self) -> int:
-        return self._view.len
+        return int(self._view.len)
 
     def __del__(self) -> None:
         ctypes.pythonapi.PyBuffer_Release(ctypes.byref(self._view))
@@ -357,7 +358,7 @@ class AhoCorasick:
         if texts not in (0, len(given)):
             raise TypeError("the patterns are all of type str, or all of bytes")
         words = [_pattern_bytes(it) for it in given]
-        self._patterns: Tuple[Union[str, bytes], ...] = tuple(given if texts else words)
+        self._patterns: Tuple[Union[str, bytes], ...] = tuple(given) if texts else tuple(words)
         self._of_texts = texts > 0 or not given
         self._items = None if items is None else _items_of(items, self._patterns)
         self._kind, self._ignore_case, self._prefilter = kind, bool(ignore_case), bool(prefilter)
@@ -395,7 +396,7 @@ class AhoCorasick:
         """How many bytes the searcher holds, by the stated sizes of its parts. This object holds the patterns besides."""
         facts = _Facts()
         _check(_info(self._reference(), ctypes.byref(facts)))
-        return facts.memory
+        return int(facts.memory)
 
     def is_match(self, haystack: Haystack) -> bool:
         """Whether a pattern occurs."""
@@ -513,6 +514,12 @@ class AhoCorasick:
             _write(writer, replacer.push(piece))
         _write(writer, replacer.end())
 
+    @overload
+    def replace_all(self, haystack: str, replace_with: Replacements) -> str: ...  # type: ignore[misc]
+
+    @overload
+    def replace_all(self, haystack: Bytes, replace_with: Replacements) -> bytes: ...
+
     def replace_all(self, haystack: Haystack, replace_with: Replacements) -> Union[str, bytes]:
         """The haystack with each match replaced by what stands in the place of its pattern: a str for a str, else bytes. The
         replacements are a list or a tuple with one for each pattern, or a mapping from each pattern, as it was given, to its own.
@@ -530,6 +537,12 @@ class AhoCorasick:
         if _is_wide(haystack) and "" in self._patterns:
             return self._replaced(haystack, pieces)
         return self._written(_replace_all, haystack, pieces)
+
+    @overload
+    def cover_all(self, haystack: str, replace_with: Replacements) -> str: ...  # type: ignore[misc]
+
+    @overload
+    def cover_all(self, haystack: Bytes, replace_with: Replacements) -> bytes: ...
 
     def cover_all(self, haystack: Haystack, replace_with: Replacements) -> Union[str, bytes]:
         """The haystack with each run of what lies in matches replaced, so that nothing of a match is left, whichever overlap or touch: by
@@ -870,7 +883,7 @@ def _rebuilt_as(
 ) -> AhoCorasick:
     """What a pickled searcher of some class is read as: its own __init__ may want something else, and is not called."""
     named: Any = dict(zip(("max_index", "max_pattern", "max_len"), limits))
-    searcher = kind_of_searcher.__new__(kind_of_searcher)
+    searcher: AhoCorasick = kind_of_searcher.__new__(kind_of_searcher)
     AhoCorasick.__init__(searcher, patterns, kind=kind, ignore_case=ignore_case, prefilter=prefilter, automaton=automaton, **named)
     return searcher
 
@@ -980,6 +993,12 @@ class Replacer:
     def __reduce__(self) -> Any:
         return self._stream.__reduce__()
 
+    @overload
+    def push(self, piece: str) -> str: ...  # type: ignore[misc]
+
+    @overload
+    def push(self, piece: Bytes) -> bytes: ...
+
     def push(self, piece: Haystack) -> Union[str, bytes]:
         """What is certain of the replacement with this piece and was not answered before: a str where the replacements are, else bytes."""
         if self._of_text is None:
@@ -1047,6 +1066,14 @@ def _form_patterns(secret: bytes, bits: int) -> List[bytes]:
             _check(status)
             places = [0, *ends[: count.value]]
             return [room.raw[begin:end] for begin, end in zip(places, places[1:])]
+
+
+@overload
+def forms(secret: str, names: Union[str, Iterable[str]] = "all") -> List[str]: ...  # type: ignore[misc]
+
+
+@overload
+def forms(secret: Bytes, names: Union[str, Iterable[str]] = "all") -> List[bytes]: ...
 
 
 def forms(secret: Haystack, names: Union[str, Iterable[str]] = "all") -> Union[List[str], List[bytes]]:
@@ -1234,8 +1261,8 @@ class LogFilter(logging.Filter):
         if isinstance(value, str):
             return self._redactor.text(value)
         if isinstance(value, (bytes, bytearray)):
-            told = self._redactor.bytes(value)
-            return value if told == value else told
+            covered = self._redactor.bytes(value)
+            return value if covered == value else covered
         around = (*within, id(value))
         if isinstance(value, Mapping) and id(value) not in within:
             pairs = [*value.items()]
@@ -1246,8 +1273,8 @@ class LogFilter(logging.Filter):
             given = [*value]
             parts = [self._covered(it, around) for it in given]
             if any(new is not old for new, old in zip(parts, given)):
-                made = getattr(value, "_make", tuple)  # a named tuple stays one
-                return parts if isinstance(value, list) else made(parts)
+                named_tuple: Any = getattr(value, "_make", None)  # which stays one
+                return parts if isinstance(value, list) else named_tuple(parts) if named_tuple else tuple(parts)
         for show in (str, repr):
             try:
                 shown = show(value)

@@ -15,8 +15,11 @@ import os
 import pathlib
 import pickle
 import random
+import shutil
+import subprocess
 import tempfile
 import threading
+import typing
 import unittest
 import urllib.parse
 from unittest import mock
@@ -768,6 +771,50 @@ class Logs(unittest.TestCase):
         record = logging.makeLogRecord({"msg": "by", "hidden": Hidden(), "number": Number(7), "user": user, "users": [user]})
         self.assertTrue(self.handler.filter(record))
         self.assertEqual((record.hidden, record.number, record.user.word, record.users[0].name), ("Hidden(*)", "Hidden(*)", "*", "sam"))
+
+
+# What a type checker has to take from a program, and to know of the answers.
+TYPED = """
+import io
+import logging
+from typing import Dict, Iterator, List, Optional, Tuple
+from chromesquid import AhoCorasick, LogFilter, Match, Redactor, Replacer, Stream, forms
+
+words: List[str] = ["sam", "frodo"]
+others: List[bytes] = [b"S", b"F"]
+table: Dict[str, str] = {"sam": "S", "frodo": "F"}
+searcher = AhoCorasick(words, kind="leftmost-first", items=[1, 2])
+text: str = searcher.replace_all("sam", words) + searcher.replace_all("sam", table) + searcher.cover_all("sam", ("S", "F"))
+data: bytes = searcher.replace_all(b"sam", others) + searcher.replace_all(bytearray(b"sam"), others) + searcher.cover_all(memoryview(b""), others)
+searcher.stream_replace_all(io.StringIO(text), io.StringIO(), words)
+searcher.stream_replace_all(io.BytesIO(data), io.BytesIO(), others)
+part: str = Replacer(searcher, words).push("sam")
+piece: bytes = Replacer(searcher, others).push(b"sam")
+patterns: Tuple[List[str], List[bytes]] = (forms("secret"), forms(b"secret", ["hex"]))
+first: Optional[Match] = searcher.find("sam")
+place: int = first.start if first else 0
+matches: Iterator[Match] = searcher.stream(io.StringIO("sam"))
+found: List[Match] = Stream(searcher).push("sam")
+logging.StreamHandler().addFilter(LogFilter(Redactor([text, data])))
+"""
+
+
+class Types(unittest.TestCase):
+    @unittest.skipUnless(hasattr(typing, "get_overloads"), "Python below 3.11 does not tell them")
+    def test_answers_are_of_the_type_of_what_is_given(self):
+        for function, two in ((AhoCorasick.replace_all, ["str", "bytes"]), (AhoCorasick.cover_all, ["str", "bytes"]), (Replacer.push, ["str", "bytes"]),
+                              (forms, ["List[str]", "List[bytes]"])):
+            self.assertEqual([it.__annotations__["return"] for it in typing.get_overloads(function)], two)
+
+    @unittest.skipUnless(shutil.which("mypy"), "no mypy")
+    def test_a_typed_program(self):
+        folder = os.path.dirname(os.path.abspath(chromesquid.__file__))
+        with tempfile.TemporaryDirectory() as room:
+            with open(os.path.join(room, "program.py"), "w", encoding="utf-8") as file:
+                file.write(TYPED)
+            words = ["mypy", "--strict", "--follow-imports=silent", "--cache-dir", room, "program.py"]
+            ended = subprocess.run(words, cwd=room, env={**os.environ, "MYPYPATH": folder}, stdout=subprocess.PIPE, universal_newlines=True, check=False)
+            self.assertEqual(ended.returncode, 0, ended.stdout)
 
 
 class BesideTheModel(unittest.TestCase):
