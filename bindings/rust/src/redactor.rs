@@ -77,13 +77,17 @@ impl Redactor {
         }
     }
 
-    /// Writes what the reader gives with each run replaced. What no secret may go on with is written as soon as it came.
+    /// Writes what the reader gives with each run replaced, and flushes the writer at the end. What no secret may go on with is written as
+    /// soon as it came.
     pub fn stream<R: Read, W: Write>(&self, mut reader: R, mut writer: W) -> io::Result<()> {
         let mut chunk = vec![0; CHUNK];
         let mut covering = Covering { redactor: self, held: Vec::new(), is_open: false, upto: 0 };
         loop {
             match reader.read(&mut chunk) {
-                Ok(0) => return covering.tell(covering.held.len(), &mut writer),
+                Ok(0) => {
+                    covering.tell(covering.held.len(), &mut writer)?;
+                    return writer.flush();
+                }
                 Ok(read) => {
                     covering.held.extend_from_slice(&chunk[..read]);
                     covering.tell(covering.settled(), &mut writer)?;

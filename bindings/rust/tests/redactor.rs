@@ -1,6 +1,6 @@
 //! Secrets in their forms: patterns, texts, bytes and streams.
 use chromesquid::{secret_forms, Form, FormError, Redactor};
-use std::io::{self, Read};
+use std::io::{self, BufWriter, ErrorKind, Read, Write};
 
 /// A reader of pieces, each by a call of its own.
 struct Pieces(Vec<Vec<u8>>);
@@ -20,7 +20,7 @@ impl Read for Pieces {
 #[derive(Default)]
 struct Parts(Vec<Vec<u8>>);
 
-impl io::Write for Parts {
+impl Write for Parts {
     fn write(&mut self, bytes: &[u8]) -> io::Result<usize> {
         self.0.push(bytes.to_vec());
         Ok(bytes.len())
@@ -131,4 +131,24 @@ fn a_stream_is_written_as_it_comes() {
     redactor.stream(Pieces(pieces), &mut there).unwrap();
     let wanted: [&[u8]; 5] = [b"a line\n", b"a ", b"sworange ", b"[redacted]", b"."];
     assert_eq!(there.0, wanted);
+}
+
+/// A writer that is full.
+struct Full;
+
+impl Write for Full {
+    fn write(&mut self, _part: &[u8]) -> io::Result<usize> {
+        Err(io::Error::new(ErrorKind::Other, "it is full"))
+    }
+
+    fn flush(&mut self) -> io::Result<()> {
+        Ok(())
+    }
+}
+
+#[test]
+fn a_buffer_that_cannot_be_written_is_told() {
+    let redactor = Redactor::new(["swordfish"], &[]).unwrap();
+    let failure = redactor.stream(&b"a swordfish"[..], BufWriter::new(Full)).unwrap_err();
+    assert_eq!(failure.to_string(), "it is full");
 }
