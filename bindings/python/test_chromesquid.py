@@ -15,6 +15,7 @@ import os
 import pathlib
 import pickle
 import random
+import re
 import shutil
 import subprocess
 import tempfile
@@ -815,6 +816,37 @@ class Types(unittest.TestCase):
             words = ["mypy", "--strict", "--follow-imports=silent", "--cache-dir", room, "program.py"]
             ended = subprocess.run(words, cwd=room, env={**os.environ, "MYPYPATH": folder}, stdout=subprocess.PIPE, universal_newlines=True, check=False)
             self.assertEqual(ended.returncode, 0, ended.stdout)
+
+
+PAGE = os.path.join(os.path.dirname(os.path.abspath(__file__)), "README.md")
+
+
+@unittest.skipUnless(os.path.exists(PAGE), "no page")
+class Page(unittest.TestCase):
+    def test_blocks_run_as_they_are_printed(self):
+        with open(PAGE, encoding="utf-8") as file:
+            blocks = re.findall(r"(?ms)^```python\n(.*?)^```", file.read())
+        self.assertGreater(len(blocks), 2)
+        names, values, here = {}, 0, os.getcwd()
+        written = io.TextIOWrapper(io.BytesIO())
+        with tempfile.TemporaryDirectory() as room, mock.patch.dict(os.environ, TOKEN="user:swordfish"), mock.patch("sys.stdout", written):
+            os.chdir(room)
+            try:
+                with open("log", "w", encoding="utf-8") as log:
+                    log.write("sam, user:swordfish\n")
+                for block in blocks:
+                    exec(block, names)  # pylint: disable=exec-used
+                    for line in block.splitlines():
+                        said = re.fullmatch(r"(\S.*?) +# ([A-Z]\w+\(.*?\)|'.*?'|\[.*?\])(:.*)?", line)
+                        if said:
+                            values += 1
+                            state = {**names, "replacer": Replacer(names["searcher"], ["S", "s", "F"])}
+                            self.assertEqual(eval(said[1], state), eval(said[2], {"Match": Match}), line)  # pylint: disable=eval-used
+            finally:
+                os.chdir(here)
+            written.flush()
+            told = written.buffer.getvalue().decode()
+        self.assertEqual((values, "swordfish" in told, "[redacted]" in told, "Match(pattern=1, start=0, end=3)" in told), (4, False, True, True))
 
 
 class BesideTheModel(unittest.TestCase):
