@@ -1097,6 +1097,11 @@ class Redactor:
         >>> redactor.text("Basic dTprZXkvKw== key%2F%2B key/+pass+word")
         'Basic dT[redacted]== [redacted] [redacted]'
 
+    What is written can spell a secret out of a replacement and the bytes beside it, so take none that is empty or like a part of a secret:
+
+        >>> Redactor(["abcd"], replacement="").text("ababcdcd")
+        'abcd'
+
     The secrets are a list; the forms are those of the function `forms`, and none where they are empty. What holds a secret otherwise, as
     compressed, or in base64 that is broken into lines, is not found. Raises FormError where a secret is empty, or where there are forms and
     it has fewer than four bytes."""

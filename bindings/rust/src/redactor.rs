@@ -54,7 +54,13 @@ impl Redactor {
         Ok(Redactor { searcher, replacement: b"[redacted]".to_vec(), secrets: count, begins })
     }
 
-    /// Sets what stands for each run.
+    /// Sets what stands for each run. What is written can spell a secret out of it and the bytes beside it, so take none that is empty or like
+    /// a part of a secret:
+    ///
+    /// ```
+    /// let redactor = chromesquid::Redactor::new(["abcd"], &[]).unwrap().replacement("");
+    /// assert_eq!(redactor.text("ababcdcd"), "abcd");
+    /// ```
     pub fn replacement<R: AsRef<[u8]>>(mut self, replacement: R) -> Redactor {
         self.replacement = replacement.as_ref().to_vec();
         self
