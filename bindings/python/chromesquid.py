@@ -786,9 +786,10 @@ def _read(reader: Any) -> Iterator[Haystack]:
 
 def _may_wait(reader: Any) -> bool:
     """Whether the descriptor of a reader does not block. Then one that decodes gives nothing both at the end and for now, and so does a buffered
-    one up to Python 3.13."""
-    with contextlib.suppress(AttributeError, OSError, TypeError, ValueError):  # it has no descriptor
-        return not os.get_blocking(reader.fileno())
+    one up to Python 3.13. A file in memory is not asked for its descriptor, since it would be written to get one."""
+    below = reader.buffer if isinstance(reader, io.TextIOWrapper) else reader
+    with contextlib.suppress(OSError, ValueError):  # it has no descriptor
+        return isinstance(below, (io.BufferedReader, io.BufferedRandom)) and not os.get_blocking(below.fileno())
     return False
 
 

@@ -634,6 +634,7 @@ class Forms(unittest.TestCase):
                 written = io.StringIO()
                 redactor.stream(reader, written)
                 self.assertEqual(written.getvalue(), "a *\n")
+            self.assertFalse(file._rolled)  # nothing of it is on a disk
 
     def test_secrets_that_are_no_utf_8(self):
         escaped = b"p\xe4ss".decode("utf-8", "surrogateescape")  # as os.environ has it
