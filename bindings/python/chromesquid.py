@@ -1281,7 +1281,8 @@ class LogFilter(logging.Filter):
             if any(new is not old for new, old in zip(parts, given)):
                 named_tuple: Any = getattr(value, "_make", None)  # which stays one
                 return parts if isinstance(value, list) else named_tuple(parts) if named_tuple else tuple(parts)
-        for show in (str, repr):
+        shows: Tuple[Any, ...] = (repr,) if type(value).__str__ is object.__str__ else (str, repr)
+        for show in shows:
             try:
                 shown = show(value)
             except Exception:  # nor can logging show it so
