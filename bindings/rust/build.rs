@@ -1,6 +1,7 @@
-//! Tells where the C library is: in the folder that the environment names as CHROMESQUID_LIBRARY, else in `lib` beside this file, or in
-//! `bin/program` of the repository that this crate stands in. The header beside the archive tells its version and the layout of what
-//! calls hand over; where they are not those that this crate was written for, the build ends with the name of the file.
+//! Tells where the C library is: in the folder that the environment names as CHROMESQUID_LIBRARY, by its whole path or from this file's folder
+//! on, else in `lib` beside this file, or in `bin/program` of the repository that this crate stands in. The header beside the archive tells its
+//! version and the layout of what calls hand over; where they are not those that this crate was written for, the build ends with the name of
+//! the file.
 use std::{
     env, fs,
     path::{Path, PathBuf},
@@ -26,10 +27,10 @@ fn main() {
 }
 
 fn folder() -> PathBuf {
-    if let Some(folder) = env::var_os("CHROMESQUID_LIBRARY") {
-        return PathBuf::from(folder);
-    }
     let here = PathBuf::from(env::var_os("CARGO_MANIFEST_DIR").unwrap());
+    if let Some(folder) = env::var_os("CHROMESQUID_LIBRARY") {
+        return here.join(folder);
+    }
     let beside = here.join("lib");
     if beside.is_dir() {
         beside
