@@ -10,7 +10,7 @@ use Rattle.secret_forms.specs.declared.bytewise.Space.TheVariants.{Encoded, Plus
 use Rattle.secret_forms.specs.declared.bytewise.Digits.{Digits}
 use Rattle.secret_forms.specs.declared.bytewise.Digits.TheVariants.{Upper, Lower}
 use Rattle.secret_forms.specs.declared.bytewise.Marks.{Marks}
-use Rattle.secret_forms.specs.declared.bytewise.Marks.TheVariants.{Kept as KeptMarks, Slash as SlashMark, Markup, SlashAndMarkup}
+use Rattle.secret_forms.specs.declared.bytewise.Marks.TheVariants.{Kept as KeptMarks, Slash as SlashMark, Markup, SlashAndMarkup, Gson, Dotnet as DotnetMarks}
 use Rattle.secret_forms.specs.declared.bytewise.Json.{Json}
 use Rattle.secret_forms.specs.declared.bytewise.Quotes.{Quotes}
 use Rattle.secret_forms.specs.declared.bytewise.Quotes.TheVariants.{Kept as KeptQuotes, Mixed, Named, DoubleAlone, Canonical, Padded, Decimal, Hexadecimal, DecimalMarks, HexadecimalMarks}
@@ -68,21 +68,26 @@ json_unit digits unit =
 
 -- whether `/` is escaped
 abbrev pub escapes_slash : Marks → Bool
-escapes_slash KeptMarks = false
 escapes_slash SlashMark = true
-escapes_slash Markup = false
 escapes_slash SlashAndMarkup = true
+escapes_slash _ = false
 
--- whether `<`, `>` and `&` are escaped
-abbrev pub escapes_markup : Marks → Bool
-escapes_markup KeptMarks = false
-escapes_markup SlashMark = false
-escapes_markup Markup = true
-escapes_markup SlashAndMarkup = true
+-- the bytes beside control characters that JSON writes by their numbers
+abbrev pub numbered_marks : Marks → List ℕ
+numbered_marks KeptMarks = []
+numbered_marks SlashMark = []
+numbered_marks Markup = codes "<>&"
+numbered_marks SlashAndMarkup = codes "<>&"
+numbered_marks Gson = codes "<>&='"
+numbered_marks DotnetMarks = codes "<>&+'\"`" ++ (127 ∷ [])
 
--- whether JSON writes a byte by its number: a control character, or a mark that is escaped
+-- whether JSON writes a byte by its number
 abbrev pub is_by_number : Marks → ℕ → Bool
-is_by_number marks byte = nat_lt byte 32 || (escapes_markup marks && list_any (λ one. one == byte) (codes "<>&"))
+is_by_number marks byte = nat_lt byte 32 || list_any (λ one. one == byte) (numbered_marks marks)
+
+-- whether a backslash stands before a byte of a JSON string that is not written by its number
+abbrev pub has_backslash : Marks → ℕ → Bool
+has_backslash marks byte = (byte == 34) || ((byte == 47) && escapes_slash marks)
 
 -- a byte with a backslash before it, unless it stands as it is
 abbrev pub escaped_unless : Bool → ℕ → List ℕ
@@ -92,12 +97,12 @@ escaped_unless is_kept byte = if is_kept then byte ∷ [] else 92 ∷ byte ∷ [
 unfoldable pub json_no_letter : Json → ℕ → List ℕ
 json_no_letter json byte =
     if is_by_number json.marks byte then json_unit json.digits byte
-    else escaped_unless (not (byte == 47) || not (escapes_slash json.marks)) byte
+    else escaped_unless (not (has_backslash json.marks byte)) byte
 
--- a byte of a JSON string: `\"`, `\\`, `\b`, `\t`, `\n`, `\f` and `\r`, or by its number, or as it is
+-- a byte of a JSON string: `\\`, `\b`, `\t`, `\n`, `\f` and `\r`, or by its number, or with a backslash, or as it is
 unfoldable pub json_byte : Json → ℕ → List ℕ
 json_byte json byte =
-    if byte == 34 then 92 ∷ 34 ∷ [] else if byte == 92 then 92 ∷ 92 ∷ [] else if byte == 8 then 92 ∷ 98 ∷ []
+    if byte == 92 then 92 ∷ 92 ∷ [] else if byte == 8 then 92 ∷ 98 ∷ []
     else if byte == 9 then 92 ∷ 116 ∷ [] else if byte == 10 then 92 ∷ 110 ∷ [] else if byte == 12 then 92 ∷ 102 ∷ []
     else if byte == 13 then 92 ∷ 114 ∷ [] else json_no_letter json byte
 

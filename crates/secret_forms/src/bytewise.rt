@@ -105,6 +105,10 @@ pub enum Marks {
     Markup,
     /// All four.
     SlashAndMarkup,
+    /// What Gson escapes: `<`, `>`, `&`, `=` and single quotes, by their numbers.
+    Gson,
+    /// What .NET escapes: `<`, `>`, `&`, `+`, both quotes, backquotes and the byte 127, by their numbers.
+    Dotnet,
 }
 
 /// How an encoder of JSON writes what it escapes.
@@ -223,18 +227,20 @@ fn escapes_slash(marks: Marks) -> bool
     ensures { result ≡ spec.escapes_slash marks }
 {
     match marks {
-        Marks::Kept | Marks::Markup => false,
         Marks::Slash | Marks::SlashAndMarkup => true,
+        _ => false,
     }
 }
 
-/// Whether `<`, `>` and `&` are escaped.
-fn escapes_markup(marks: Marks) -> bool
-    ensures { result ≡ spec.escapes_markup marks }
+/// The bytes beside control characters that JSON writes by their numbers.
+fn numbered_marks(marks: Marks) -> &'static [u8]
+    ensures { result.now ≡ spec.numbered_marks marks }
 {
     match marks {
-        Marks::Kept | Marks::Slash => false,
-        Marks::Markup | Marks::SlashAndMarkup => true,
+        Marks::Kept | Marks::Slash => b"",
+        Marks::Markup | Marks::SlashAndMarkup => b"<>&",
+        Marks::Gson => b"<>&='",
+        Marks::Dotnet => b"<>&+'\"`\x7f",
     }
 }
 
@@ -242,7 +248,14 @@ fn escapes_markup(marks: Marks) -> bool
 fn is_by_number(marks: Marks, byte: u8) -> bool
     ensures { result ≡ spec.is_by_number marks byte }
 {
-    byte < 32 || escapes_markup(marks) && b"<>&".contains(&byte)
+    byte < 32 || numbered_marks(marks).contains(&byte)
+}
+
+/// Whether a backslash stands before a byte of a JSON string that is not written by its number.
+fn has_backslash(marks: Marks, byte: u8) -> bool
+    ensures { result ≡ spec.has_backslash marks byte }
+{
+    byte == b'"' || byte == b'/' && escapes_slash(marks)
 }
 
 /// Writes a byte of a JSON string for which there is no letter.
@@ -252,7 +265,7 @@ fn push_no_letter(out: &mut Vec<u8>, json: Json, byte: u8) -> Result<(), AllocEr
     if is_by_number(json.marks, byte) {
         return push_unit(out, json.digits, u16::from(byte));
     }
-    push_escaped(out, byte != b'/' || !escapes_slash(json.marks), byte)
+    push_escaped(out, !has_backslash(json.marks, byte), byte)
 }
 
 /// Writes a byte of a JSON string.
@@ -260,7 +273,6 @@ pub(crate) fn push_json(out: &mut Vec<u8>, json: Json, byte: u8) -> Result<(), A
     ensures json { Writes result out.old out.new (spec.json_byte json byte) }
 {
     match byte {
-        b'"' => out.extend_from_slice(b"\\\""),
         b'\\' => out.extend_from_slice(b"\\\\"),
         8 => out.extend_from_slice(b"\\b"),
         9 => out.extend_from_slice(b"\\t"),
