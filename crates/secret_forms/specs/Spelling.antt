@@ -4,7 +4,7 @@ use Rattle.std.specs.Char.{is_ascii_alphanumeric}
 use Rattle.std.specs.List.{flat_map, list_any}
 use Rattle.secret_forms.specs.Law.{HidesEach}
 use Rattle.secret_forms.specs.declared.bytewise.Kept.{Kept}
-use Rattle.secret_forms.specs.declared.bytewise.Kept.TheVariants.{Nothing, Unreserved, Slash, Component, Uri, Form, Fewest, Dotnet, Query, Path}
+use Rattle.secret_forms.specs.declared.bytewise.Kept.TheVariants.{Nothing, Unreserved, Slash, Component, Uri, Form, Fewest, Dotnet, Query, Path, User, GoUser, GoSegment, Escape}
 use Rattle.secret_forms.specs.declared.bytewise.Space.{Space}
 use Rattle.secret_forms.specs.declared.bytewise.Space.TheVariants.{Encoded, Plus}
 use Rattle.secret_forms.specs.declared.bytewise.Digits.{Digits}
@@ -15,7 +15,7 @@ use Rattle.secret_forms.specs.declared.bytewise.Json.{Json}
 use Rattle.secret_forms.specs.declared.bytewise.Quotes.{Quotes}
 use Rattle.secret_forms.specs.declared.bytewise.Quotes.TheVariants.{Kept as KeptQuotes, Mixed, Named, DoubleAlone, Canonical, Padded, Decimal, Hexadecimal, DecimalMarks, HexadecimalMarks}
 use Rattle.secret_forms.specs.declared.bytewise.Quoting.{Quoting}
-use Rattle.secret_forms.specs.declared.bytewise.Quoting.TheVariants.{Single, SingleByDouble, Double, Backslashes, BashBackslashes, Dollar, DollarAscii}
+use Rattle.secret_forms.specs.declared.bytewise.Quoting.TheVariants.{Single, SingleByDouble, Double, Backslashes, BashBackslashes, Dollar, DollarAscii, Git}
 use Rattle.secret_forms.specs.declared.bytewise.Spelling.{Spelling}
 use Rattle.secret_forms.specs.declared.bytewise.Spelling.TheVariants.{Url, Json as JsonString, Xml, Shell}
 
@@ -31,6 +31,10 @@ kept_marks Fewest = codes "-._"
 kept_marks Dotnet = codes "-._!*()"
 kept_marks Query = codes "-._~!()*;,/?:@&=+$%[\\]^`{|}"
 kept_marks Path = codes "-._~!'()*;,/:@&=+$%[\\]^|"
+kept_marks User = codes "-._~!'()*,&+$%"
+kept_marks GoUser = codes "-._~$&+,;="
+kept_marks GoSegment = codes "-._~$&+:=@"
+kept_marks Escape = codes "-._*@+/"
 
 -- whether letters and digits stand in a URL as they are
 abbrev pub keeps_letters : Kept → Bool
@@ -212,6 +216,10 @@ dollar_byte is_kept byte =
 abbrev pub single_byte : List ℕ → ℕ → List ℕ
 single_byte quote byte = if byte == 39 then quote else byte ∷ []
 
+-- a byte within single quotes, which end before a quote and before `!`
+abbrev pub git_byte : ℕ → List ℕ
+git_byte byte = if list_any (λ one. one == byte) (39 ∷ 33 ∷ []) then 39 ∷ 92 ∷ byte ∷ 39 ∷ [] else byte ∷ []
+
 -- a byte of a shell's word
 unfoldable pub shell_byte : Quoting → ℕ → List ℕ
 shell_byte Single byte = single_byte (39 ∷ 92 ∷ 39 ∷ 39 ∷ []) byte
@@ -221,6 +229,7 @@ shell_byte Backslashes byte = escaped_unless (is_plain byte) byte
 shell_byte BashBackslashes byte = escaped_unless (not (is_bash_mark byte)) byte
 shell_byte Dollar byte = dollar_byte (not (is_control byte)) byte
 shell_byte DollarAscii byte = dollar_byte (is_printable byte) byte
+shell_byte Git byte = git_byte byte
 
 -- a byte as an encoder writes it
 abbrev pub spelled_byte : Spelling → ℕ → List ℕ
@@ -241,11 +250,15 @@ spelled_by spellings secret = map (λ spelling. spelled spelling secret) spellin
 abbrev pub url_of : Kept → List Spelling
 url_of kept = Url kept Encoded Upper ∷ Url kept Encoded Lower ∷ Url kept Plus Upper ∷ Url kept Plus Lower ∷ []
 
+-- with a space as any other byte alone
+abbrev pub url_without_plus : Kept → List Spelling
+url_without_plus kept = Url kept Encoded Upper ∷ Url kept Encoded Lower ∷ []
+
 -- the encoders of URLs
 abbrev pub url_spellings : List Spelling
 url_spellings =
     flat_map url_of (Unreserved ∷ Slash ∷ Component ∷ Uri ∷ Form ∷ Fewest ∷ Dotnet ∷ Query ∷ Path ∷ [])
-    ++ (Url Nothing Encoded Upper ∷ Url Nothing Encoded Lower ∷ [])
+    ++ flat_map url_without_plus (User ∷ GoUser ∷ GoSegment ∷ Escape ∷ Nothing ∷ [])
 
 -- the encoders of XML and HTML
 abbrev pub xml_spellings : List Spelling
@@ -257,7 +270,7 @@ xml_spellings =
 abbrev pub shell_spellings : List Spelling
 shell_spellings =
     Shell Single ∷ Shell SingleByDouble ∷ Shell Double ∷ Shell Backslashes ∷ Shell BashBackslashes
-    ∷ Shell Dollar ∷ Shell DollarAscii ∷ []
+    ∷ Shell Dollar ∷ Shell DollarAscii ∷ Shell Git ∷ []
 
 -- no character that belongs to the secret is outside the patterns
 abbrev pub HidesSpelled : List (List ℕ) → List ℕ → Spelling → Type 0

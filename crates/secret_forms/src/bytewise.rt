@@ -30,6 +30,14 @@ pub enum Kept {
     Query,
     /// What a browser leaves in the path of a URL: all marks but `"#<>?` and backquotes and braces.
     Path,
+    /// What a browser leaves in the name and password of a URL: `!$%&'()*+,-._~`.
+    User,
+    /// What Go leaves in the name and password of a URL: the unreserved ones and `$&+,;=`.
+    GoUser,
+    /// What Go leaves in a segment of a path: the unreserved ones and `$&+:=@`.
+    GoSegment,
+    /// What `escape` of JavaScript leaves: letters, digits and `@*_+-./`.
+    Escape,
 }
 
 /// How a URL's encoder writes a space.
@@ -92,6 +100,8 @@ pub enum Quoting {
     Dollar,
     /// So in ASCII alone.
     DollarAscii,
+    /// As git does: within single quotes, with `'\''` for one and `'\!'` for `!`.
+    Git,
 }
 
 /// What JSON escapes beside quotes, backslashes and control characters.
@@ -148,6 +158,10 @@ fn kept_marks(kept: Kept) -> &'static [u8]
         Kept::Dotnet => b"-._!*()",
         Kept::Query => b"-._~!()*;,/?:@&=+$%[\\]^`{|}",
         Kept::Path => b"-._~!'()*;,/:@&=+$%[\\]^|",
+        Kept::User => b"-._~!'()*,&+$%",
+        Kept::GoUser => b"-._~$&+,;=",
+        Kept::GoSegment => b"-._~$&+:=@",
+        Kept::Escape => b"-._*@+/",
     }
 }
 
@@ -445,6 +459,16 @@ fn push_single(out: &mut Vec<u8>, quote: &[u8], byte: u8) -> Result<(), AllocErr
     out.extend_from_slice(&[byte])
 }
 
+/// Writes a byte within single quotes as git does, which ends them before a quote and before `!`.
+fn push_git(out: &mut Vec<u8>, byte: u8) -> Result<(), AllocError>
+    ensures git { Writes result out.old out.new (spec.git_byte byte) }
+{
+    if b"'!".contains(&byte) {
+        return out.extend_from_slice(&[b'\'', b'\\', byte, b'\'']);
+    }
+    out.extend_from_slice(&[byte])
+}
+
 /// Writes a byte of a shell's word.
 fn push_shell(out: &mut Vec<u8>, quoting: Quoting, byte: u8) -> Result<(), AllocError>
     ensures shell { Writes result out.old out.new (spec.shell_byte quoting byte) }
@@ -457,6 +481,7 @@ fn push_shell(out: &mut Vec<u8>, quoting: Quoting, byte: u8) -> Result<(), Alloc
         Quoting::BashBackslashes => push_escaped(out, !is_bash_mark(byte), byte),
         Quoting::Dollar => push_dollar(out, !is_control(byte), byte),
         Quoting::DollarAscii => push_dollar(out, is_printable(byte), byte),
+        Quoting::Git => push_git(out, byte),
     }
 }
 
