@@ -1082,8 +1082,8 @@ def forms(secret: Haystack, names: Union[str, Iterable[str]] = "all") -> Union[L
     them, or all. Wherever the secret stands encoded so in a text, alone or within other bytes, each character that holds a bit of it
     lies in an occurrence of a pattern. They are of type str where the secret is.
 
-        >>> forms("key/+", ["hex", "url"])
-        ['6b65792f2b', '6B65792F2B', 'key%2F%2B', 'key%2f%2b', 'key/%2B', 'key/%2b', 'key/+', '%6B%65%79%2F%2B', '%6b%65%79%2f%2b']
+        >>> forms("key/1", ["hex", "url"])
+        ['6b65792f31', '6B65792F31', 'key%2F1', 'key%2f1', 'key/1', '%6B%65%79%2F%31', '%6b%65%79%2f%31']
 
     Raises FormError where the secret has fewer than four bytes."""
     patterns = _form_patterns(_pattern_bytes(secret), _form_bits(names))

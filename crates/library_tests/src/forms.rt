@@ -73,6 +73,15 @@ fn url_by_each_set_of_marks(rt: HostRuntime) {
 }
 
 #[test]
+fn url_of_a_password_and_a_segment(rt: HostRuntime) {
+    let text = shown(rt.alloc(), url_forms(rt.alloc(), b"!&:/@")).expect(&rt, "memory");
+    let row: &[u8] = b"\
+        %21%26%3A%2F%40 %21%26%3a%2f%40 %21%26%3A/%40 %21%26%3a/%40 !%26%3A%2F%40 !%26%3a%2f%40 !&:/@ \
+        !&%3A%2F%40 !&%3a%2f%40 %21&%3A%2F%40 %21&%3a%2f%40 %21&:%2F@ %21&:%2f@ %21%26%3A/@ %21%26%3a/@ ";
+    assert_eq!(rt; text.as_slice(), row);
+}
+
+#[test]
 fn url_of_bytes_that_are_kept(rt: HostRuntime) {
     let text = shown(rt.alloc(), url_forms(rt.alloc(), b"key-1.2")).expect(&rt, "memory");
     let row: &[u8] = b"key-1.2 %6B%65%79%2D%31%2E%32 %6b%65%79%2d%31%2e%32 ";
@@ -87,9 +96,19 @@ fn json_by_each_encoder(rt: HostRuntime) {
     let row: &[u8] = b"\
         \xc3\xa9/\\\"\\\\<\\u0001 \xc3\xa9\\/\\\"\\\\<\\u0001 \xc3\xa9/\\\"\\\\\\u003c\\u0001 \
         \xc3\xa9/\\\"\\\\\\u003C\\u0001 \xc3\xa9\\/\\\"\\\\\\u003c\\u0001 \
-        \xc3\xa9\\/\\\"\\\\\\u003C\\u0001 \\u00e9/\\\"\\\\<\\u0001 \\u00E9/\\\"\\\\<\\u0001 \
+        \xc3\xa9\\/\\\"\\\\\\u003C\\u0001 \xc3\xa9/\\u0022\\\\\\u003c\\u0001 \
+        \xc3\xa9/\\u0022\\\\\\u003C\\u0001 \\u00e9/\\\"\\\\<\\u0001 \\u00E9/\\\"\\\\<\\u0001 \
         \\u00e9\\/\\\"\\\\<\\u0001 \\u00E9\\/\\\"\\\\<\\u0001 \\u00e9/\\\"\\\\\\u003c\\u0001 \
-        \\u00E9/\\\"\\\\\\u003C\\u0001 \\u00e9\\/\\\"\\\\\\u003c\\u0001 \\u00E9\\/\\\"\\\\\\u003C\\u0001 ";
+        \\u00E9/\\\"\\\\\\u003C\\u0001 \\u00e9\\/\\\"\\\\\\u003c\\u0001 \\u00E9\\/\\\"\\\\\\u003C\\u0001 \
+        \\u00e9/\\u0022\\\\\\u003c\\u0001 \\u00E9/\\u0022\\\\\\u003C\\u0001 ";
+    assert_eq!(rt; text.as_slice(), row);
+}
+
+#[test]
+fn json_by_each_set_of_marks(rt: HostRuntime) {
+    let text = shown(rt.alloc(), json_forms(rt.alloc(), b"'=+`")).expect(&rt, "memory");
+    let row: &[u8] =
+        b"'=+` \\u0027\\u003d+` \\u0027\\u003D+` \\u0027=\\u002b\\u0060 \\u0027=\\u002B\\u0060 ";
     assert_eq!(rt; text.as_slice(), row);
 }
 
@@ -100,7 +119,9 @@ fn json_of_a_surrogate_pair(rt: HostRuntime) {
         json_forms(rt.alloc(), b"key\xf0\x9f\x98\x80\x7f"),
     )
     .expect(&rt, "memory");
-    let row: &[u8] = b"key\xf0\x9f\x98\x80\x7f key\\ud83d\\ude00\\u007f key\\uD83D\\uDE00\\u007F ";
+    let row: &[u8] = b"\
+        key\xf0\x9f\x98\x80\x7f key\xf0\x9f\x98\x80\\u007f key\xf0\x9f\x98\x80\\u007F \
+        key\\ud83d\\ude00\\u007f key\\uD83D\\uDE00\\u007F ";
     assert_eq!(rt; text.as_slice(), row);
 }
 
@@ -145,6 +166,13 @@ fn shell_as_bash_writes(rt: HostRuntime) {
 }
 
 #[test]
+fn shell_as_git_writes(rt: HostRuntime) {
+    let text = shown(rt.alloc(), shell_forms(rt.alloc(), b"it's!")).expect(&rt, "memory");
+    let row: &[u8] = b"it'\\''s! it'\"'\"'s! it's! it\\'s\\! it\\'s! it'\\''s'\\!' ";
+    assert_eq!(rt; text.as_slice(), row);
+}
+
+#[test]
 fn lines_of_eight_bytes(rt: HostRuntime) {
     let text = shown(
         rt.alloc(),
@@ -184,13 +212,13 @@ fn forms_of_none(rt: HostRuntime) {
 
 #[test]
 fn base64_of_json(rt: HostRuntime) {
-    let patterns = nested_forms(rt.alloc(), b"k\"ey", Form::Json, Form::Base64);
+    let patterns = nested_forms(rt.alloc(), b"k\\ey", Form::Json, Form::Base64);
     let text = shown(rt.alloc(), patterns).expect(&rt, "memory");
     let row: &[u8] = b"\
-        a1wiZX a1wiZXk a1wiZXl a1wiZXm a1wiZXn tcImV5 GtcImV5 WtcImV5 mtcImV5 2tcImV5 rXCJle BrXCJle \
-        FrXCJle JrXCJle NrXCJle RrXCJle VrXCJle ZrXCJle drXCJle hrXCJle lrXCJle prXCJle trXCJle xrXCJle \
-        1rXCJle 5rXCJle 9rXCJle rXCJleQ rXCJleR rXCJleS rXCJleT rXCJleU rXCJleV rXCJleW rXCJleX rXCJleY \
-        rXCJleZ rXCJlea rXCJleb rXCJlec rXCJled rXCJlee rXCJlef ";
+        a1xcZX a1xcZXk a1xcZXl a1xcZXm a1xcZXn tcXGV5 GtcXGV5 WtcXGV5 mtcXGV5 2tcXGV5 rXFxle BrXFxle \
+        FrXFxle JrXFxle NrXFxle RrXFxle VrXFxle ZrXFxle drXFxle hrXFxle lrXFxle prXFxle trXFxle xrXFxle \
+        1rXFxle 5rXFxle 9rXFxle rXFxleQ rXFxleR rXFxleS rXFxleT rXFxleU rXFxleV rXFxleW rXFxleX rXFxleY \
+        rXFxleZ rXFxlea rXFxleb rXFxlec rXFxled rXFxlee rXFxlef ";
     assert_eq!(rt; text.as_slice(), row);
 }
 

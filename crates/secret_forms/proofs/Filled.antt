@@ -28,7 +28,7 @@ use Rattle.secret_forms.specs.declared.bytewise.Digits.TheVariants.{Upper, Lower
 use Rattle.secret_forms.specs.declared.bytewise.Quotes.{Quotes}
 use Rattle.secret_forms.specs.declared.bytewise.Quotes.TheVariants.{Kept as KeptQuotes, Mixed, Named, DoubleAlone, Canonical, Padded, Decimal, Hexadecimal, DecimalMarks, HexadecimalMarks}
 use Rattle.secret_forms.specs.declared.bytewise.Quoting.{Quoting}
-use Rattle.secret_forms.specs.declared.bytewise.Quoting.TheVariants.{Single, SingleByDouble, Double, Backslashes, BashBackslashes, Dollar, DollarAscii}
+use Rattle.secret_forms.specs.declared.bytewise.Quoting.TheVariants.{Single, SingleByDouble, Double, Backslashes, BashBackslashes, Dollar, DollarAscii, Git}
 use Rattle.secret_forms.specs.declared.bytewise.Spelling.{Spelling}
 use Rattle.secret_forms.specs.declared.bytewise.Spelling.TheVariants.{Url, Json as JsonString, Xml, Shell}
 use Rattle.secret_forms.specs.declared.form.Form.{Form}
@@ -154,6 +154,7 @@ shell_filled Backslashes b = search (either, filled)
 shell_filled BashBackslashes b = search (either, filled)
 shell_filled Dollar b = dollar_filled _ b
 shell_filled DollarAscii b = dollar_filled _ b
+shell_filled Git b = search (either, filled)
 
 no_letter_filled : (json : Json) (b : ℕ) → IsFilled (json_no_letter json b)
 unfolding json_no_letter

@@ -4,18 +4,18 @@ use Rattle.std.specs.Char.{is_ascii_alphanumeric}
 use Rattle.std.specs.List.{flat_map, list_any}
 use Rattle.secret_forms.specs.Law.{HidesEach}
 use Rattle.secret_forms.specs.declared.bytewise.Kept.{Kept}
-use Rattle.secret_forms.specs.declared.bytewise.Kept.TheVariants.{Nothing, Unreserved, Slash, Component, Uri, Form, Fewest, Dotnet, Query, Path}
+use Rattle.secret_forms.specs.declared.bytewise.Kept.TheVariants.{Nothing, Unreserved, Slash, Component, Uri, Form, Fewest, Dotnet, Query, Path, User, GoUser, GoSegment, Escape}
 use Rattle.secret_forms.specs.declared.bytewise.Space.{Space}
 use Rattle.secret_forms.specs.declared.bytewise.Space.TheVariants.{Encoded, Plus}
 use Rattle.secret_forms.specs.declared.bytewise.Digits.{Digits}
 use Rattle.secret_forms.specs.declared.bytewise.Digits.TheVariants.{Upper, Lower}
 use Rattle.secret_forms.specs.declared.bytewise.Marks.{Marks}
-use Rattle.secret_forms.specs.declared.bytewise.Marks.TheVariants.{Kept as KeptMarks, Slash as SlashMark, Markup, SlashAndMarkup}
+use Rattle.secret_forms.specs.declared.bytewise.Marks.TheVariants.{Kept as KeptMarks, Slash as SlashMark, Markup, SlashAndMarkup, Gson, Dotnet as DotnetMarks}
 use Rattle.secret_forms.specs.declared.bytewise.Json.{Json}
 use Rattle.secret_forms.specs.declared.bytewise.Quotes.{Quotes}
 use Rattle.secret_forms.specs.declared.bytewise.Quotes.TheVariants.{Kept as KeptQuotes, Mixed, Named, DoubleAlone, Canonical, Padded, Decimal, Hexadecimal, DecimalMarks, HexadecimalMarks}
 use Rattle.secret_forms.specs.declared.bytewise.Quoting.{Quoting}
-use Rattle.secret_forms.specs.declared.bytewise.Quoting.TheVariants.{Single, SingleByDouble, Double, Backslashes, BashBackslashes, Dollar, DollarAscii}
+use Rattle.secret_forms.specs.declared.bytewise.Quoting.TheVariants.{Single, SingleByDouble, Double, Backslashes, BashBackslashes, Dollar, DollarAscii, Git}
 use Rattle.secret_forms.specs.declared.bytewise.Spelling.{Spelling}
 use Rattle.secret_forms.specs.declared.bytewise.Spelling.TheVariants.{Url, Json as JsonString, Xml, Shell}
 
@@ -31,6 +31,10 @@ kept_marks Fewest = codes "-._"
 kept_marks Dotnet = codes "-._!*()"
 kept_marks Query = codes "-._~!()*;,/?:@&=+$%[\\]^`{|}"
 kept_marks Path = codes "-._~!'()*;,/:@&=+$%[\\]^|"
+kept_marks User = codes "-._~!'()*,&+$%"
+kept_marks GoUser = codes "-._~$&+,;="
+kept_marks GoSegment = codes "-._~$&+:=@"
+kept_marks Escape = codes "-._*@+/"
 
 -- whether letters and digits stand in a URL as they are
 abbrev pub keeps_letters : Kept → Bool
@@ -68,21 +72,26 @@ json_unit digits unit =
 
 -- whether `/` is escaped
 abbrev pub escapes_slash : Marks → Bool
-escapes_slash KeptMarks = false
 escapes_slash SlashMark = true
-escapes_slash Markup = false
 escapes_slash SlashAndMarkup = true
+escapes_slash _ = false
 
--- whether `<`, `>` and `&` are escaped
-abbrev pub escapes_markup : Marks → Bool
-escapes_markup KeptMarks = false
-escapes_markup SlashMark = false
-escapes_markup Markup = true
-escapes_markup SlashAndMarkup = true
+-- the bytes beside control characters that JSON writes by their numbers
+abbrev pub numbered_marks : Marks → List ℕ
+numbered_marks KeptMarks = []
+numbered_marks SlashMark = []
+numbered_marks Markup = codes "<>&"
+numbered_marks SlashAndMarkup = codes "<>&"
+numbered_marks Gson = codes "<>&='"
+numbered_marks DotnetMarks = codes "<>&+'\"`" ++ (127 ∷ [])
 
--- whether JSON writes a byte by its number: a control character, or a mark that is escaped
+-- whether JSON writes a byte by its number
 abbrev pub is_by_number : Marks → ℕ → Bool
-is_by_number marks byte = nat_lt byte 32 || (escapes_markup marks && list_any (λ one. one == byte) (codes "<>&"))
+is_by_number marks byte = nat_lt byte 32 || list_any (λ one. one == byte) (numbered_marks marks)
+
+-- whether a backslash stands before a byte of a JSON string that is not written by its number
+abbrev pub has_backslash : Marks → ℕ → Bool
+has_backslash marks byte = (byte == 34) || ((byte == 47) && escapes_slash marks)
 
 -- a byte with a backslash before it, unless it stands as it is
 abbrev pub escaped_unless : Bool → ℕ → List ℕ
@@ -92,12 +101,12 @@ escaped_unless is_kept byte = if is_kept then byte ∷ [] else 92 ∷ byte ∷ [
 unfoldable pub json_no_letter : Json → ℕ → List ℕ
 json_no_letter json byte =
     if is_by_number json.marks byte then json_unit json.digits byte
-    else escaped_unless (not (byte == 47) || not (escapes_slash json.marks)) byte
+    else escaped_unless (not (has_backslash json.marks byte)) byte
 
--- a byte of a JSON string: `\"`, `\\`, `\b`, `\t`, `\n`, `\f` and `\r`, or by its number, or as it is
+-- a byte of a JSON string: `\\`, `\b`, `\t`, `\n`, `\f` and `\r`, or by its number, or with a backslash, or as it is
 unfoldable pub json_byte : Json → ℕ → List ℕ
 json_byte json byte =
-    if byte == 34 then 92 ∷ 34 ∷ [] else if byte == 92 then 92 ∷ 92 ∷ [] else if byte == 8 then 92 ∷ 98 ∷ []
+    if byte == 92 then 92 ∷ 92 ∷ [] else if byte == 8 then 92 ∷ 98 ∷ []
     else if byte == 9 then 92 ∷ 116 ∷ [] else if byte == 10 then 92 ∷ 110 ∷ [] else if byte == 12 then 92 ∷ 102 ∷ []
     else if byte == 13 then 92 ∷ 114 ∷ [] else json_no_letter json byte
 
@@ -207,6 +216,10 @@ dollar_byte is_kept byte =
 abbrev pub single_byte : List ℕ → ℕ → List ℕ
 single_byte quote byte = if byte == 39 then quote else byte ∷ []
 
+-- a byte within single quotes, which end before a quote and before `!`
+abbrev pub git_byte : ℕ → List ℕ
+git_byte byte = if list_any (λ one. one == byte) (39 ∷ 33 ∷ []) then 39 ∷ 92 ∷ byte ∷ 39 ∷ [] else byte ∷ []
+
 -- a byte of a shell's word
 unfoldable pub shell_byte : Quoting → ℕ → List ℕ
 shell_byte Single byte = single_byte (39 ∷ 92 ∷ 39 ∷ 39 ∷ []) byte
@@ -216,6 +229,7 @@ shell_byte Backslashes byte = escaped_unless (is_plain byte) byte
 shell_byte BashBackslashes byte = escaped_unless (not (is_bash_mark byte)) byte
 shell_byte Dollar byte = dollar_byte (not (is_control byte)) byte
 shell_byte DollarAscii byte = dollar_byte (is_printable byte) byte
+shell_byte Git byte = git_byte byte
 
 -- a byte as an encoder writes it
 abbrev pub spelled_byte : Spelling → ℕ → List ℕ
@@ -236,11 +250,15 @@ spelled_by spellings secret = map (λ spelling. spelled spelling secret) spellin
 abbrev pub url_of : Kept → List Spelling
 url_of kept = Url kept Encoded Upper ∷ Url kept Encoded Lower ∷ Url kept Plus Upper ∷ Url kept Plus Lower ∷ []
 
+-- with a space as any other byte alone
+abbrev pub url_without_plus : Kept → List Spelling
+url_without_plus kept = Url kept Encoded Upper ∷ Url kept Encoded Lower ∷ []
+
 -- the encoders of URLs
 abbrev pub url_spellings : List Spelling
 url_spellings =
     flat_map url_of (Unreserved ∷ Slash ∷ Component ∷ Uri ∷ Form ∷ Fewest ∷ Dotnet ∷ Query ∷ Path ∷ [])
-    ++ (Url Nothing Encoded Upper ∷ Url Nothing Encoded Lower ∷ [])
+    ++ flat_map url_without_plus (User ∷ GoUser ∷ GoSegment ∷ Escape ∷ Nothing ∷ [])
 
 -- the encoders of XML and HTML
 abbrev pub xml_spellings : List Spelling
@@ -252,7 +270,7 @@ xml_spellings =
 abbrev pub shell_spellings : List Spelling
 shell_spellings =
     Shell Single ∷ Shell SingleByDouble ∷ Shell Double ∷ Shell Backslashes ∷ Shell BashBackslashes
-    ∷ Shell Dollar ∷ Shell DollarAscii ∷ []
+    ∷ Shell Dollar ∷ Shell DollarAscii ∷ Shell Git ∷ []
 
 -- no character that belongs to the secret is outside the patterns
 abbrev pub HidesSpelled : List (List ℕ) → List ℕ → Spelling → Type 0

@@ -30,6 +30,14 @@ pub enum Kept {
     Query,
     /// What a browser leaves in the path of a URL: all marks but `"#<>?` and backquotes and braces.
     Path,
+    /// What a browser leaves in the name and password of a URL: `!$%&'()*+,-._~`.
+    User,
+    /// What Go leaves in the name and password of a URL: the unreserved ones and `$&+,;=`.
+    GoUser,
+    /// What Go leaves in a segment of a path: the unreserved ones and `$&+:=@`.
+    GoSegment,
+    /// What `escape` of JavaScript leaves: letters, digits and `@*_+-./`.
+    Escape,
 }
 
 /// How a URL's encoder writes a space.
@@ -92,6 +100,8 @@ pub enum Quoting {
     Dollar,
     /// So in ASCII alone.
     DollarAscii,
+    /// As git does: within single quotes, with `'\''` for one and `'\!'` for `!`.
+    Git,
 }
 
 /// What JSON escapes beside quotes, backslashes and control characters.
@@ -105,6 +115,10 @@ pub enum Marks {
     Markup,
     /// All four.
     SlashAndMarkup,
+    /// What Gson escapes: `<`, `>`, `&`, `=` and single quotes, by their numbers.
+    Gson,
+    /// What .NET escapes: `<`, `>`, `&`, `+`, both quotes, backquotes and the byte 127, by their numbers.
+    Dotnet,
 }
 
 /// How an encoder of JSON writes what it escapes.
@@ -144,6 +158,10 @@ fn kept_marks(kept: Kept) -> &'static [u8]
         Kept::Dotnet => b"-._!*()",
         Kept::Query => b"-._~!()*;,/?:@&=+$%[\\]^`{|}",
         Kept::Path => b"-._~!'()*;,/:@&=+$%[\\]^|",
+        Kept::User => b"-._~!'()*,&+$%",
+        Kept::GoUser => b"-._~$&+,;=",
+        Kept::GoSegment => b"-._~$&+:=@",
+        Kept::Escape => b"-._*@+/",
     }
 }
 
@@ -223,18 +241,20 @@ fn escapes_slash(marks: Marks) -> bool
     ensures { result ≡ spec.escapes_slash marks }
 {
     match marks {
-        Marks::Kept | Marks::Markup => false,
         Marks::Slash | Marks::SlashAndMarkup => true,
+        _ => false,
     }
 }
 
-/// Whether `<`, `>` and `&` are escaped.
-fn escapes_markup(marks: Marks) -> bool
-    ensures { result ≡ spec.escapes_markup marks }
+/// The bytes beside control characters that JSON writes by their numbers.
+fn numbered_marks(marks: Marks) -> &'static [u8]
+    ensures { result.now ≡ spec.numbered_marks marks }
 {
     match marks {
-        Marks::Kept | Marks::Slash => false,
-        Marks::Markup | Marks::SlashAndMarkup => true,
+        Marks::Kept | Marks::Slash => b"",
+        Marks::Markup | Marks::SlashAndMarkup => b"<>&",
+        Marks::Gson => b"<>&='",
+        Marks::Dotnet => b"<>&+'\"`\x7f",
     }
 }
 
@@ -242,7 +262,14 @@ fn escapes_markup(marks: Marks) -> bool
 fn is_by_number(marks: Marks, byte: u8) -> bool
     ensures { result ≡ spec.is_by_number marks byte }
 {
-    byte < 32 || escapes_markup(marks) && b"<>&".contains(&byte)
+    byte < 32 || numbered_marks(marks).contains(&byte)
+}
+
+/// Whether a backslash stands before a byte of a JSON string that is not written by its number.
+fn has_backslash(marks: Marks, byte: u8) -> bool
+    ensures { result ≡ spec.has_backslash marks byte }
+{
+    byte == b'"' || byte == b'/' && escapes_slash(marks)
 }
 
 /// Writes a byte of a JSON string for which there is no letter.
@@ -252,7 +279,7 @@ fn push_no_letter(out: &mut Vec<u8>, json: Json, byte: u8) -> Result<(), AllocEr
     if is_by_number(json.marks, byte) {
         return push_unit(out, json.digits, u16::from(byte));
     }
-    push_escaped(out, byte != b'/' || !escapes_slash(json.marks), byte)
+    push_escaped(out, !has_backslash(json.marks, byte), byte)
 }
 
 /// Writes a byte of a JSON string.
@@ -260,7 +287,6 @@ pub(crate) fn push_json(out: &mut Vec<u8>, json: Json, byte: u8) -> Result<(), A
     ensures json { Writes result out.old out.new (spec.json_byte json byte) }
 {
     match byte {
-        b'"' => out.extend_from_slice(b"\\\""),
         b'\\' => out.extend_from_slice(b"\\\\"),
         8 => out.extend_from_slice(b"\\b"),
         9 => out.extend_from_slice(b"\\t"),
@@ -433,6 +459,16 @@ fn push_single(out: &mut Vec<u8>, quote: &[u8], byte: u8) -> Result<(), AllocErr
     out.extend_from_slice(&[byte])
 }
 
+/// Writes a byte within single quotes as git does, which ends them before a quote and before `!`.
+fn push_git(out: &mut Vec<u8>, byte: u8) -> Result<(), AllocError>
+    ensures git { Writes result out.old out.new (spec.git_byte byte) }
+{
+    if b"'!".contains(&byte) {
+        return out.extend_from_slice(&[b'\'', b'\\', byte, b'\'']);
+    }
+    out.extend_from_slice(&[byte])
+}
+
 /// Writes a byte of a shell's word.
 fn push_shell(out: &mut Vec<u8>, quoting: Quoting, byte: u8) -> Result<(), AllocError>
     ensures shell { Writes result out.old out.new (spec.shell_byte quoting byte) }
@@ -445,6 +481,7 @@ fn push_shell(out: &mut Vec<u8>, quoting: Quoting, byte: u8) -> Result<(), Alloc
         Quoting::BashBackslashes => push_escaped(out, !is_bash_mark(byte), byte),
         Quoting::Dollar => push_dollar(out, !is_control(byte), byte),
         Quoting::DollarAscii => push_dollar(out, is_printable(byte), byte),
+        Quoting::Git => push_git(out, byte),
     }
 }
 

@@ -72,7 +72,7 @@ fn add_numbered(alloc: Global, text: &str, patterns: &mut Vec<Vec<u8>>) -> Resul
 }
 
 /// The encoders of JSON: with each choice of what is escaped beside what has to be, and with digits in both cases.
-fn encoders() -> [Json; 8]
+fn encoders() -> [Json; 12]
     ensures { result ≡ json_ways }
 {
     let (upper, lower) = (Digits::Upper, Digits::Lower);
@@ -109,14 +109,30 @@ fn encoders() -> [Json; 8]
             marks: Marks::SlashAndMarkup,
             digits: upper,
         },
+        Json {
+            marks: Marks::Gson,
+            digits: lower,
+        },
+        Json {
+            marks: Marks::Gson,
+            digits: upper,
+        },
+        Json {
+            marks: Marks::Dotnet,
+            digits: lower,
+        },
+        Json {
+            marks: Marks::Dotnet,
+            digits: upper,
+        },
     ]
 }
 
 /// The same encoders, where characters beyond ASCII stand as they are.
-fn spellings() -> [Spelling; 8]
+fn spellings() -> [Spelling; 12]
     ensures { result ≡ json_spellings }
 {
-    let [a, b, c, d, e, f, g, h] = encoders();
+    let [a, b, c, d, e, f, g, h, i, j, k, l] = encoders();
     [
         Spelling::Json(a),
         Spelling::Json(b),
@@ -126,6 +142,10 @@ fn spellings() -> [Spelling; 8]
         Spelling::Json(f),
         Spelling::Json(g),
         Spelling::Json(h),
+        Spelling::Json(i),
+        Spelling::Json(j),
+        Spelling::Json(k),
+        Spelling::Json(l),
     ]
 }
 
@@ -144,8 +164,8 @@ pub(crate) fn add_json(
     }
 }
 
-/// A secret within a JSON string, by the shortest escapes or with `/`, `<`, `>` and `&` escaped too, in the encoding of the text or
-/// in ASCII alone.
+/// A secret within a JSON string, by the shortest escapes, with `/`, `<`, `>` and `&` escaped too, or with what Gson or .NET escapes,
+/// in the encoding of the text or in ASCII alone.
 ///
 /// The last two clauses say that no character of the secret is shown outside these patterns. In ASCII alone that holds of a secret of
 /// whole characters.

@@ -33,9 +33,9 @@ pub fn spelled_forms(
     Ok(patterns)
 }
 
-/// The encoders of URLs: nine that leave some bytes, each with a space as any other byte and as `+`, and one that encodes each byte;
-/// with digits in both cases.
-pub(crate) fn url_encoders() -> [Spelling; 38]
+/// The encoders of URLs: nine that leave some bytes, each with a space as any other byte and as `+`, four that write no `+` for a space,
+/// and one that encodes each byte; with digits in both cases.
+pub(crate) fn url_encoders() -> [Spelling; 46]
     ensures { result ≡ url_spellings }
 {
     let (encoded, plus) = (Space::Encoded, Space::Plus);
@@ -77,6 +77,14 @@ pub(crate) fn url_encoders() -> [Spelling; 38]
         Spelling::Url(Kept::Path, encoded, lower),
         Spelling::Url(Kept::Path, plus, upper),
         Spelling::Url(Kept::Path, plus, lower),
+        Spelling::Url(Kept::User, encoded, upper),
+        Spelling::Url(Kept::User, encoded, lower),
+        Spelling::Url(Kept::GoUser, encoded, upper),
+        Spelling::Url(Kept::GoUser, encoded, lower),
+        Spelling::Url(Kept::GoSegment, encoded, upper),
+        Spelling::Url(Kept::GoSegment, encoded, lower),
+        Spelling::Url(Kept::Escape, encoded, upper),
+        Spelling::Url(Kept::Escape, encoded, lower),
         Spelling::Url(Kept::Nothing, encoded, upper),
         Spelling::Url(Kept::Nothing, encoded, lower),
     ]
@@ -123,7 +131,7 @@ pub fn xml_forms(alloc: Global, secret: &[u8]) -> Result<Vec<Vec<u8>>, FormError
 }
 
 /// The ways to quote a shell's word.
-pub(crate) fn shell_encoders() -> [Spelling; 7]
+pub(crate) fn shell_encoders() -> [Spelling; 8]
     ensures { result ≡ shell_spellings }
 {
     [
@@ -134,10 +142,11 @@ pub(crate) fn shell_encoders() -> [Spelling; 7]
         Spelling::Shell(Quoting::BashBackslashes),
         Spelling::Shell(Quoting::Dollar),
         Spelling::Shell(Quoting::DollarAscii),
+        Spelling::Shell(Quoting::Git),
     ]
 }
 
-/// A secret as it is quoted for a shell: within single quotes, double quotes, or `$'` and `'`, or by backslashes.
+/// A secret as it is quoted for a shell: within single quotes, as git does too, within double quotes, or `$'` and `'`, or by backslashes.
 pub fn shell_forms(alloc: Global, secret: &[u8]) -> Result<Vec<Vec<u8>>, FormError>
     ensures short { length secret.now < 4 → result ≡ Err TooShort }
     ensures long { IfErr result (λ e. e ≡ TooShort → length secret.now < 4) }

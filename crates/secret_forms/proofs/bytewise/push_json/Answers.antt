@@ -3,10 +3,6 @@ use Rattle.std.proofs.Common.{rules}
 use Rattle.secret_forms.specs.Spelling.{json_byte}
 use Rattle.secret_forms.proofs.bytewise.push_json.Goals as goal
 
-pub returns-in-34 : goal.returns-in-34
-unfolding json_byte
-returns-in-34 c = search rules
-
 pub returns-in-92 : goal.returns-in-92
 unfolding json_byte
 returns-in-92 c = search rules

@@ -30,3 +30,7 @@ returns-in-Dollar c = search rules
 pub returns-in-DollarAscii : goal.returns-in-DollarAscii
 unfolding shell_byte
 returns-in-DollarAscii c = search rules
+
+pub returns-in-Git : goal.returns-in-Git
+unfolding shell_byte
+returns-in-Git c = search rules
