@@ -1,7 +1,7 @@
 -- A message on standard error: `PROGRAM: NAME: line N: CAUSE` and a line end.
 use Rattle.std.specs.Prelude.{ℕ, List, [], ◌++◌, Option, Some, None, codes, decimal}
 use Rattle.tool_parts.specs.declared.reason.Reason.{Reason}
-use Rattle.tool_parts.specs.declared.reason.Reason.TheVariants.{NotFound, Denied, Directory, Irregular, NoDirectory, Links, LongName, Invalid, Full, TooLarge, Quota, Interrupted, Unavailable, Locked, NoLock, Changed, Owner, Closed, OutOfMemory, PositionLimit, ReadFault, Fault}
+use Rattle.tool_parts.specs.declared.reason.Reason.TheVariants.{NotFound, Denied, Directory, Irregular, NoDirectory, Links, LongName, Invalid, Full, TooLarge, Quota, ReadOnly, Busy, Runs, Stale, Late, Exists, OtherDevice, ManyLinks, NotSeekable, Interrupted, Unavailable, Locked, NoLock, Changed, Owner, Closed, OutOfMemory, PositionLimit, ReadFault, Fault}
 
 -- what a message tells: of what and of which line of it, where it says that, and why something was not done
 pub record Message : Type 0 where
@@ -42,6 +42,15 @@ reason_text Invalid = codes "Invalid argument"
 reason_text Full = codes "No space left on device"
 reason_text TooLarge = codes "File too large"
 reason_text Quota = codes "Disk quota exceeded"
+reason_text ReadOnly = codes "Read-only file system"
+reason_text Busy = codes "Device or resource busy"
+reason_text Runs = codes "Text file busy"
+reason_text Stale = codes "Stale file handle"
+reason_text Late = codes "Connection timed out"
+reason_text Exists = codes "File exists"
+reason_text OtherDevice = codes "Invalid cross-device link"
+reason_text ManyLinks = codes "Too many links"
+reason_text NotSeekable = codes "Illegal seek"
 reason_text Interrupted = codes "Interrupted system call"
 reason_text Unavailable = codes "Resource temporarily unavailable"
 reason_text Locked = codes "locked by another program"

@@ -1,8 +1,8 @@
 -- Which reason is told for which error of the system.
 use Rattle.std.specs.declared.io.ErrorKind.{ErrorKind}
-use Rattle.std.specs.declared.io.ErrorKind.TheVariants.{NotFound, PermissionDenied, BrokenPipe, WouldBlock, NotADirectory, IsADirectory, FilesystemLoop, InvalidInput, StorageFull, QuotaExceeded, FileTooLarge, InvalidFilename, Interrupted, OutOfMemory}
+use Rattle.std.specs.declared.io.ErrorKind.TheVariants.{NotFound, PermissionDenied, BrokenPipe, WouldBlock, NotADirectory, IsADirectory, FilesystemLoop, InvalidInput, StorageFull, QuotaExceeded, FileTooLarge, InvalidFilename, Interrupted, OutOfMemory, ReadOnlyFilesystem, ResourceBusy, ExecutableFileBusy, StaleNetworkFileHandle, TimedOut, AlreadyExists, CrossesDevices, TooManyLinks, NotSeekable}
 use Rattle.tool_parts.specs.declared.reason.Reason.{Reason}
-use Rattle.tool_parts.specs.declared.reason.Reason.TheVariants.{NotFound as Missing, Denied, Directory, NoDirectory, Links, LongName, Invalid, Full, TooLarge, Quota, Interrupted as BySignal, Unavailable, Closed, OutOfMemory as NoMemory, Fault}
+use Rattle.tool_parts.specs.declared.reason.Reason.TheVariants.{NotFound as Missing, Denied, Directory, NoDirectory, Links, LongName, Invalid, Full, TooLarge, Quota, ReadOnly, Busy, Runs, Stale, Late, Exists, OtherDevice, ManyLinks, NotSeekable as NoPlaces, Interrupted as BySignal, Unavailable, Closed, OutOfMemory as NoMemory, Fault}
 
 -- each kind of error that has a text of its own, and a fault for all others
 abbrev pub reason_of : ErrorKind → Reason
@@ -16,6 +16,15 @@ reason_of InvalidInput = Invalid
 reason_of StorageFull = Full
 reason_of FileTooLarge = TooLarge
 reason_of QuotaExceeded = Quota
+reason_of ReadOnlyFilesystem = ReadOnly
+reason_of ResourceBusy = Busy
+reason_of ExecutableFileBusy = Runs
+reason_of StaleNetworkFileHandle = Stale
+reason_of TimedOut = Late
+reason_of AlreadyExists = Exists
+reason_of CrossesDevices = OtherDevice
+reason_of TooManyLinks = ManyLinks
+reason_of NotSeekable = NoPlaces
 reason_of Interrupted = BySignal
 reason_of WouldBlock = Unavailable
 reason_of BrokenPipe = Closed

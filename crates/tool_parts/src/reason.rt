@@ -33,6 +33,24 @@ pub enum Reason {
     TooLarge,
     /// Its owner may not take more room.
     Quota,
+    /// Its file system is for reading alone.
+    ReadOnly,
+    /// Something else uses it.
+    Busy,
+    /// It is a program that runs.
+    Runs,
+    /// The server of its file system has it no more.
+    Stale,
+    /// The server of its file system does not answer.
+    Late,
+    /// Another one has its name.
+    Exists,
+    /// Its new name is on another device.
+    OtherDevice,
+    /// It has too many names.
+    ManyLinks,
+    /// It has no places to go to.
+    NotSeekable,
     /// A signal came.
     Interrupted,
     /// It gives or takes nothing now.
@@ -73,6 +91,15 @@ impl Reason {
             ErrorKind::StorageFull => Reason::Full,
             ErrorKind::FileTooLarge => Reason::TooLarge,
             ErrorKind::QuotaExceeded => Reason::Quota,
+            ErrorKind::ReadOnlyFilesystem => Reason::ReadOnly,
+            ErrorKind::ResourceBusy => Reason::Busy,
+            ErrorKind::ExecutableFileBusy => Reason::Runs,
+            ErrorKind::StaleNetworkFileHandle => Reason::Stale,
+            ErrorKind::TimedOut => Reason::Late,
+            ErrorKind::AlreadyExists => Reason::Exists,
+            ErrorKind::CrossesDevices => Reason::OtherDevice,
+            ErrorKind::TooManyLinks => Reason::ManyLinks,
+            ErrorKind::NotSeekable => Reason::NotSeekable,
             ErrorKind::Interrupted => Reason::Interrupted,
             ErrorKind::WouldBlock => Reason::Unavailable,
             ErrorKind::BrokenPipe => Reason::Closed,
@@ -97,6 +124,15 @@ impl Reason {
             Reason::Full => "No space left on device",
             Reason::TooLarge => "File too large",
             Reason::Quota => "Disk quota exceeded",
+            Reason::ReadOnly => "Read-only file system",
+            Reason::Busy => "Device or resource busy",
+            Reason::Runs => "Text file busy",
+            Reason::Stale => "Stale file handle",
+            Reason::Late => "Connection timed out",
+            Reason::Exists => "File exists",
+            Reason::OtherDevice => "Invalid cross-device link",
+            Reason::ManyLinks => "Too many links",
+            Reason::NotSeekable => "Illegal seek",
             Reason::Interrupted => "Interrupted system call",
             Reason::Unavailable => "Resource temporarily unavailable",
             Reason::Locked => "locked by another program",
