@@ -4,12 +4,6 @@ use Rattle.std.proofs.Common.{◌++◌, ◌+◌, ◌<◌, ◌∙◌, ◌∷◌, 
 use Rattle.aho_laws.specs.CutLaws.{span_search}
 use Rattle.acgrep.specs.Alone.{AreAloneFrom, IsAloneAt, IsAloneFrom, IsLongestThere, IsNextAlone, IsShorter, begins_alone, behind_alone, ends_alone}
 
--- what a search of a range of a line finds lies in it
-pub record LiesIn (start end : ℕ) (m : Occurrence) : Type 0 where
-  pub behind : start ≤ m.start
-  pub ordered : m.start ≤ m.end
-  pub within : m.end ≤ end
-
 -- what begins at a place is before what begins behind it; of two that begin together the longer is before the shorter
 same_or_shorter : (m other : Occurrence) → other.start ≡ m.start → (other ≡ m) ⊎ IsBefore LeftmostLongest m other → (other.end ≡ m.end) ⊎ (other.end < m.end)
 same_or_shorter m other begins is = grind (arith, common_steps)
@@ -78,6 +72,9 @@ module _ (p : Patterns) (line : List ℕ) (kind : p.kind ≡ LeftmostLongest) wh
     tried.others,
   )
 
+  alone_from : (at at' : ℕ) (m : Occurrence) → IsAloneFrom p line at m → at' ≤ m.start → IsAloneFrom p line at' m
+  alone_from at at' m is low = record { occurs = is.occurs; behind = low; begins = is.begins; ends = is.ends }
+
   -- what begins at a place or behind it and stands alone begins here or behind here
   abbrev pub BeginsBehind : (at here : ℕ) → Type 0
   BeginsBehind at here = (other : Occurrence) → IsAloneFrom p line at other → here ≤ other.start
@@ -104,41 +101,28 @@ module _ (p : Patterns) (line : List ℕ) (kind : p.kind ≡ LeftmostLongest) wh
                 best_of here (length line) m best other (in_range here (length line) other (omega (arith, begins, occurs.after_start)) inside.before_end there);
           }
 
-      later : (other : Occurrence) → IsAloneFrom p line at other → m.start ≤ other.start
-      later other is =
+      -- what stands alone begins there or behind it
+      here_or : (other : Occurrence) → IsAloneFrom p line at other → (m.start < other.start) ⊎ IsAloneAt p line m.start other
+      here_or other is =
           let inside : OccursIn p (plain_search line) other = is.occurs in
-          begins_later m other (best_of here (length line) m best other (in_range here (length line) other (passed other is) inside.before_end inside))
-
-      here_at : (other : Occurrence) → other.start ≡ m.start → IsAloneFrom p line at other → IsAloneAt p line m.start other
-      here_at other begins is = record {
-        is = record { occurs = is.occurs; behind = omega (arith, begins); begins = is.begins; ends = is.ends };
-        at = begins;
-      }
+          let later : m.start ≤ other.start = begins_later m other (best_of here (length line) m best other (in_range here (length line) other (passed other is) inside.before_end inside)) in
+          elim (cases_lt m.start other.start) [
+            | inl behind ↦ inl behind
+            | inr same ↦ inr (record { is = alone_from at m.start other is later; at = omega (arith, same, later) })
+          ]
 
       -- where one that begins there stands alone, it is the next
       pub alone_found : at ≤ here → (found : Occurrence) → IsBestOrNone LeftmostLongest (IsAloneAt p line m.start) (Some found) → IsNextAlone p line at (Some found)
       alone_found low found tried =
           let occurs : OccursIn p (span_search line here (length line)) m = best.0 in
           let is : IsAloneAt p line m.start found = tried.0 in (
-            record {
-              occurs = is.is.occurs;
-              behind = omega (arith, is.at, occurs.after_start, low);
-              begins = is.is.begins;
-              ends = is.is.ends;
-            },
-            λ other alone. elim (cases_lt m.start other.start) [
-              | inl behind ↦ inr (inl (omega (arith, behind, is.at)))
-              | inr same ↦ tried.1 other (here_at other (omega (arith, same, later other alone)) alone)
-            ],
+            alone_from m.start at found is.is (omega (arith, is.at, occurs.after_start, low)),
+            λ other alone. elim (here_or other alone) [ inl behind ↦ inr (inl (omega (arith, behind, is.at))) | inr there ↦ tried.1 other there ],
           )
 
       -- where none does, it begins behind
       pub alone_later : IsBestOrNone LeftmostLongest (IsAloneAt p line m.start) None → BeginsBehind at (m.start + 1)
-      alone_later none other alone =
-          elim (cases_lt m.start other.start) [
-            | inl behind ↦ omega (arith, behind)
-            | inr same ↦ absurd (none other (here_at other (omega (arith, same, later other alone)) alone))
-          ]
+      alone_later none other alone = elim (here_or other alone) [ inl behind ↦ omega (arith, behind) | inr there ↦ absurd (none other there) ]
 
 -- these came so far, and the next begin at a place or behind it
 pub record AloneSoFar (p : Patterns) (line : List ℕ) (from : ℕ) (ms : List Occurrence) : Type 0 where

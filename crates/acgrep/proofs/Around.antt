@@ -13,10 +13,6 @@ use Rattle.acgrep.specs.Selected.{HoldNoEnding, IsFirstWith, IsLine}
 best_first : (kind : MatchKind) (m other : Occurrence) → m.start ≤ m.end → other.start ≤ other.end → (other ≡ m) ⊎ IsBefore kind m other → m.start ≤ other.end
 best_first kind m other ordered turned is = grind (arith, common_steps)
 
--- what an answer starts at lies in the text
-pub starts_within : (p : Patterns) (text : List ℕ) (m : Occurrence) → IsAnswer p (plain_search text) (Some m) → m.start ≤ length text
-starts_within p text m best = grind (arith, common_steps)
-
 module _ (ending : ℕ) where
   -- a newline of the front is one of the text
   pub newline_front : (text : List ℕ) (at place : ℕ) → place < at → IsEnding ending (take at text) place → IsEnding ending text place

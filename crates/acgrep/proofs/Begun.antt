@@ -42,10 +42,6 @@ module _ (Tells : List (List ℕ) → List ℕ → Type 0) where
   begins_on ls x y x' y' b written =
       record { first = b.first; left = b.left; cut = b.cut; all = b.all; tells = b.tells; begun = b.begun; missing = b.missing; is = b.is; written = written }
 
-  -- the output kept what it held before
-  pub begins_kept : (ls : List (List ℕ)) (x y z : Option (List ℕ)) → Appends x y [] → BeginsOf Tells ls y z → BeginsOf Tells ls x z
-  begins_kept ls x y z keeps b = begins_on ls y z x z b (Appends-trans x y z [] b.begun keeps b.written)
-
 -- lines stand before them of which all is told
 pub begins_behind : (Tells Told : List (List ℕ) → List ℕ → Type 0) (ls ms : List (List ℕ)) (x y z : Option (List ℕ)) (bytes : List ℕ)
     → ((first : List (List ℕ)) (all : List ℕ) → Tells first all → Told (ls ++ first) (bytes ++ all)) → Appends x y bytes → BeginsOf Tells ms y z → BeginsOf Told (ls ++ ms) x z

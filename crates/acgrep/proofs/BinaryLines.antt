@@ -1,6 +1,6 @@
 -- Lines up to the first that holds a zero byte, and those from it on.
 use Rattle.acgrep.proofs.Common.{Nowhere, and_from, and_parts, cases_Bool, eq-eqb, eqb-true, true≢false}
-use Rattle.std.proofs.Common.{◌++◌, ◌+◌, ◌-◌, ◌<◌, ◌==◌, ◌∙◌, ◌∷◌, ◌≡◌, ◌≤◌, Bool, List, Some, [], ap, append-nil, arith, drop, false, inl, inr, length, length-drop, refl, subst, suc, sym, take, take-append-drop, take-take, true, zero, ℕ}
+use Rattle.std.proofs.Common.{◌++◌, ◌+◌, ◌-◌, ◌<◌, ◌==◌, ◌∙◌, ◌∷◌, ◌≡◌, ◌≤◌, ◌⊎◌, Bool, List, Some, [], ap, arith, drop, false, inl, inr, length, length-drop, refl, subst, suc, sym, take, take-append-drop, take-take, true, zero, ℕ}
 use Rattle.std.proofs.Math.Seq.{take-length}
 use Rattle.std.proofs.lemmas.Bool.{and_right, false_from_ne_true, not_from_false}
 use Rattle.std.specs.Prelude.{if◌then◌else◌, not}
@@ -19,15 +19,12 @@ text_joined (byte ∷ xs) ys one other =
     let (here, rest) = and_parts (not (byte == 0)) (is_text xs) one in
     and_from (not (byte == 0)) (is_text (xs ++ ys)) here (text_joined xs ys rest other)
 
-pub text_front : (xs ys : List ℕ) → is_text (xs ++ ys) ≡ true → is_text xs ≡ true
-text_front [] ys all = refl
-text_front (byte ∷ xs) ys all =
+pub text_parts : (xs ys : List ℕ) → is_text (xs ++ ys) ≡ true → (is_text xs ≡ true) × (is_text ys ≡ true)
+text_parts [] ys all = (refl, all)
+text_parts (byte ∷ xs) ys all =
     let (here, rest) = and_parts (not (byte == 0)) (is_text (xs ++ ys)) all in
-    and_from (not (byte == 0)) (is_text xs) here (text_front xs ys rest)
-
-pub text_back : (xs ys : List ℕ) → is_text (xs ++ ys) ≡ true → is_text ys ≡ true
-text_back [] ys all = all
-text_back (byte ∷ xs) ys all = text_back xs ys (and_parts (not (byte == 0)) (is_text (xs ++ ys)) all).1
+    let (front, back) = text_parts xs ys rest in
+    (and_from (not (byte == 0)) (is_text xs) here front, back)
 
 -- none up to a place
 text_nowhere : (xs : List ℕ) (n : ℕ) → n ≤ length xs → Nowhere (IsEnding 0 xs) 0 n → is_text (take n xs) ≡ true
@@ -53,20 +50,18 @@ module _ (ending : ℕ) where
         | inr other ↦ subst (EachLine (λ (line : List ℕ). is_text line ≡ true)) (sym (lines_joined ending byte rest other)) (each_joined byte (lines ending rest) here IH)
       ]
 
-  text_behind_each : (ls ms : List (List ℕ)) → EachLine (λ (line : List ℕ). is_text line ≡ true) ls → text_lines (ls ++ ms) ≡ ls ++ text_lines ms
-  text_behind_each [] ms each = refl
-  text_behind_each (line ∷ ls) ms (one, others) = rw one (ap (λ (l : List (List ℕ)). line ∷ l) (text_behind_each ls ms others))
-
-  binary_behind_each : (ls ms : List (List ℕ)) → EachLine (λ (line : List ℕ). is_text line ≡ true) ls → binary_lines (ls ++ ms) ≡ binary_lines ms
-  binary_behind_each [] ms each = refl
-  binary_behind_each (line ∷ ls) ms (one, others) = rw one (binary_behind_each ls ms others)
+  behind_each : (ls ms : List (List ℕ)) → EachLine (λ (line : List ℕ). is_text line ≡ true) ls → (text_lines (ls ++ ms) ≡ ls ++ text_lines ms) × (binary_lines (ls ++ ms) ≡ binary_lines ms)
+  behind_each [] ms each = (refl, refl)
+  behind_each (line ∷ ls) ms (one, others) =
+      let (text, binary) = behind_each ls ms others in
+      rw one (ap (λ (l : List (List ℕ)). line ∷ l) text, binary)
 
   -- lines of such bytes come first
   pub text_behind : (bytes : List ℕ) (ms : List (List ℕ)) → is_text bytes ≡ true → text_lines (lines ending bytes ++ ms) ≡ lines ending bytes ++ text_lines ms
-  text_behind bytes ms is = text_behind_each (lines ending bytes) ms (each_text bytes is)
+  text_behind bytes ms is = (behind_each (lines ending bytes) ms (each_text bytes is)).0
 
   pub binary_behind : (bytes : List ℕ) (ms : List (List ℕ)) → is_text bytes ≡ true → binary_lines (lines ending bytes ++ ms) ≡ binary_lines ms
-  binary_behind bytes ms is = binary_behind_each (lines ending bytes) ms (each_text bytes is)
+  binary_behind bytes ms is = (behind_each (lines ending bytes) ms (each_text bytes is)).1
 
   joined_binary : (byte : ℕ) (ls : List (List ℕ)) → IsFirstBinary ls → IsFirstBinary (joined_to byte ls)
   joined_binary byte [] is = absurd is
@@ -93,7 +88,7 @@ module _ (ending : ℕ) where
   zero_none bytes before front none =
       let back : is_text (take (length (drop before bytes)) (drop before bytes)) ≡ true = text_nowhere (drop before bytes) (length (drop before bytes)) (omega arith) none in
       subst (λ (l : List ℕ). is_text l ≡ true) (take-append-drop before bytes)
-      (text_joined (take before bytes) (drop before bytes) front (text_front (drop before bytes) [] (subst (λ (l : List ℕ). is_text l ≡ true) (take-length (drop before bytes) ∙ sym (append-nil (drop before bytes))) back)))
+      (text_joined (take before bytes) (drop before bytes) front (subst (λ (l : List ℕ). is_text l ≡ true) (take-length (drop before bytes)) back))
 
   -- the first of them stands there, and its line begins behind the last that ends before it
   pub zero_some : (bytes : List ℕ) (before at start : ℕ) → before ≤ length bytes → at < length (drop before bytes) → is_text (take before bytes) ≡ true → IsEnding 0 (drop before bytes) at
@@ -106,7 +101,7 @@ module _ (ending : ℕ) where
       let short : take start (take (before + at) bytes) ≡ take start bytes = take-take start (before + at) bytes early in
       let place : start + (before + at - start) ≡ before + at = omega (arith, early) in (
         subst (λ (l : List ℕ). is_text l ≡ true) short
-            (text_front (take start (take (before + at) bytes)) (drop start (take (before + at) bytes)) (subst (λ (l : List ℕ). is_text l ≡ true) (sym (take-append-drop start (take (before + at) bytes))) all)),
+            (text_parts (take start (take (before + at) bytes)) (drop start (take (before + at) bytes)) (subst (λ (l : List ℕ). is_text l ≡ true) (sym (take-append-drop start (take (before + at) bytes))) all)).0,
         λ other more. zero_first other (drop start bytes) (before + at - start) (omega (arith, length-drop start bytes, within, long, early))
             (behind_newline 0 bytes start (before + at - start) (subst (IsEnding 0 bytes) (sym place) (newline_behind 0 bytes before at here)))
             (λ k least most is. one (start + k) (omega arith) (omega (arith, most, early)) (front_newline ending bytes (before + at) (start + k) (omega (arith, most, early)) (newline_behind ending bytes start k is))) more,
@@ -120,32 +115,16 @@ module _ (ending : ℕ) where
           ap (λ (k : ℕ). take k (x ∷ xs)) more ∙ ap (λ (l : List ℕ). x ∷ l) (take_more n m xs (omega (arith, within)))
 
 -- the first line with a zero byte begins some lines
-pub first_text : (ls : List (List ℕ)) → IsFirstBinary ls → text_lines ls ≡ []
-first_text [] is = refl
-first_text (line ∷ rest) is = rw is refl
-
-pub first_binary : (ls : List (List ℕ)) → IsFirstBinary ls → binary_lines ls ≡ ls
-first_binary [] is = refl
-first_binary (line ∷ rest) is = rw is refl
-
-pub first_some : (ls : List (List ℕ)) → IsFirstBinary ls → SomeLine (λ (line : List ℕ). is_text line ≡ false) ls
-first_some [] is = absurd is
-first_some (line ∷ rest) is = inl is
+pub first_parts : (ls : List (List ℕ)) → IsFirstBinary ls → (text_lines ls ≡ []) × (binary_lines ls ≡ ls) × SomeLine (λ (line : List ℕ). is_text line ≡ false) ls
+first_parts [] is = absurd is
+first_parts (line ∷ rest) is = (rw is refl, rw is refl, inl is)
 
 -- what holds of some of the first lines or of the others holds of some line
-pub some_text : (P : List ℕ → Type 0) (ls : List (List ℕ)) → SomeLine P (text_lines ls) → SomeLine P ls
-some_text P [] some = absurd some
-some_text P (line ∷ rest) some =
+pub some_part : (P : List ℕ → Type 0) (ls : List (List ℕ)) → SomeLine P (text_lines ls) ⊎ SomeLine P (binary_lines ls) → SomeLine P ls
+some_part P [] which = elim which [ inl some ↦ absurd some | inr some ↦ absurd some ]
+some_part P (line ∷ rest) which =
+    let Parts = λ (b : Bool). SomeLine P (if b then line ∷ text_lines rest else []) ⊎ SomeLine P (if b then binary_lines rest else line ∷ rest) in
     elim (cases_Bool (is_text line)) [
-      | inl is ↦
-          elim (subst (λ (b : Bool). SomeLine P (if b then line ∷ text_lines rest else [])) is some) [ inl one ↦ inl one | inr later ↦ inr (some_text P rest later) ]
-      | inr other ↦ absurd (subst (λ (b : Bool). SomeLine P (if b then line ∷ text_lines rest else [])) other some)
-    ]
-
-pub some_binary : (P : List ℕ → Type 0) (ls : List (List ℕ)) → SomeLine P (binary_lines ls) → SomeLine P ls
-some_binary P [] some = absurd some
-some_binary P (line ∷ rest) some =
-    elim (cases_Bool (is_text line)) [
-      | inl is ↦ inr (some_binary P rest (subst (λ (b : Bool). SomeLine P (if b then binary_lines rest else line ∷ rest)) is some))
-      | inr other ↦ subst (λ (b : Bool). SomeLine P (if b then binary_lines rest else line ∷ rest)) other some
+      | inl is ↦ elim (subst Parts is which) [ inl (inl one) ↦ inl one | inl (inr later) ↦ inr (some_part P rest (inl later)) | inr others ↦ inr (some_part P rest (inr others)) ]
+      | inr other ↦ elim (subst Parts other which) [ inl none ↦ absurd none | inr some ↦ some ]
     ]

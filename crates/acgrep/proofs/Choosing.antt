@@ -1,6 +1,6 @@
 -- Which of the operands are searched.
-use Rattle.acgrep.proofs.Common.{Ways, cases_Bool, common_steps, get_or, is_input, name_bytes, or_input}
-use Rattle.std.proofs.Common.{◌++◌, ◌-◌, ◌<◌, ◌∙◌, ◌∷◌, ◌≡◌, ◌⊎◌, Bool, Bor, List, None, Option, Some, [], ap, append-nil, append_assoc, arith, drop, false, inl, inr, length, refl, subst, sym, take, take_all, true, ℕ}
+use Rattle.acgrep.proofs.Common.{Ways, cases_Bool, common_steps, is_input, name_bytes, or_input}
+use Rattle.std.proofs.Common.{◌++◌, ◌∙◌, ◌∷◌, ◌≡◌, ◌⊎◌, Bool, Bor, List, None, Option, Some, [], ap, append-nil, append_assoc, arith, false, inl, inr, length, refl, subst, sym, true, ℕ}
 use Rattle.std.specs.Prelude.{◌||◌, IfSome, not}
 use Rattle.acgrep.specs.Arguments.{Said, ways_by}
 use Rattle.acgrep.specs.Folders.{AreChosen, Chooses, IsKept, IsUnknown, Tree, is_folder, is_passed, kept_of, missed_of}
@@ -16,16 +16,13 @@ pub record AreSoFar (tree : Tree) (rules : List RuleSaid) (ways : Ways) (all res
   pub none : missed_of found.unread.items ≡ []
 
 module _ (tree : Tree) (rules : List RuleSaid) (ways : Ways) (all : List (List ℕ)) where
-  pub chosen-more : (rest : List (Bor (List ℕ))) (d : Bor (List ℕ)) (old new : Found) → 0 < length rest → AreSoFar tree rules ways all (name_bytes rest) old
-      → Chooses tree rules ways (get_or rest 0 d).now old new → AreSoFar tree rules ways all (name_bytes (take (length rest - 1) (drop 1 rest))) new
-  chosen-more [] d old new some so_far step = absurd (omega (arith, some))
-  chosen-more (name ∷ names) d old new some so_far step = record {
+  pub chosen-more : (name : List ℕ) (names : List (List ℕ)) (old new : Found) → AreSoFar tree rules ways all (name ∷ names) old → Chooses tree rules ways name old new
+      → AreSoFar tree rules ways all names new
+  chosen-more name names old new so_far step = record {
     leads = λ others are.
-        let left : take (length (name ∷ names) - 1) names ≡ names = take_all (length (name ∷ names) - 1) names (omega arith) in
-        let behind : AreChosen tree rules ways (name_bytes names) others = subst (λ (l : List (Bor (List ℕ))). AreChosen tree rules ways (name_bytes l) others) left are in
-        let here = so_far.leads (kept_of name.now step.kept ++ others) (step.kept, others, step.is, behind, refl) in
-        let same : listed_bytes old.names.items ++ (kept_of name.now step.kept ++ others) ≡ listed_bytes new.names.items ++ others =
-        sym (append_assoc (listed_bytes old.names.items) (kept_of name.now step.kept) others) ∙ ap (λ (l : List (List ℕ)). l ++ others) (sym step.names) in
+        let here = so_far.leads (kept_of name step.kept ++ others) (step.kept, others, step.is, are, refl) in
+        let same : listed_bytes old.names.items ++ (kept_of name step.kept ++ others) ≡ listed_bytes new.names.items ++ others =
+        sym (append_assoc (listed_bytes old.names.items) (kept_of name step.kept) others) ∙ ap (λ (l : List (List ℕ)). l ++ others) (sym step.names) in
         subst (λ (l : List (List ℕ)). AreChosen tree rules ways all l) same here;
     none = ap (λ u. missed_of u.items) step.unread ∙ so_far.none;
   }

@@ -1,6 +1,6 @@
 -- What is written of a file, from what was searched of its reader.
-use Rattle.acgrep.proofs.Common.{Appends, Appends-trans, Consumes, Context, Fit, IsAtEnd, Job, Lines, Matches, Nothing, Objects, Patterns, Place, Shown, State, Style, cases_Bool, common_steps, lt-ltb, ltb-true}
-use Rattle.std.proofs.Common.{◌++◌, ◌<◌, ◌∙◌, ◌∷◌, ◌≡◌, ◌⊎◌, Bool, List, None, Option, Some, [], ap, append-nil, arith, false, inl, inr, refl, subst, sym, true, ℕ}
+use Rattle.acgrep.proofs.Common.{Appends, Appends-trans, Consumes, Context, Fit, IsAtEnd, Job, Lines, Matches, Nothing, Objects, Patterns, Place, Shown, State, Style, cases_Bool, common_steps, lt-ltb, ltb-true, true≢false}
+use Rattle.std.proofs.Common.{◌++◌, ◌<◌, ◌∙◌, ◌∷◌, ◌≡◌, ◌⊎◌, Bool, List, None, Option, Some, [], ap, append-nil, append_assoc, arith, false, inl, inr, refl, subst, sym, true, ℕ}
 use Rattle.std.proofs.lemmas.Bool.{ltb-false}
 use Rattle.std.specs.Prelude.{IfSome, MatchBool, if◌then◌else◌, nat_lt}
 use Rattle.acgrep.specs.Binary.{TellsGuarded, is_guarded, lines_by, lines_sought, takes_text}
@@ -11,7 +11,7 @@ use Rattle.acgrep.specs.Printed.{file_line}
 use Rattle.acgrep.specs.Written.{EachLine, IsAny, IsPassedOver, IsSelected, IsSettled, ShowsBy, ShowsLine, SomeLine, TellsOfLines, is_full, needs_one, one_more}
 use Rattle.acgrep.specs.declared.options.Shown.TheVariants.{Count, Lacking, Names}
 use Rattle.acgrep.proofs.Grouped.{told_around}
-use Rattle.acgrep.proofs.Tellings.{full_some, tells_full}
+use Rattle.acgrep.proofs.Tellings.{full_some, settled_some, tells_full}
 use Rattle.acgrep.proofs.Walked.{walks_append, walks_full, walks_tells}
 
 -- where one selected line tells all nothing is written of it
@@ -117,29 +117,6 @@ module _ (p : Patterns) (job : Job) where
     pub tells : TellsSearched p job ls any bytes
     pub written : Appends held held' bytes
 
-  -- all were
-  lines_whole : (state : State) (held meanwhile held' : Option (List ℕ)) (ls : List (List ℕ)) (told plain : List ℕ) → TellsOfLines p job job.first 0 ls plain state.selected
-      → TellsFile p job ls told state.selected → Appends held meanwhile told → (any : Bool) → EndsFile job state.selected meanwhile held' any → LinesSearched held held' ls any
-  lines_whole state held meanwhile held' ls told plain selects tells written any ends =
-      record {
-        bytes = told ++ total_if job.shown job.style state.selected;
-        tells = (rw ends.is_any (tells_any _ _ _ _ selects), rw ends.is_any (by_whole _ refl _ _ _ tells));
-        written = Appends-trans _ _ _ _ _ written ends.written;
-      }
-
-  -- a line was selected that told all
-  lines_front : (state : State) (held meanwhile held' : Option (List ℕ)) (ls searched : List (List ℕ)) (told : List ℕ) → TellsOfLines p job job.first 0 searched told state.selected
-      → needs_one job.shown ≡ true → 0 < state.selected → (SomeLine (IsSelected p job.fit job.invert) searched → SomeLine (IsSelected p job.fit job.invert) ls)
-      → Appends held meanwhile told → (any : Bool) → EndsFile job state.selected meanwhile held' any → LinesSearched held held' ls any
-  lines_front state held meanwhile held' ls searched told tells one some front written any ends =
-      let count = state.selected in
-      let is : any ≡ true = ends.is_any ∙ lt-ltb 0 count some in
-      record {
-        bytes = total_if job.shown job.style count;
-        tells = (rw is (front (tells_some _ _ 0 _ _ tells refl some)), rw is (by_front _ _ _ one some));
-        written = rw (tells_none _ _ 0 _ _ (shows_nothing one) tells) at (Appends-trans _ _ _ _ _ written ends.written);
-      }
-
   -- a text of which these are the lines that are searched is that of the file
   pub file_of : is_guarded job ≡ false → (known held held' : Option (List ℕ)) (text : List ℕ) (any : Bool) → IfSome known (λ (all : List ℕ). text ≡ all)
       → LinesSearched held held' (lines_sought job text) any → SearchesFile p job known held held' any
@@ -219,38 +196,83 @@ module _ (p : Patterns) (job : Job) where
   one_around : (shown : Shown) (context : Option Context) → needs_one shown ≡ true → around_by shown context ≡ None
   one_around shown context one = grind (arith, common_steps)
 
-  -- lines that were told, and others behind which nothing more is told
-  pub lines_told : (state : State) (held meanwhile held' : Option (List ℕ)) (text : List ℕ) (told : TextTold (around_of job) state held meanwhile text) (ls later : List (List ℕ))
-      → ls ≡ told.searched ++ later → (later ≡ []) ⊎ IsSettled job state → (any : Bool) → EndsFile job state.selected meanwhile held' any → LinesSearched held held' ls any
-  lines_told state held meanwhile held' text told ls later cut (inl none) any ends =
-      let first : ls ≡ told.searched ++ [] = cut ∙ ap (λ (l : List (List ℕ)). told.searched ++ l) none in
-      lines_whole state held meanwhile held' ls told.bytes told.plain (rw (first ∙ append-nil told.searched) told.tells)
-      (rw first (told.file [] (inl refl))) told.written any ends
-  lines_told state held meanwhile held' text told ls later cut (inr (inl (one, some))) any ends =
-      lines_front state held meanwhile held' ls told.searched told.plain told.tells one some
-      (λ (is : SomeLine (IsSelected p job.fit job.invert) told.searched). rw cut (some_front (IsSelected p job.fit job.invert) told.searched later is))
-      (rw (told.single (one_around job.shown job.context one)) at told.written) any ends
-  lines_told state held meanwhile held' text told ls later cut (inr (inr (full, past))) any ends = lines_whole state held meanwhile held' ls told.bytes told.plain
-      (rw cut (tells_full p job told.searched later job.first 0 state.selected told.plain full told.tells))
-      (rw cut (told.file later (inr (full, past)))) told.written any ends
+  -- what was told of some lines
+  pub record LinesTold (held meanwhile : Option (List ℕ)) (ls : List (List ℕ)) (count : ℕ) : Type 0 where
+    pub bytes : List ℕ
+    pub tells : TellsFile p job ls bytes count
+    pub written : Appends held meanwhile bytes
 
-  -- up to these bytes a reader was read
-  pub settled_read : (state : State) (held meanwhile held' left left' : Option (List ℕ)) (text bytes : List ℕ) (told : TextTold (around_of job) state held meanwhile text) (later : List (List ℕ))
-      → Consumes left left' bytes → lines job.style.ending bytes ≡ told.searched ++ later → IsSettled job state → (any : Bool) → EndsFile job state.selected meanwhile held' any → IsRead p job left left' any
-  settled_read state held meanwhile held' left left' text bytes told later read cut (inl (one, some)) any ends =
-      record { bytes = bytes; read = read; ended = inr (inl (one, ends.is_any ∙ lt-ltb 0 state.selected some)) }
-  settled_read state held meanwhile held' left left' text bytes told later read cut (inr (full, past)) any ends = record {
-    bytes = bytes;
-    read = read;
-    ended = inr (inr (inl (
-      told.plain,
-      state.selected,
-      rw cut (tells_full p job told.searched later job.first 0 state.selected told.plain full told.tells),
-      full,
-    )));
-  }
+  -- lines of which what is asked was told, and others behind them: there are none, or nothing more is told
+  module _ (state : State) (held meanwhile : Option (List ℕ)) (text : List ℕ) (told : TextTold (around_of job) state held meanwhile text) (others : List (List ℕ)) where
+    abbrev later : List (List ℕ)
+    later = lines job.style.ending told.left ++ others
 
-  -- where a text was told to its end nothing is left
-  pub left_none : (state : State) (held meanwhile : Option (List ℕ)) (text : List ℕ) (told : TextTold (around_of job) state held meanwhile text)
-      → (lines job.style.ending told.left ≡ []) ⊎ IsSettled job state
-  left_none state held meanwhile text told = elim told.ends [ inl whole ↦ inl (ap (lines job.style.ending) whole) | inr settled ↦ inr settled ]
+    same : lines job.style.ending text ++ others ≡ told.searched ++ later
+    same = ap (λ (l : List (List ℕ)). l ++ others) told.cut ∙ append_assoc told.searched (lines job.style.ending told.left) others
+
+    settles : (others ≡ []) ⊎ IsSettled job state → (later ≡ []) ⊎ IsSettled job state
+    settles (inr settled) = inr settled
+    settles (inl none) = elim told.ends [
+      | inl whole ↦ inl (ap (λ (l : List ℕ). lines job.style.ending l ++ others) whole ∙ none)
+      | inr settled ↦ inr settled
+    ]
+
+    all : (later ≡ []) ⊎ ((is_full job.most state.selected ≡ true) × (state.trail.due ≡ 0)) → LinesTold held meanwhile (lines job.style.ending text ++ others) state.selected
+    all which = record { bytes = told.bytes; tells = rw same (told.file later which); written = told.written }
+
+    -- where lines or matches are written
+    pub several_told : needs_one job.shown ≡ false → (others ≡ []) ⊎ IsSettled job state → LinesTold held meanwhile (lines job.style.ending text ++ others) state.selected
+    several_told several which = elim (settles which) [
+      | inl none ↦ all (inl none)
+      | inr (inl (one, some)) ↦ absurd (true≢false (sym one ∙ several))
+      | inr (inr full) ↦ all (inr full)
+    ]
+
+    -- whether a line is selected
+    pub any_told : (others ≡ []) ⊎ IsSettled job state → IsAny p job.fit job.invert (lines job.style.ending text ++ others) (nat_lt 0 state.selected)
+    any_told which =
+        let any : IsAny p job.fit job.invert told.searched (nat_lt 0 state.selected) = tells_any told.searched job.first told.plain state.selected told.tells in
+        elim (settles which) [
+          | inl none ↦ subst (λ (ls : List (List ℕ)). IsAny p job.fit job.invert ls (nat_lt 0 state.selected))
+              (sym (same ∙ ap (λ (l : List (List ℕ)). told.searched ++ l) none ∙ append-nil told.searched)) any
+          | inr settled ↦
+              let is : nat_lt 0 state.selected ≡ true = lt-ltb 0 state.selected (settled_some job state settled) in
+              rw is (rw same (some_front (IsSelected p job.fit job.invert) told.searched later (rw is at any)))
+        ]
+
+    -- what is asked of a file of which these lines are searched is written
+    pub lines_told : (others ≡ []) ⊎ IsSettled job state → (held' : Option (List ℕ)) (any : Bool) → EndsFile job state.selected meanwhile held' any
+        → LinesSearched held held' (lines job.style.ending text ++ others) any
+    lines_told which held' any ends = elim (settles which) [
+      | inl none ↦ whole (all (inl none))
+      | inr (inl (one, some)) ↦ record {
+        bytes = total_if job.shown job.style state.selected;
+        tells = (is_any, rw (ends.is_any ∙ lt-ltb 0 state.selected some) (by_front _ _ _ one some));
+        written = rw (told.single (one_around job.shown job.context one) ∙ tells_none _ _ 0 _ _ (shows_nothing one) told.tells) at (Appends-trans _ _ _ _ _ told.written ends.written);
+      }
+      | inr (inr full) ↦ whole (all (inr full))
+    ]
+      where
+        is_any : IsAny p job.fit job.invert (lines job.style.ending text ++ others) any
+        is_any = rw ends.is_any (any_told which)
+
+        whole : LinesTold held meanwhile (lines job.style.ending text ++ others) state.selected → LinesSearched held held' (lines job.style.ending text ++ others) any
+        whole to = record {
+          bytes = to.bytes ++ total_if job.shown job.style state.selected;
+          tells = (is_any, rw ends.is_any (by_whole _ refl _ _ _ to.tells));
+          written = Appends-trans _ _ _ _ _ to.written ends.written;
+        }
+
+    -- up to these bytes a reader was read
+    pub full_read : (left left' : Option (List ℕ)) (bytes : List ℕ) → Consumes left left' bytes → lines job.style.ending bytes ≡ lines job.style.ending text ++ others → is_full job.most state.selected ≡ true
+        → (any : Bool) → IsRead p job left left' any
+    full_read left left' bytes read cut full any = record {
+      bytes = bytes;
+      read = read;
+      ended = inr (inr (inl (told.plain, state.selected, rw (cut ∙ same) (tells_full p job told.searched later job.first 0 state.selected told.plain full told.tells), full)));
+    }
+
+    pub settled_read : (left left' : Option (List ℕ)) (bytes : List ℕ) → Consumes left left' bytes → lines job.style.ending bytes ≡ lines job.style.ending text ++ others → IsSettled job state
+        → (any : Bool) → any ≡ nat_lt 0 state.selected → IsRead p job left left' any
+    settled_read left left' bytes read cut (inl (one, some)) any is = record { bytes = bytes; read = read; ended = inr (inl (one, is ∙ lt-ltb 0 state.selected some)) }
+    settled_read left left' bytes read cut (inr full) any is = full_read left left' bytes read cut full.0 any

@@ -5,14 +5,13 @@ use Rattle.std.specs.Prelude.{◌&&◌, ◌||◌, IfSome, MatchBool, not}
 use Rattle.acgrep.specs.Binary.{TellsBinary, binary_by, is_guarded, lines_by, takes_text, writes_lines}
 use Rattle.acgrep.specs.Contexts.{IsBegin, TellsFrom, TellsIn, around_by, around_of, walk_of}
 use Rattle.acgrep.specs.Files.{BeginsFile, BeginsTotal, IsTail, SearchesFile, TellsFirst, total_if}
-use Rattle.acgrep.specs.Guarded.{SearchesFront}
-use Rattle.acgrep.specs.Streamed.{BeginsBehind, course}
+use Rattle.acgrep.specs.Streamed.{BeginsBehind}
 use Rattle.acgrep.specs.Written.{ShowsBy}
 use Rattle.acgrep.proofs.Begun.{begins_both, begins_nothing, begins_on, nil_front}
 use Rattle.acgrep.proofs.FileTellings.{from_begin, tells_none}
 use Rattle.acgrep.proofs.Grouped.{told_around}
 use Rattle.acgrep.proofs.Streams.{keeps_nil}
-use Rattle.acgrep.proofs.StreamsBegun.{behind_stop, text_from}
+use Rattle.acgrep.proofs.StreamsBegun.{text_from}
 
 -- nothing of the total is written
 pub total_none : (job : Job) (count : ℕ) (x y : Option (List ℕ)) → Keeps x y → BeginsTotal job count x y
@@ -26,15 +25,9 @@ total_kept job count x y z keeps begins = record {
   written = Appends-trans x y z [] begins.begun (keeps_nil x y keeps) begins.written;
 }
 
--- what was put together is written, or a beginning of it
-pub total_begins : (job : Job) (count : ℕ) (x y : Option (List ℕ)) (before after bytes : List ℕ) → before ≡ [] → bytes ≡ after
-    → Appends (Some before) (Some after) (total_if job.shown job.style count) → AppendsBeginning x y bytes → BeginsTotal job count x y
-total_begins job count x y before after bytes none same is (n, within, written) = record {
-  begun = take n bytes;
-  missing = drop n bytes;
-  cut = sym (same ∙ is ∙ ap (λ (l : List ℕ). l ++ total_if job.shown job.style count) none) ∙ sym (take-append-drop n bytes);
-  written = written;
-}
+-- a beginning of it is
+pub total_begins : (job : Job) (count : ℕ) (x y : Option (List ℕ)) → AppendsBeginning x y (total_if job.shown job.style count) → BeginsTotal job count x y
+total_begins job count x y (n, within, written) = record { begun = take n _; missing = drop n _; cut = sym (take-append-drop n _); written = written }
 
 -- what follows from lines or matches being written
 pub lines_total : (shown : Shown) (style : Style) (count : ℕ) → writes_lines shown ≡ true → total_if shown style count ≡ []
@@ -109,12 +102,6 @@ module _ (p : Patterns) (job : Job) where
         };
       }
 
-  -- the lines before one with a zero byte were searched
-  pub front_begins : (is_guarded job || takes_text job) ≡ true → (before state : State) (left left' held meanwhile held' : Option (List ℕ)) (kept : List ℕ) → IsBegin job before
-      → SearchesFront p job true (course before state held meanwhile left left') [] kept → BeginsTotal job state.selected meanwhile held' → BeginsFile p job left held held'
-  front_begins is before state left left' held meanwhile held' kept begin front total =
-      file_begins true is before state left held meanwhile held' begin (behind_stop p job true before state held meanwhile left left' [] kept false front.some front.text) total
-
   -- where lines are kept from the output nothing is asked of the file as a whole
   pub file_grown : is_guarded job ≡ true → (known held meanwhile held' : Option (List ℕ)) (count : ℕ) → BeginsFile p job known held meanwhile → BeginsTotal job count meanwhile held' → BeginsFile p job known held held'
   file_grown guarded known held meanwhile held' count begins total =
@@ -136,7 +123,7 @@ module _ (p : Patterns) (job : Job) where
   -- nothing is written of a file
   pub file_none : (known held held' : Option (List ℕ)) → Keeps held held' → BeginsFile p job known held held'
   file_none known held held' keeps =
-      let (text, of) = text_from known [] in
+      let (text, of, none) = text_from known [] in
       let total = total_if job.shown job.style 0 in
       let Tells = TellsFirst p job text in
       let told : Tells [] total = record { told = []; count = 0; tells = tells_nothing (around_of job); tail = total; behind = tail_total text [] 0; is = refl } in

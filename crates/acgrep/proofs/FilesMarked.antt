@@ -2,20 +2,20 @@
 use Rattle.acgrep.proofs.Common.{Appends-trans, Consumes, Covering, IsAtEnd, Job, Keeps, Occurrence, Outcome, Place, Rule, SinkGhosts, StartsWith, Unread, common_steps, is_input, stream_lines}
 use Rattle.std.proofs.Common.{◌++◌, ◌∙◌, ◌∷◌, ◌≡◌, ◌⊎◌, Bool, List, None, Option, Some, [], ap, append-nil, arith, false, inl, inr, refl, subst, sym, true, ℕ}
 use Rattle.std.proofs.KnownBytes.{Consumes-whole}
-use Rattle.std.specs.Prelude.{◌&&◌, ◌≢◌, Err, Ok, Result, nat_lt}
+use Rattle.std.specs.Prelude.{◌&&◌, ◌≢◌, Err, IfSome, Ok, Result, nat_lt}
 use Rattle.aho_automaton.specs.declared.automaton.Automaton.{Ghosts as Automata}
 use Rattle.aho_cover.proofs.Copied.{begins_with}
 use Rattle.aho_devices.specs.Counts.{counted}
 use Rattle.aho_devices.specs.declared.device.Source.{Ghosts as SourceGhosts}
 use Rattle.aho_stream.specs.After.{MayFollow}
-use Rattle.secret_rules.specs.Lines.{Line}
+use Rattle.aho_stream.specs.Replacing.{MayBe}
 use Rattle.secret_rules.specs.Ready.{CanCoverLines, CoversTheSame, rules_of}
 use Rattle.secret_rules.specs.declared.error.LineError.{LineError}
 use Rattle.secret_rules.specs.declared.line_cover.LineCover.{LineCover}
 use Rattle.acgrep.specs.Files.{BeginsTotal, EndsFile, IsNamed, known_of, shown_name, total_if}
 use Rattle.acgrep.specs.InTurn.{IfBroken, IfSearched}
 use Rattle.acgrep.specs.Marked.{FileAsked, marked_line, marked_lines, pass_behind}
-use Rattle.acgrep.specs.MarkedFiles.{AreFirstGiven, BeginsInput, BeginsMarks, BeginsWalk, ComesName, HasFirst, HasToldAll, MarksBy, MarksFile, MarksInput, MarksText, TellsAll, WalksGiven, WalksLines, file_asked, file_marked, file_selected, pass_from, seen_lines}
+use Rattle.acgrep.specs.MarkedFiles.{BeginsInput, BeginsMarks, BeginsWalk, ComesName, FirstGiven, HasFirst, HasToldAll, MarksBy, MarksFile, MarksInput, MarksText, TellsAll, WalksGiven, WalksLines, file_asked, file_marked, file_selected, pass_from, seen_lines}
 use Rattle.acgrep.specs.Written.{needs_one}
 use Rattle.acgrep.specs.declared.marked.Pass.{Pass}
 use Rattle.acgrep.proofs.FilesBegun.{total_none}
@@ -32,22 +32,19 @@ follows : (ended : Bool) (rest : List ℕ) → (ended ≡ true → rest ≡ []) 
 follows true rest at_end = at_end refl
 follows false rest at_end = tt
 
--- first lines of a file, by what its reader gave
-pub first_of : (covering : Covering) (known left : Option (List ℕ)) (given : List ℕ) (ended : Bool) (lines : List Line) (runs : List (List Occurrence)) → AreFirstGiven covering given ended lines runs
-    → Consumes known left given → (ended ≡ true → IsAtEnd left) → HasFirst covering known lines runs
-first_of covering None left given ended lines runs first read at_end = record {
-  text = given;
-  of = tt;
-  first = first.first given ([], sym (append-nil given), follows ended [] (λ is. refl));
-  are = first.are;
-}
-first_of covering (Some all) None given ended lines runs first read at_end = absurd read
-first_of covering (Some all) (Some rest) given ended lines runs first read at_end = record {
-  text = all;
-  of = refl;
-  first = first.first all (rest, read, follows ended rest at_end);
-  are = first.are;
-}
+-- the bytes of a file, by what its reader gave
+file_text : (known left : Option (List ℕ)) (given : List ℕ) (ended : Bool) → Consumes known left given → (ended ≡ true → IsAtEnd left)
+    → (text : List ℕ) × IfSome known (λ bytes. text ≡ bytes) × MayBe given ended text
+file_text None left given ended read at_end = (given, tt, ([], sym (append-nil given), follows ended [] (λ is. refl)))
+file_text (Some all) None given ended read at_end = absurd read
+file_text (Some all) (Some rest) given ended read at_end = (all, refl, (rest, read, follows ended rest at_end))
+
+-- and its first lines
+abbrev first_of : (covering : Covering) (known left : Option (List ℕ)) (given : List ℕ) (ended : Bool) → FirstGiven covering given ended → Consumes known left given → (ended ≡ true → IsAtEnd left)
+    → HasFirst covering known
+first_of covering known left given ended first read at_end =
+    let text = file_text known left given ended read at_end in
+    record { text = text.0; of = text.1; lines = first.lines; first = first.first text.0 text.2; runs = first.runs; are = first.are }
 
 -- where a selected line tells all nothing is written of lines
 line_none : (asked : FileAsked) → needs_one asked.shown ≡ true → (place : Place) (line : List ℕ) (runs : List Occurrence) → marked_line asked place line runs ≡ []
@@ -92,16 +89,14 @@ module _ {R W : Type 0} (S : SourceGhosts R) (K : SinkGhosts W) (job : Job) (cov
   file_told asked same begun all any ends_file =
       let selected = ap (λ (p : Pass). p.selected) begun.comes in
       let needs : needs_one asked.shown ≡ true = ap (λ (a : FileAsked). needs_one a.shown) same ∙ all.0 in
-      let nothing : begun.part ≡ [] = starts_nothing (marked_lines asked (pass_from job.first) (seen_lines covering.most begun.lines) begun.runs) begun.part (lines_none asked needs (pass_from job.first) (seen_lines covering.most begun.lines) begun.runs) begun.begins in
+      let nothing : begun.part ≡ [] = starts_nothing (marked_lines asked (pass_from job.first) (seen_lines covering.most begun.told.lines) begun.told.runs) begun.part (lines_none asked needs (pass_from job.first) (seen_lines covering.most begun.told.lines) begun.told.runs) begun.begins in
       record {
         needs = all.0;
         is_any = ends_file.is_any ∙ all.1;
-        lines = begun.passed;
-        runs = begun.own;
-        has = first_of covering known (S.remaining source') begun.given begun.ended begun.passed begun.own begun.passed_are (reads_given begun.given begun.gives.bytes)
+        has = first_of covering known (S.remaining source') begun.given begun.ended begun.passed (reads_given begun.given begun.gives.bytes)
             (ends_seen (S.empty_reads source) (S.empty_reads source') begun.ended none ends begun.gives.end);
         selected = sym (ap (nat_lt 0) selected) ∙ all.1;
-        written = Appends-trans (K.taken output) (K.taken output') held' [] (total_if job.shown job.style (file_selected job covering begun.passed begun.own))
+        written = Appends-trans (K.taken output) (K.taken output') held' [] (total_if job.shown job.style (file_selected job covering begun.passed.lines begun.passed.runs))
             (rw nothing at begun.written) (rw selected at ends_file.written);
       }
 
@@ -109,12 +104,10 @@ module _ {R W : Type 0} (S : SourceGhosts R) (K : SinkGhosts W) (job : Job) (cov
   pub file_part : (asked : FileAsked) → asked ≡ file_asked job covering.rules → BeginsWalk S K asked (pass_from job.first) pass' source source' output output' covering → (count : ℕ)
       → BeginsTotal job count (K.taken output') held' → BeginsMarks job covering known (K.taken output) held'
   file_part asked same begun count total = record {
-    lines = begun.lines;
-    runs = begun.runs;
-    has = first_of covering known (S.remaining source') begun.given begun.ended begun.lines begun.runs begun.are (reads_given begun.given begun.gives.bytes)
+    has = first_of covering known (S.remaining source') begun.given begun.ended begun.told (reads_given begun.given begun.gives.bytes)
         (ends_seen (S.empty_reads source) (S.empty_reads source') begun.ended none ends begun.gives.end);
     part = begun.part;
-    begins = subst (λ (a : FileAsked). StartsWith (marked_lines a (pass_from job.first) (seen_lines covering.most begun.lines) begun.runs) begun.part) same begun.begins;
+    begins = subst (λ (a : FileAsked). StartsWith (marked_lines a (pass_from job.first) (seen_lines covering.most begun.told.lines) begun.told.runs) begun.part) same begun.begins;
     count = count;
     tail = total.begun;
     ends = subst (λ (l : List ℕ). StartsWith l total.begun) (sym total.cut) (begins_with total.begun total.missing);
@@ -143,9 +136,7 @@ still_marks G old new covering can same is = record {
 -- nothing is written of a file that is not read
 pub marks_none : (job : Job) (covering : Covering) (known held held' : Option (List ℕ)) → Keeps held held' → BeginsMarks job covering known held held'
 marks_none job covering known held held' kept = record {
-  lines = [];
-  runs = [];
-  has = nothing_of known;
+  has = record { text = (nothing_of known).0; of = (nothing_of known).1; lines = []; first = (stream_lines (nothing_of known).0, refl); runs = []; are = tt };
   part = [];
   begins = refl;
   count = 0;
@@ -154,9 +145,9 @@ marks_none job covering known held held' kept = record {
   written = keeps_nil held held' kept;
 }
   where
-    nothing_of : (known : Option (List ℕ)) → HasFirst covering known [] []
-    nothing_of None = record { text = []; of = tt; first = (stream_lines [], refl); are = tt }
-    nothing_of (Some all) = record { text = all; of = refl; first = (stream_lines all, refl); are = tt }
+    nothing_of : (known : Option (List ℕ)) → (text : List ℕ) × IfSome known (λ bytes. text ≡ bytes)
+    nothing_of None = ([], tt)
+    nothing_of (Some all) = (all, refl)
 
 -- what comes of the file of a name
 module _ (job named : Job) (covering : Covering) (holds : List ℕ → Option (List ℕ)) (left : Option (List ℕ)) (read : Bool) (name : List ℕ) (held held' : Option (List ℕ))

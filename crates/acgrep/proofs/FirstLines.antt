@@ -1,6 +1,6 @@
 -- The first line of a text and the others.
 use Rattle.acgrep.proofs.Common.{Nowhere, cases_Bool, pieces_of, true≢false}
-use Rattle.std.proofs.Common.{◌++◌, ◌<◌, ◌==◌, ◌∙◌, ◌∷◌, ◌≡◌, ◌≤◌, Bor, List, [], ap, arith, drop, false, inl, inr, length, refl, suc, sym, take, true, zero, ℕ}
+use Rattle.std.proofs.Common.{◌++◌, ◌+◌, ◌<◌, ◌==◌, ◌∙◌, ◌∷◌, ◌≡◌, ◌≤◌, Bor, List, [], add-one, ap, arith, drop, false, inl, inr, length, refl, suc, sym, take, true, zero, ℕ}
 use Rattle.std.proofs.lemmas.List.Sums.{fails_before_first, passes_at_first, prefix_len-le-length}
 use Rattle.std.specs.List.{position_or_len}
 use Rattle.std.specs.Prelude.{not}
@@ -31,6 +31,12 @@ module _ (ending : ℕ) where
         | inl is ↦ absurd (none 0 (omega arith) (omega arith) is)
         | inr other ↦ lines_joined byte (next ∷ rest) other ∙ ap (joined_to byte) IH
       ]
+
+  -- the same of what stands behind it
+  pub lines_then : (text left : List ℕ) (end : ℕ) → 0 < length text → end ≤ length text → Nowhere (IsEnding ending text) 0 end → (end < length text → IsEnding ending text end)
+      → left ≡ drop (end + 1) text → lines ending text ≡ take end text ∷ lines ending left
+  lines_then text left end full within none newline follows =
+      lines_first text end full within none newline ∙ ap (λ (l : List ℕ). take end text ∷ lines ending l) (sym (follows ∙ ap (λ n. drop n text) (add-one end)))
 
   -- its end is where that byte first stands
   abbrev pub first_end : List ℕ → ℕ

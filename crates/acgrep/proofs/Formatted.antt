@@ -1,9 +1,10 @@
 -- A format, one piece after another.
 use Rattle.acgrep.proofs.Common.{Nowhere, Piece, common_steps}
-use Rattle.std.proofs.Common.{◌++◌, ◌+◌, ◌-◌, ◌<◌, ◌==◌, ◌∷◌, ◌≡◌, List, None, Option, Some, [], ap, append_assoc, arith, drop, false, length, refl, subst, suc, sym, take, zero, ℕ}
+use Rattle.std.proofs.Common.{◌++◌, ◌+◌, ◌-◌, ◌<◌, ◌==◌, ◌∙◌, ◌∷◌, ◌≡◌, List, None, Option, Some, [], ap, append-nil, append_assoc, arith, drop, false, length, refl, subst, suc, sym, take, zero, ℕ}
+use Rattle.std.proofs.lemmas.Grind.{flat_map-append}
 use Rattle.std.specs.Prelude.{option_map}
 use Rattle.memchr.specs.Find.{Passes, is_byte}
-use Rattle.acgrep.specs.Formats.{format_pieces, front_by, pieces_behind, unknown_behind, unknown_in, up_to_brace}
+use Rattle.acgrep.specs.Formats.{format_pieces, format_text, front_by, piece_text, pieces_behind, unknown_behind, unknown_in, up_to_brace}
 use Rattle.acgrep.specs.declared.format.Front.{Front}
 
 -- what belongs to a piece before is passed over
@@ -22,6 +23,14 @@ piece_step [] front some long is = absurd (omega (arith, some))
 piece_step (byte ∷ rest) front some long is =
     let (pieces, unknown) = rw (drop_piece front.len byte rest long) at (piece_skip (front.len - 1) rest) in
     (rw is (ap (λ (o : Option (List Piece)). option_map (λ pieces. front.piece ∷ pieces) o) pieces), rw is unknown)
+
+-- with a piece more the pieces are the text so far
+pub text_more : (items : List Piece) (front : Front) (format : List ℕ) → piece_text front.piece ++ drop front.len format ≡ format
+    → format_text (items ++ (front.piece ∷ [])) ++ drop front.len format ≡ format_text items ++ format
+text_more items front format taken =
+    let left = drop front.len format in
+    ap (λ (l : List ℕ). l ++ left) (flat_map-append (λ piece. piece_text piece) items (front.piece ∷ []) ∙ ap (λ (l : List ℕ). format_text items ++ l) (append-nil (piece_text front.piece)))
+    ∙ append_assoc (format_text items) (piece_text front.piece) left ∙ ap (λ (l : List ℕ). format_text items ++ l) taken
 
 -- a piece more
 pub pieces_more : (items : List Piece) (piece : Piece) (others : Option (List Piece))

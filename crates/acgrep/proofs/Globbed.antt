@@ -1,6 +1,6 @@
 -- How a name is read along a glob.
 use Rattle.acgrep.proofs.Common.{and_parts, common_steps, drop-drop, or_right, take_rest}
-use Rattle.std.proofs.Common.{◌+◌, ◌-◌, ◌∙◌, ◌∷◌, ◌≡◌, ◌≤◌, Bool, List, [], ap, arith, drop, inl, inr, length, refl, subst, suc, sym, take, true, zero, ℕ}
+use Rattle.std.proofs.Common.{◌+◌, ◌-◌, ◌∙◌, ◌∷◌, ◌≡◌, ◌≤◌, Bool, List, [], ap, arith, drop, inl, inr, length, length-drop, refl, subst, suc, sym, take, true, zero, ℕ}
 use Rattle.std.proofs.lemmas.Bool.{ne_eqb, or_cases}
 use Rattle.acgrep.specs.Globs.{IsCut, any_suffix, closes_at, closing, fits, item_len, one_fits, part_len, stands_for}
 use Rattle.acgrep.proofs.LineLists.{drop_zero}
@@ -74,18 +74,12 @@ pub read_more : (glob name : List ℕ) (first : ℕ) (behind : List ℕ) (byte :
 read_more glob name first behind byte other unlike stands read = let plain = ne_eqb first 42 unlike in record {
   count = suc read.count;
   cut = sym (drop_zero other) ∙ ap (drop 1) read.cut ∙ drop_more 0 read.count name ∙ drop_zero (drop (suc read.count) name);
-  shorter = omega (arith, read.shorter, less (part_len first behind) behind);
+  shorter = omega (arith, read.shorter, length-drop (part_len first behind) behind);
   within = omega (arith, read.within);
   back = λ is. read.back (rw plain (rw stands (fits_skip (part_len first behind) behind other ∙ is)));
   on = λ word is. ap (fits 0 (drop (part_len first behind) behind)) (sym (drop_more 0 read.count word ∙ drop_zero (drop (suc read.count) word)))
       ∙ sym (fits_skip (part_len first behind) behind (drop 1 (drop read.count word))) ∙ one_behind (stands_for first behind) (fits (part_len first behind) behind) (drop read.count word) (rw plain at (read.on word is));
 }
-  where
-    less : (k : ℕ) (l : List ℕ) → length (drop k l) ≤ length l
-    less zero [] = omega arith
-    less zero (x ∷ l) = omega arith
-    less (suc k) [] = omega arith
-    less (suc k) (x ∷ l) = omega (arith, less k l)
 
 -- an item more of a set was passed
 pub closes_first : (first : ℕ) (behind : List ℕ) (len : ℕ) → len ≡ item_len first behind → closing (first ∷ behind) ≡ closes_at (1 + len) 0 (take (length behind - len) (drop len behind))

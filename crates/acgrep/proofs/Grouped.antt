@@ -1,9 +1,9 @@
 -- A walk from line to line writes the lines that are near selected ones.
-use Rattle.acgrep.proofs.Common.{Context, Job, Patterns, Place, cases_Bool, cases_lt, common_steps, eqb-true, get_or, ltb-true, true≢false}
+use Rattle.acgrep.proofs.Common.{Context, Job, Patterns, Place, cases_Bool, cases_lt, common_steps, eqb-true, get_or, lt-ltb, ltb-true, true≢false}
 use Rattle.std.proofs.Common.{◌++◌, ◌+◌, ◌-◌, ◌<◌, ◌==◌, ◌∙◌, ◌∷◌, ◌≡◌, ◌≤◌, ◌⊎◌, Bool, List, [], ap, append_assoc, arith, false, inl, inr, length, length-append, refl, subst, suc, sym, true, zero, ℕ}
 use Rattle.std.proofs.Math.Bool.{and-false}
-use Rattle.std.proofs.lemmas.Bool.{leb-false, leb-true, ltb-false}
-use Rattle.std.specs.Prelude.{◌&&◌, map, nat_le, nat_lt}
+use Rattle.std.proofs.lemmas.Bool.{leb-false, leb-true, ltb-false, or_cases, or_left, or_right}
+use Rattle.std.specs.Prelude.{◌&&◌, ◌||◌, map, nat_le, nat_lt}
 use Rattle.acgrep.specs.Contexts.{AreChosen, Holding, IsNearChosen, IsNotChosen, ShowsEach, Steps, TakesLine, TellsAround, TellsWritten, Walk, WalksOver, behind_chosen, behind_due, behind_passed, beside, first_in, holding, holding_of, separator_if, walk_holding, with_line}
 use Rattle.acgrep.specs.Written.{ShowsLine, after_line, after_lines}
 use Rattle.acgrep.proofs.Tellings.{after_append}
@@ -16,19 +16,36 @@ marks mark ls = map (λ line. mark) ls
 marks_more : (ls : List (List ℕ)) (line : List ℕ) (chosen : List Bool) → marks false (ls ++ (line ∷ [])) ++ chosen ≡ marks false ls ++ (false ∷ chosen)
 marks_more ls line chosen = moved (λ line. false) ls line chosen
 
--- no line is chosen among those that are marked so, and the first behind them is that behind them
-unmarked : (ls : List (List ℕ)) (more : List Bool) (i : ℕ) → i < length ls → get_or (marks false ls ++ more) i false ≡ false
-unmarked [] more i within = absurd (omega (arith, within))
-unmarked (line ∷ rest) more zero within = refl
-unmarked (line ∷ rest) more (suc i) within = unmarked rest more i (omega (arith, within))
-
+-- the first behind lines that are not selected
 marked : (ls : List (List ℕ)) (more : List Bool) → get_or (marks false ls ++ (true ∷ more)) (length ls) false ≡ true
 marked [] more = refl
 marked (line ∷ rest) more = marked rest more
 
-unmarked_all : (ls : List (List ℕ)) (i : ℕ) → get_or (marks false ls ++ []) i false ≡ false
-unmarked_all (line ∷ rest) (suc i) = unmarked_all rest i
-unmarked_all _ _ = refl
+-- one of some marks is set, or of so many behind it
+abbrev soon : ℕ → List Bool → Bool
+soon n [] = false
+soon n (true ∷ chosen) = true
+soon zero (false ∷ chosen) = false
+soon (suc n) (false ∷ chosen) = soon n chosen
+
+soon_at : (n : ℕ) (chosen : List Bool) → soon n chosen ≡ true → (at : ℕ) × (at ≤ n) × (get_or chosen at false ≡ true)
+soon_at n (true ∷ chosen) is = (0, omega arith, refl)
+soon_at (suc n) (false ∷ chosen) is = let (at, low, there) = soon_at n chosen is in (suc at, omega (arith, low), there)
+soon_at _ _ is = absurd (true≢false (sym is))
+
+soon_from : (n : ℕ) (chosen : List Bool) (at : ℕ) → at ≤ n → get_or chosen at false ≡ true → soon n chosen ≡ true
+soon_from n (true ∷ chosen) at low is = refl
+soon_from zero (false ∷ chosen) (suc at) low is = absurd (omega (arith, low))
+soon_from (suc n) (false ∷ chosen) (suc at) low is = soon_from n chosen at (omega (arith, low)) is
+soon_from _ _ _ low is = absurd (true≢false (sym is))
+
+-- none is where so many lines are not selected, or no others
+soon_none : (n : ℕ) (ls : List (List ℕ)) (more : List Bool) → (n < length ls) ⊎ (more ≡ []) → soon n (marks false ls ++ more) ≡ false
+soon_none n [] more (inl low) = absurd (omega (arith, low))
+soon_none n [] more (inr none) = rw none refl
+soon_none zero (line ∷ rest) more far = refl
+soon_none (suc n) (line ∷ rest) more (inl low) = soon_none n rest more (inl (omega (arith, low)))
+soon_none (suc n) (line ∷ rest) more (inr none) = soon_none n rest more (inr none)
 
 first_more : (place first : Place) (ls : List (List ℕ)) (line : List ℕ) → first_in place first (ls ++ (line ∷ [])) ≡ first
 first_more place first [] line = refl
@@ -48,94 +65,72 @@ some_more n some = grind (arith, common_steps)
 abbrev IsNear : Context → ℕ → List Bool → ℕ → Type 0
 IsNear context due chosen i = (i < due) ⊎ IsNearChosen context chosen i
 
-pub record AreWrittenFrom (context : Context) (due : ℕ) (chosen written : List Bool) : Type 0 where
-  pub as_many : length written ≡ length chosen
-  pub near : (i : ℕ) → get_or written i false ≡ true → IsNear context due chosen i
-  pub all : (i : ℕ) → i < length chosen → IsNear context due chosen i → get_or written i false ≡ true
-
 module _ (context : Context) where
+  -- which lines are written by which are selected
+  abbrev written_by : ℕ → List Bool → List Bool
+  written_by due [] = []
+  written_by due (true ∷ chosen) = true ∷ written_by context.after chosen
+  written_by due (false ∷ chosen) = (nat_lt 0 due || soon context.before (false ∷ chosen)) ∷ written_by (due - 1) chosen
+
+  as_many : (due : ℕ) (chosen : List Bool) → length (written_by due chosen) ≡ length chosen
+  as_many due [] = refl
+  as_many due (true ∷ chosen) = ap suc (as_many context.after chosen)
+  as_many due (false ∷ chosen) = ap suc (as_many (due - 1) chosen)
+
   near_more : (mark : Bool) (chosen : List Bool) (i : ℕ) → IsNearChosen context chosen i → IsNearChosen context (mark ∷ chosen) (suc i)
   near_more mark chosen i near = record { at = suc near.at; is = near.is; before = omega (arith, near.before); behind = omega (arith, near.behind) }
 
-  -- one line before others: those are near as they were, and it is written where it is
-  written_more : (due due' : ℕ) (mark here : Bool) (chosen written : List Bool) → (here ≡ true → IsNear context due (mark ∷ chosen) 0) → (IsNear context due (mark ∷ chosen) 0 → here ≡ true)
-      → ((i : ℕ) → IsNear context due' chosen i → IsNear context due (mark ∷ chosen) (suc i)) → ((i : ℕ) → IsNear context due (mark ∷ chosen) (suc i) → IsNear context due' chosen i)
-      → AreWrittenFrom context due' chosen written → AreWrittenFrom context due (mark ∷ chosen) (here ∷ written)
-  written_more due due' mark here chosen written is near later sooner rest = record { as_many = ap suc rest.as_many; near = by_near; all = by_all }
-    where
-      by_near : (i : ℕ) → get_or (here ∷ written) i false ≡ true → IsNear context due (mark ∷ chosen) i
-      by_near zero at = is at
-      by_near (suc i) at = later i (rest.near i at)
+  near_first : (chosen : List Bool) (i : ℕ) → i ≤ context.after → IsNearChosen context (true ∷ chosen) i
+  near_first chosen i low = record { at = 0; is = refl; before = omega arith; behind = omega (arith, low) }
 
-      by_all : (i : ℕ) → i < length (mark ∷ chosen) → IsNear context due (mark ∷ chosen) i → get_or (here ∷ written) i false ≡ true
-      by_all zero within one = near one
-      by_all (suc i) within one = rest.all i (omega (arith, within)) (sooner i one)
+  -- those that are written are near
+  is_near : (due : ℕ) (chosen : List Bool) (i : ℕ) → get_or (written_by due chosen) i false ≡ true → IsNear context due chosen i
+  is_near due [] i is = absurd (true≢false (sym is))
+  is_near due (true ∷ chosen) zero is = inr (near_first chosen 0 (omega arith))
+  is_near due (true ∷ chosen) (suc i) is =
+      elim (is_near context.after chosen i is) [ inl low ↦ inr (near_first chosen (suc i) (omega (arith, low))) | inr one ↦ inr (near_more true chosen i one) ]
+  is_near due (false ∷ chosen) zero is = elim (or_cases _ _ is) [
+    | inl some ↦ inl (ltb-true 0 due some)
+    | inr ahead ↦ let (at, low, there) = soon_at context.before (false ∷ chosen) ahead in inr (record { at = at; is = there; before = omega (arith, low); behind = omega arith })
+  ]
+  is_near due (false ∷ chosen) (suc i) is = elim (is_near (due - 1) chosen i is) [ inl low ↦ inl (omega (arith, low)) | inr one ↦ inr (near_more false chosen i one) ]
 
-  -- one that is not selected
-  written_passed : (due : ℕ) (here : Bool) (chosen written : List Bool) → (here ≡ true → IsNear context due (false ∷ chosen) 0) → (IsNear context due (false ∷ chosen) 0 → here ≡ true)
-      → AreWrittenFrom context (due - 1) chosen written → AreWrittenFrom context due (false ∷ chosen) (here ∷ written)
-  written_passed due here chosen written is near = written_more due (due - 1) false here chosen written is near later sooner
-    where
-      later : (i : ℕ) → IsNear context (due - 1) chosen i → IsNear context due (false ∷ chosen) (suc i)
-      later i (inl low) = inl (omega (arith, low))
-      later i (inr one) = inr (near_more false chosen i one)
+  -- and all that are near are written
+  near_behind : (mark : Bool) (chosen : List Bool) (i at : ℕ) → get_or (mark ∷ chosen) at false ≡ true → at ≤ suc i + context.before → suc i ≤ at + context.after
+      → ((mark ≡ true) × (i < context.after)) ⊎ IsNearChosen context chosen i
+  near_behind mark chosen i zero is before behind = inl (is, omega (arith, behind))
+  near_behind mark chosen i (suc at) is before behind = inr (record { at = at; is = is; before = omega (arith, before); behind = omega (arith, behind) })
 
-      back : (i at : ℕ) → get_or (false ∷ chosen) at false ≡ true → at ≤ suc i + context.before → suc i ≤ at + context.after → IsNearChosen context chosen i
-      back i zero is before behind = absurd (true≢false (sym is))
-      back i (suc at) is before behind = record { at = at; is = is; before = omega (arith, before); behind = omega (arith, behind) }
-
-      sooner : (i : ℕ) → IsNear context due (false ∷ chosen) (suc i) → IsNear context (due - 1) chosen i
-      sooner i (inl low) = inl (omega (arith, low))
-      sooner i (inr one) = inr (back i one.at one.is one.before one.behind)
-
-  -- one that no selected one is near
-  written_far : (chosen written : List Bool) → ((at : ℕ) → at ≤ context.before → get_or (false ∷ chosen) at false ≡ false)
-      → AreWrittenFrom context 0 chosen written → AreWrittenFrom context 0 (false ∷ chosen) (false ∷ written)
-  written_far chosen written far = written_passed 0 false chosen written (λ is. absurd (true≢false (sym is))) none
-    where
-      none : IsNear context 0 (false ∷ chosen) 0 → false ≡ true
-      none (inl low) = absurd (omega (arith, low))
-      none (inr one) = sym (far one.at (omega (arith, one.before))) ∙ one.is
-
-  -- while lines are held none is due
-  idle : (due : ℕ) (line : List ℕ) (rest : List (List ℕ)) → (0 < due → line ∷ rest ≡ []) → due ≡ 0
-  idle due line rest none = elim (cases_lt 0 due) [ inl some ↦ absurd (omega (arith, ap length (none some))) | inr none ↦ omega (arith, none) ]
+  is_written : (due : ℕ) (chosen : List Bool) (i : ℕ) → due ≤ context.after → i < length chosen → IsNear context due chosen i → get_or (written_by due chosen) i false ≡ true
+  is_written due [] i most within near = absurd (omega (arith, within))
+  is_written due (true ∷ chosen) zero most within near = refl
+  is_written due (true ∷ chosen) (suc i) most within (inl low) = is_written context.after chosen i (omega arith) (omega (arith, within)) (inl (omega (arith, low, most)))
+  is_written due (true ∷ chosen) (suc i) most within (inr one) =
+      is_written context.after chosen i (omega arith) (omega (arith, within)) (elim (near_behind true chosen i one.at one.is one.before one.behind) [ inl here ↦ inl here.1 | inr near ↦ inr near ])
+  is_written due (false ∷ chosen) zero most within (inl low) = or_left _ _ (lt-ltb 0 due low)
+  is_written due (false ∷ chosen) zero most within (inr one) = or_right _ _ (soon_from context.before (false ∷ chosen) one.at (omega (arith, one.before)) one.is)
+  is_written due (false ∷ chosen) (suc i) most within (inl low) = is_written (due - 1) chosen i (omega (arith, most)) (omega (arith, within)) (inl (omega (arith, low)))
+  is_written due (false ∷ chosen) (suc i) most within (inr one) =
+      elim (near_behind false chosen i one.at one.is one.before one.behind) [
+        | inl here ↦ absurd (true≢false (sym here.0))
+        | inr near ↦ is_written (due - 1) chosen i (omega (arith, most)) (omega (arith, within)) (inr near)
+      ]
 
   -- a selected line with the held ones before it
-  written_group : (due : ℕ) (held : List (List ℕ)) (chosen written : List Bool) → length held ≤ context.before → due ≤ context.after → (0 < due → held ≡ [])
-      → AreWrittenFrom context context.after chosen written → AreWrittenFrom context due (marks false held ++ (true ∷ chosen)) (marks true held ++ (true ∷ written))
-  written_group due [] chosen written within most none last =
-      written_more due context.after true true chosen written (λ is. inr (record { at = 0; is = refl; before = omega arith; behind = omega arith })) (λ one. refl) later sooner last
-    where
-      later : (i : ℕ) → IsNear context context.after chosen i → IsNear context due (true ∷ chosen) (suc i)
-      later i (inl low) = inr (record { at = 0; is = refl; before = omega arith; behind = omega (arith, low) })
-      later i (inr one) = inr (near_more true chosen i one)
-
-      back : (i at : ℕ) → get_or (true ∷ chosen) at false ≡ true → at ≤ suc i + context.before → suc i ≤ at + context.after → IsNear context context.after chosen i
-      back i zero is before behind = inl (omega (arith, behind))
-      back i (suc at) is before behind = inr (record { at = at; is = is; before = omega (arith, before); behind = omega (arith, behind) })
-
-      sooner : (i : ℕ) → IsNear context due (true ∷ chosen) (suc i) → IsNear context context.after chosen i
-      sooner i (inl low) = inl (omega (arith, low, most))
-      sooner i (inr one) = back i one.at one.is one.before one.behind
-  written_group due (line ∷ rest) chosen written within most none last =
-      let past : due ≡ 0 = idle due line rest none in
-      rw past (written_passed 0 true (marks false rest ++ (true ∷ chosen)) (marks true rest ++ (true ∷ written))
-      (λ is. inr (record { at = suc (length rest); is = marked rest chosen; before = omega (arith, within); behind = omega arith })) (λ one. refl)
-      (written_group 0 rest chosen written (omega (arith, within)) (omega arith) (λ some. absurd (omega (arith, some))) last))
-
-  -- nothing is near where no line follows
-  written_none : (due : ℕ) (held : List (List ℕ)) → (0 < due → held ≡ []) → AreWrittenFrom context due (marks false held ++ []) (marks false held)
-  written_none due [] none = record { as_many = refl; near = λ i is. absurd (true≢false (sym is)); all = λ i within near. absurd (omega (arith, within)) }
-  written_none due (line ∷ rest) none =
-      let past : due ≡ 0 = idle due line rest none in
-      rw past (written_far (marks false rest ++ []) (marks false rest) (λ at low. unmarked_all (line ∷ rest) at) (written_none 0 rest (λ some. absurd (omega (arith, some)))))
+  written_group : (due : ℕ) (held : List (List ℕ)) (chosen : List Bool) → length held ≤ context.before
+      → written_by due (marks false held ++ (true ∷ chosen)) ≡ marks true held ++ (true ∷ written_by context.after chosen)
+  written_group due [] chosen within = refl
+  written_group due (line ∷ rest) chosen within =
+      rw (or_right (nat_lt 0 due) _ (soon_from context.before (marks false (line ∷ rest) ++ (true ∷ chosen)) (suc (length rest)) within (marked rest chosen)))
+      (ap (λ (l : List Bool). true ∷ l) (written_group (due - 1) rest chosen (omega (arith, within))))
 
 module _ (p : Patterns) (job : Job) (context : Context) where
   -- nothing is written of lines that are not
-  tells_none : (held : List (List ℕ)) (place : Place) (some apart : Bool) → TellsWritten p job context place some apart (held ++ []) (marks false held ++ []) (marks false held) []
-  tells_none [] place some apart = refl
-  tells_none (line ∷ rest) place some apart = tells_none rest (after_line place line) some true
+  tells_none : (due : ℕ) (held : List (List ℕ)) (place : Place) (some apart : Bool) → (0 < due → held ≡ []) → TellsWritten p job context place some apart (held ++ []) (marks false held ++ []) (written_by context due (marks false held ++ [])) []
+  tells_none due [] place some apart none = refl
+  tells_none due (line ∷ rest) place some apart none =
+      let past : due ≡ 0 = elim (cases_lt 0 due) [ inl some ↦ absurd (omega (arith, ap length (none some))) | inr none ↦ omega (arith, none) ] in
+      rw (past, soon_none context.before (line ∷ rest) [] (inr refl)) (tells_none 0 rest (after_line place line) some true (λ some. absurd (omega (arith, some))))
 
   -- a selected line with the held ones before it
   tells_group : (held : List (List ℕ)) (place : Place) (some apart : Bool) (before shown more : List ℕ) (line : List ℕ) (rest : List (List ℕ)) (chosen written : List Bool)
@@ -161,7 +156,6 @@ walk_same a b place selected due some apart first held = grind (arith, common_st
 -- what a walk keeps: held lines stand before its place, and none is held while some are due
 pub record IsKept (context : Context) (w : Walk) : Type 0 where
   pub within : length w.held ≤ context.before
-  pub most : w.due ≤ context.after
   pub none : 0 < w.due → w.held ≡ []
   pub joined : 0 < w.due → (w.some ≡ true) × (w.apart ≡ false)
   pub placed : after_lines (first_in w.place w.first w.held) w.held ≡ w.place
@@ -169,10 +163,8 @@ pub record IsKept (context : Context) (w : Walk) : Type 0 where
 -- what is told of the held lines and of those behind them
 pub record Grouped (p : Patterns) (job : Job) (context : Context) (w : Walk) (ls : List (List ℕ)) (bytes : List ℕ) (total : ℕ) : Type 0 where
   pub chosen : List Bool
-  pub written : List Bool
   pub are_chosen : AreChosen p job w.selected ls chosen total
-  pub are_written : AreWrittenFrom context w.due (marks false w.held ++ chosen) written
-  pub tells : TellsWritten p job context (first_in w.place w.first w.held) w.some w.apart (w.held ++ ls) (marks false w.held ++ chosen) written bytes
+  pub tells : TellsWritten p job context (first_in w.place w.first w.held) w.some w.apart (w.held ++ ls) (marks false w.held ++ chosen) (written_by context w.due (marks false w.held ++ chosen)) bytes
 
 -- what is held, put together
 abbrev held_as : Bool → Place → List (List ℕ) → Holding
@@ -202,35 +194,11 @@ by_holding most place apart first (other ∷ others) line Q within placed more f
       ]
     ]
 
--- a line more stands behind those that are held
-joined_more : (place start : Place) (held : List (List ℕ)) (line : List ℕ) → after_lines start held ≡ place → after_lines start (held ++ (line ∷ [])) ≡ after_line place line
-joined_more place start held line there = after_append held (line ∷ []) start ∙ ap (λ (at : Place). after_line at line) there
-
-module _ (context : Context) (w : Walk) (line : List ℕ) where
-  -- behind a selected line
-  kept_chosen : IsKept context (behind_chosen context w line)
-  kept_chosen = record { within = omega arith; most = omega arith; none = λ due. refl; joined = λ due. (refl, refl); placed = refl }
-
-  -- behind one that was due
-  kept_due : IsKept context w → 0 < w.due → IsKept context (behind_due w line)
-  kept_due kept due = record {
-    within = kept.within;
-    most = omega (arith, kept.most);
-    none = λ _. kept.none due;
-    joined = λ _. kept.joined due;
-    placed = rw (kept.none due) refl;
-  }
-
-  -- behind one that was not, where none is due
-  kept_idle : w.due ≡ 0 → (h : Holding) → length h.held ≤ context.before → after_lines (first_in (after_line w.place line) h.first h.held) h.held ≡ after_line w.place line
-      → IsKept context (walk_holding w (after_line w.place line) h)
-  kept_idle past h within placed = record {
-    within = within;
-    most = omega (arith, past);
-    none = λ due. absurd (omega (arith, due, past));
-    joined = λ due. absurd (omega (arith, due, past));
-    placed = placed;
-  }
+-- behind a line that was not due, where none is
+kept_idle : (context : Context) (w : Walk) (place : Place) → w.due ≡ 0 → (h : Holding) → length h.held ≤ context.before → after_lines (first_in place h.first h.held) h.held ≡ place
+    → IsKept context (walk_holding w place h)
+kept_idle context w place past h within placed =
+    record { within = within; none = λ due. absurd (omega (arith, due, past)); joined = λ due. absurd (omega (arith, due, past)); placed = placed }
 
 module _ (p : Patterns) (job : Job) (context : Context) where
   each_start : (held : List (List ℕ)) (place first : Place) (before : List ℕ) → ShowsEach p (beside job) first held before → ShowsEach p (beside job) (first_in place first held) held before
@@ -249,11 +217,9 @@ module _ (p : Patterns) (job : Job) (context : Context) where
         sym (ap (λ (l : List ℕ). l ++ more) cut ∙ append_assoc sep (before ++ one) more ∙ ap (λ (l : List ℕ). sep ++ l) (append_assoc before one more)) in
         record {
           chosen = true ∷ IH.chosen;
-          written = marks true w.held ++ (true ∷ IH.written);
           are_chosen = (takes.more, takes.selected, IH.are_chosen);
-          are_written = written_group context w.due w.held IH.chosen IH.written kept.within kept.most kept.none IH.are_written;
-          tells = rw (sym bytes) (tells_group p job context w.held start w.some w.apart before one more line rest IH.chosen IH.written (each_start w.held w.place w.first before each)
-              (rw kept.placed shows) (rw kept.placed IH.tells));
+          tells = rw (written_group context w.due w.held IH.chosen kept.within, sym bytes) (tells_group p job context w.held start w.some w.apart before one more line rest IH.chosen
+              (written_by context context.after IH.chosen) (each_start w.held w.place w.first before each) (rw kept.placed shows) (rw kept.placed IH.tells));
         }
 
     -- one that is due
@@ -265,10 +231,8 @@ module _ (p : Patterns) (job : Job) (context : Context) where
         let unparted : separator_if (context.parted && (w.some && w.apart)) job.style ≡ [] = rw (is_joined, and-false w.some, and-false context.parted) refl in
         record {
           chosen = false ∷ IH.chosen;
-          written = true ∷ IH.written;
           are_chosen = (passed, IH.are_chosen);
-          are_written = rw none (written_passed context w.due true IH.chosen IH.written (λ is. inl due) (λ one. refl) (rw none at IH.are_written));
-          tells = rw none (shown, more, shows, rw (is_some, is_joined) at (rw none at IH.tells), ap (λ (l : List ℕ). l ++ (shown ++ more)) (sym unparted));
+          tells = rw (none, lt-ltb 0 w.due due) (shown, more, shows, rw (is_some, is_joined) at (rw none at IH.tells), ap (λ (l : List ℕ). l ++ (shown ++ more)) (sym unparted));
         }
 
     -- one that is held
@@ -276,9 +240,7 @@ module _ (p : Patterns) (job : Job) (context : Context) where
         → Grouped p job context (walk_holding w (after_line w.place line) (with_line w.place (holding_of w) line)) rest more total → Grouped p job context w (line ∷ rest) more total
     group_held more total passed IH = record {
       chosen = false ∷ IH.chosen;
-      written = IH.written;
       are_chosen = (passed, IH.are_chosen);
-      are_written = rw (marks_more w.held line IH.chosen) at IH.are_written;
       tells = rw (first_more (after_line w.place line) (first_in w.place w.first w.held) w.held line) at (rw (marks_more w.held line IH.chosen) at (rw (append_assoc w.held (line ∷ []) rest) at IH.tells));
     }
 
@@ -288,10 +250,8 @@ module _ (p : Patterns) (job : Job) (context : Context) where
         → Grouped p job context (walk_holding w place (held_as apart first (other ∷ others))) rest more total
     group_dropped place first start apart other others more total past long starts IH = record {
       chosen = IH.chosen;
-      written = false ∷ IH.written;
       are_chosen = IH.are_chosen;
-      are_written = rw past (written_far context (marks false others ++ IH.chosen) IH.written (λ at low. unmarked (other ∷ others) IH.chosen at (omega (arith, low, long))) (rw past at IH.are_written));
-      tells = rw starts at IH.tells;
+      tells = rw (past, soon_none context.before (other ∷ others) IH.chosen (inl (omega (arith, long)))) (rw (starts, past) at IH.tells);
     }
 
     -- one that is not selected where none is due
@@ -300,27 +260,28 @@ module _ (p : Patterns) (job : Job) (context : Context) where
     group_passed more total kept past passed =
         let next = after_line w.place line in
         let start = first_in w.place w.first w.held in
-        let joined : after_lines start (w.held ++ (line ∷ [])) ≡ next = joined_more w.place start w.held line kept.placed in
+        let joined : after_lines start (w.held ++ (line ∷ [])) ≡ next = after_append w.held (line ∷ []) start ∙ ap (λ (at : Place). after_line at line) kept.placed in
         by_holding context.before w.place w.apart w.first w.held line
         (λ (h : Holding). (IsKept context (walk_holding w next h) → Grouped p job context (walk_holding w next h) rest more total) → Grouped p job context w (line ∷ rest) more total) kept.within kept.placed
-        (λ room IH. group_held more total passed (IH (kept_idle context w line past (with_line w.place (holding_of w) line) (omega (arith, room, length-append w.held (line ∷ [])))
+        (λ room IH. group_held more total passed (IH (kept_idle context w next past (with_line w.place (holding_of w) line) (omega (arith, room, length-append w.held (line ∷ [])))
         (ap (λ (at : Place). after_lines at (w.held ++ (line ∷ []))) (first_more next start w.held line) ∙ joined))))
         (λ first other others is full starts IH. group_held more total passed
         (subst (λ (l : List (List ℕ)). Grouped p job context (walk_holding w next (held_as w.apart start l)) rest more total) (sym is)
         (group_dropped next start first w.apart other others more total past (omega (arith, full)) starts
-        (IH (kept_idle context w line past (held_as true first others) (omega (arith, full))
+        (IH (kept_idle context w next past (held_as true first others) (omega (arith, full))
         (ap (λ (at : Place). after_lines at others) starts ∙ ap (after_lines start) (sym is) ∙ joined))))))
 
   group_step : (w w' : Walk) (line : List ℕ) (rest : List (List ℕ)) (shown more : List ℕ) (total : ℕ) → IsKept context w → Steps p job context w line shown w'
       → (IsKept context w' → Grouped p job context w' rest more total) → Grouped p job context w (line ∷ rest) (shown ++ more) total
   group_step w w' line rest shown more total kept (inl takes) others =
-      group_chosen w line rest shown more w' total kept takes ((rw takes.behind at others) (kept_chosen context w line))
+      group_chosen w line rest shown more w' total kept takes ((rw takes.behind at others) (record { within = omega arith; none = λ due. refl; joined = λ due. (refl, refl); placed = refl }))
   group_step w w' line rest shown more total kept (inr passes) others =
       elim (cases_Bool (nat_lt 0 w.due)) [
         | inl is_due ↦
             let due : 0 < w.due = ltb-true 0 w.due is_due in
             let (shows, behind) = rw is_due at passes.passes in
-            group_due w line rest shown more total kept due passes.passed shows ((rw behind at others) (kept_due context w line kept due))
+            group_due w line rest shown more total kept due passes.passed shows
+            ((rw behind at others) (record { within = kept.within; none = λ _. kept.none due; joined = λ _. kept.joined due; placed = rw (kept.none due) refl }))
         | inr not_due ↦
             let (none, behind) = rw not_due at passes.passes in
             rw none (group_passed w line rest more total kept (omega (arith, ltb-false 0 w.due not_due)) passes.passed (rw behind at others))
@@ -330,10 +291,8 @@ module _ (p : Patterns) (job : Job) (context : Context) where
   grouped : (ls : List (List ℕ)) (w w' : Walk) (bytes : List ℕ) → IsKept context w → WalksOver p job context w ls bytes w' → Grouped p job context w ls bytes w'.selected
   grouped [] w w' bytes kept (empty, same) = record {
     chosen = [];
-    written = marks false w.held;
     are_chosen = ap (λ (v : Walk). v.selected) same;
-    are_written = written_none context w.due w.held kept.none;
-    tells = rw empty (tells_none p job context w.held (first_in w.place w.first w.held) w.some w.apart);
+    tells = rw empty (tells_none p job context w.due w.held (first_in w.place w.first w.held) w.some w.apart kept.none);
   }
   grouped (line ∷ rest) w w' bytes kept (shown, more, between, step, walks, is) =
       rw is (group_step w between line rest shown more w'.selected kept step (λ next. grouped rest between w' more next walks))
@@ -345,16 +304,16 @@ module _ (p : Patterns) (job : Job) (context : Context) where
       let start : Walk = record { place = job.first; selected = 0; due = 0; some = job.follows; apart = true; first = w.first; held = [] } in
       let same = walk_same w start place selected due some apart refl held in
       let kept : IsKept context start =
-      record { within = omega arith; most = omega arith; none = λ _. refl; joined = λ one. absurd (omega (arith, one)); placed = refl } in
+      record { within = omega arith; none = λ _. refl; joined = λ one. absurd (omega (arith, one)); placed = refl } in
       let all = grouped ls start w' bytes kept (subst (λ (v : Walk). WalksOver p job context v ls bytes w') same walks) in
       record {
         chosen = all.chosen;
-        written = all.written;
+        written = written_by context 0 all.chosen;
         are_chosen = all.are_chosen;
         are_written = record {
-          as_many = all.are_written.as_many;
-          near = λ i is. elim (all.are_written.near i is) [ inl low ↦ absurd (omega (arith, low)) | inr near ↦ near ];
-          all = λ i low near. all.are_written.all i low (inr near);
+          as_many = as_many context 0 all.chosen;
+          near = λ i is. elim (is_near context 0 all.chosen i is) [ inl low ↦ absurd (omega (arith, low)) | inr near ↦ near ];
+          all = λ i low near. is_written context 0 all.chosen i (omega arith) low (inr near);
         };
         tells = all.tells;
       }

@@ -13,9 +13,7 @@ cut_more [] (byte ∷ bytes) line same = absurd (omega (arith, same))
 cut_more (size ∷ sizes) bytes line same =
     let all : size + sum sizes ≡ length bytes = sym (sum_by-cons (λ n. n) size sizes) ∙ same in
     let within : size ≤ length bytes = omega (arith, all) in
-    ap (λ (l : List ℕ). l ∷ cut_by (sizes ++ (length line ∷ [])) (drop size (bytes ++ line))) (take-append-le size bytes line within)
-    ∙ ap (λ (l : List ℕ). take size bytes ∷ cut_by (sizes ++ (length line ∷ [])) l) (drop-append-le size bytes line within)
-    ∙ ap (λ (l : List (List ℕ)). take size bytes ∷ l) (cut_more sizes (drop size bytes) line (omega (arith, all, length-drop size bytes)))
+    cc (take-append-le size bytes line within, drop-append-le size bytes line within, cut_more sizes (drop size bytes) line (omega (arith, all, length-drop size bytes)))
 
 -- a line is cut off where its size is the next one
 pub sum_left : (sizes : List ℕ) (index size : ℕ) (rest left : List ℕ) → index < length sizes → size ≡ slice_index_or sizes index size → sum (drop index sizes) ≡ length rest

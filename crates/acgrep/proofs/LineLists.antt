@@ -1,6 +1,7 @@
 -- The lines of a text that is cut, and patterns that occur in none of them.
-use Rattle.acgrep.proofs.Common.{IsSameWord, Occurrence, Occurs-in, OccursIn, Patterns, cases_Bool, cases_lt, common_steps, drop-drop, length-drop, length-take-le, pattern_at, plain_search, take_all}
-use Rattle.std.proofs.Common.{◌++◌, ◌+◌, ◌-◌, ◌<◌, ◌==◌, ◌∙◌, ◌∷◌, ◌≡◌, ◌≤◌, List, [], ap, arith, drop, inl, inr, length, refl, subst, suc, sym, take, take-append-drop, true, ℕ}
+use Rattle.acgrep.proofs.Common.{IsSameWord, Occurrence, Occurs-in, OccursIn, Patterns, cases_Bool, cases_lt, common_steps, drop-drop, length-drop, length-take-le, pattern_at, plain_search}
+use Rattle.std.proofs.Common.{◌++◌, ◌+◌, ◌-◌, ◌<◌, ◌==◌, ◌∙◌, ◌∷◌, ◌≡◌, ◌≤◌, List, [], ap, arith, drop, inl, inr, length, refl, subst, suc, sym, take, take-append-drop, true, zero, ℕ}
+use Rattle.std.proofs.lemmas.List.{drop_all}
 use Rattle.std.specs.Prelude.{slice_range}
 use Rattle.aho_core.specs.Occurs.{Occurs}
 use Rattle.aho_core.specs.declared.search.Anchored.TheVariants.{No}
@@ -80,35 +81,28 @@ module _ (ending : ℕ) where
           admitted = λ e. cc;
         }
 
-    -- what occurs nowhere in a text occurs in no front of it
+    -- what occurs in a front of a text occurs there in the text
     occurs_front : (text : List ℕ) (end : ℕ) (m : Occurrence) → end ≤ length text → OccursIn p (plain_search (take end text)) m → OccursIn p (plain_search text) (moved 0 m)
     occurs_front text end m within occurs =
         occurs_part text 0 end m (omega arith) within (subst (λ (l : List ℕ). OccursIn p (plain_search l) m) (sym (slice_front text end)) occurs)
 
-    none_front : (text : List ℕ) (end : ℕ) → end ≤ length text → HasNone p text → HasNone p (take end text)
-    none_front text end within none m occurs = none (moved 0 m) (occurs_front text end m within occurs)
+    -- what occurs nowhere in a text occurs in no line behind a place of it
+    none_behind : (n at : ℕ) (text : List ℕ) → length text ≤ at + n → (0 < length text → HasNone p text) → EachLine (HasNone p) (lines ending (drop at text))
+    none_behind zero at text short none = rw (drop_all at text (omega (arith, short))) tt
+    none_behind (suc n) at text short none = elim (cases_lt at (length text)) [
+      | inr past ↦ rw (drop_all at text past) tt
+      | inl some ↦
+          let rest = drop at text in
+          let end = first_end ending rest in
+          let long : length rest ≡ length text - at = length-drop at text in
+          let size : (at + end) - at ≡ end = omega arith in
+          let here : HasNone p (take end rest) = rw size at (λ (m : Occurrence) (occurs : OccursIn p (plain_search (slice_range text at (at + end))) m).
+          none (omega (arith, some)) (moved at m) (occurs_part text at (at + end) m (omega arith) (omega (arith, some, long, first_within ending rest)) occurs)) in
+          rw (lines_cut ending rest (omega (arith, some, long))) (here, rw (drop-drop (suc end) at text) (none_behind n (at + suc end) text (omega (arith, short)) none))
+    ]
 
-    none_rest : (byte : ℕ) (rest : List ℕ) → HasNone p (byte ∷ rest) → HasNone p rest
-    none_rest byte rest none m occurs =
-        let same : slice_range (byte ∷ rest) 1 (suc (length rest)) ≡ rest = ap (take (suc (length rest) - 1)) (drop_zero rest) ∙ take_all (suc (length rest) - 1) rest (omega arith) in
-        none (moved 1 m) (occurs_part (byte ∷ rest) 1 (suc (length rest)) m (omega arith) (omega arith) (subst (λ (l : List ℕ). OccursIn p (plain_search l) m) (sym same) occurs))
-
-    -- nor in a line of it
-    pub none_in_lines : (text : List ℕ) → HasNone p text → EachLine (HasNone p) (lines ending text)
-    none_in_lines [] none = tt
-    none_in_lines (byte ∷ []) none =
-        elim (cases_Bool (byte == ending)) [
-          | inl is ↦ rw is (none_front (byte ∷ []) 0 (omega arith) none, tt)
-          | inr other ↦ rw other (none, tt)
-        ]
-    none_in_lines (byte ∷ next ∷ rest) none =
-        let IH = none_in_lines (next ∷ rest) (none_rest byte (next ∷ rest) none) in
-        elim (cases_Bool (byte == ending)) [
-          | inl is ↦ rw is (none_front (byte ∷ next ∷ rest) 0 (omega arith) none, IH)
-          | inr other ↦
-              let (end, others, within, same) = first_line rest next in
-              rw (lines_joined ending byte (next ∷ rest) other ∙ ap (joined_to byte) same) (none_front (byte ∷ next ∷ rest) (suc end) (omega (arith, within)) none, (rw same at IH).1)
-        ]
+    pub none_in_lines : (text : List ℕ) → (0 < length text → HasNone p text) → EachLine (HasNone p) (lines ending text)
+    none_in_lines text none = none_behind (length text) 0 text (omega arith) none
 
     -- what occurs in a range of a text occurs in the range's bytes
     pub in_part : (text : List ℕ) (start end : ℕ) (m : Occurrence) → start ≤ end → end ≤ length text → Occurs p No text start end m → OccursIn p (plain_search (slice_range text start end)) (moved_back start m)
@@ -146,13 +140,7 @@ module _ (ending : ℕ) where
           ]
 
       pub front_lines : EachLine (HasNone p) (lines ending (take line.start text))
-      front_lines =
-          elim (cases_lt 0 line.start) [
-            | inl some ↦ none_in_lines (take line.start text) (front_none some)
-            | inr none ↦
-                let begin : line.start ≡ 0 = omega (arith, none) in
-                subst (λ (n : ℕ). EachLine (HasNone p) (lines ending (take n text))) (sym begin) (subst (λ (l : List ℕ). EachLine (HasNone p) (lines ending l)) (sym (take_zero text)) tt)
-          ]
+      front_lines = none_in_lines (take line.start text) (λ some. front_none (omega (arith, some, length-take-le line.start text (omega (arith, first.is_line.ordered, first.is_line.within)))))
 
       -- the line begins before the end of a text that is not empty
       begins_before : 0 < length text → line.start < length text

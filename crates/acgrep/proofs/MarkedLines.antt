@@ -7,14 +7,14 @@ use Rattle.std.specs.Prelude.{Err, Ok, Result}
 use Rattle.aho_core.specs.declared.error.stream.StreamError.{StreamError}
 use Rattle.aho_cover.proofs.Copied.{begins_shorter}
 use Rattle.aho_devices.specs.declared.device.Source.{Ghosts as SourceGhosts}
-use Rattle.aho_stream.specs.Replacing.{SourceGave}
+use Rattle.aho_stream.specs.Replacing.{MayBe, SourceGave}
 use Rattle.secret_rules.specs.Covering.{AreLineRuns, covering_by, seen_line}
 use Rattle.secret_rules.specs.Lines.{Line}
-use Rattle.secret_rules.specs.Visits.{LeavesVisited, StopsWithin, VisitsEach, taken_line}
+use Rattle.secret_rules.specs.Visits.{AreFirstLines, LeavesVisited, StopsWithin, VisitsEach, taken_line}
 use Rattle.secret_rules.specs.declared.error.LineError.{LineError}
 use Rattle.secret_rules.specs.declared.visitor.LineVisitor.{Ghosts as VisitorGhosts}
 use Rattle.acgrep.specs.Marked.{FileAsked, StopsMarked, WritesMarked, asked_of, marked_line, marked_lines, pass_after, pass_behind}
-use Rattle.acgrep.specs.MarkedFiles.{AreFirstGiven, BeginsWalk, WalksLines, seen_lines}
+use Rattle.acgrep.specs.MarkedFiles.{BeginsWalk, FirstGiven, WalksLines, seen_lines}
 use Rattle.acgrep.specs.declared.marked.Pass.{Pass}
 use Rattle.acgrep.specs.declared.marked.Task.{Task}
 
@@ -85,34 +85,34 @@ module _ {V W : Type 0} (L : VisitorGhosts V) (K : SinkGhosts W) (most : ℕ) (o
 
   -- what is left of a source whose first lines were taken: all of them, or all but the last, at which a visit failed
   module _ {R : Type 0} (S : SourceGhosts R) (words : Bool) (rules : List Rule) (p : Patterns) (source source' : R) (visitor visitor' : V) (given : List ℕ) (ended : Bool) (gives : SourceGave S source source' given ended) where
-    abbrev AreFirst : List Line → List (List Occurrence) → Type 0
-    AreFirst lines runs = AreFirstGiven (covering_by words rules most p) given ended lines runs
+    abbrev First : Type 0
+    First = FirstGiven (covering_by words rules most p) given ended
 
     abbrev Begins : Type 0
     Begins = BeginsWalk S K (asked_of (task_in visitor)) (pass_in visitor) (pass_in visitor') source source' (output_of visitor).now (output_of visitor').now (covering_by words rules most p)
 
-    begun_whole : (lines : List Line) (runs : List (List Occurrence)) → VisitsEach L most visitor visitor' lines runs → AreFirst lines runs → Begins
-    begun_whole lines runs is are =
-        let each = each_written visitor visitor' lines runs is in
-        let all = marked_lines (asked_of (task_in visitor)) (pass_in visitor) (seen_lines most lines) runs in
+    begun_whole : (told : First) → VisitsEach L most visitor visitor' told.lines told.runs → Begins
+    begun_whole told is =
+        let each = each_written visitor visitor' told.lines told.runs is in
+        let all = marked_lines (asked_of (task_in visitor)) (pass_in visitor) (seen_lines most told.lines) told.runs in
         record {
           given = given;
           ended = ended;
           gives = gives;
-          lines = lines;
-          runs = runs;
-          are = are;
+          told = told;
           part = all;
           begins = take_all (length all) all (omega arith);
           written = each.written;
-          passed = lines;
-          own = runs;
-          passed_are = are;
+          passed = told;
           comes = each.comes;
         }
 
     module _ (first : List Line) (line : Line) (more : List (List Occurrence)) (own : List Occurrence) (between : V) (cause : StreamError)
-        (visits : VisitsEach L most visitor between first more) (fails : L.stops between visitor' (taken_line most line) own cause) (are : AreFirst (first ++ line ∷ []) (more ++ own ∷ [])) where
+        (visits : VisitsEach L most visitor between first more) (fails : L.stops between visitor' (taken_line most line) own cause)
+        (are : AreLineRuns (covering_by words rules most p) [] (first ++ line ∷ []) (more ++ own ∷ [])) (begin : (bytes : List ℕ) → MayBe given ended bytes → AreFirstLines (first ++ line ∷ []) (stream_lines bytes)) where
+      abbrev all_told : First
+      all_told = record { lines = first ++ line ∷ []; first = begin; runs = more ++ own ∷ []; are = are }
+
       each_first : WritesEach visitor between first more
       each_first = each_written visitor between first more visits
 
@@ -135,8 +135,8 @@ module _ {V W : Type 0} (L : VisitorGhosts V) (K : SinkGhosts W) (most : ℕ) (o
           ∙ ap (λ (p : Pass). front ++ marked_line asked p.place seen_last own) (sym each_first.comes)
           ∙ ap (λ (t : Task). front ++ marked_line (asked_of t) (pass_in between).place seen_last own) (sym each_first.same_task)
 
-      begun_by : (passed : List Line) (runs : List (List Occurrence)) → AreFirst passed runs → pass_in visitor' ≡ pass_after (pass_in visitor) (seen_lines most passed) runs → Begins
-      begun_by passed runs passed_are comes =
+      begun_by : (passed : First) → pass_in visitor' ≡ pass_after (pass_in visitor) (seen_lines most passed.lines) passed.runs → Begins
+      begun_by passed comes =
           let front = marked_lines (asked_of (task_in visitor)) (pass_in visitor) (seen_lines most first) more in
           let rest = marked_line (asked_of (task_in between)) (pass_in between).place seen_last own in
           let count = stop_last.begun.0 in
@@ -144,31 +144,29 @@ module _ {V W : Type 0} (L : VisitorGhosts V) (K : SinkGhosts W) (most : ℕ) (o
             given = given;
             ended = ended;
             gives = gives;
-            lines = first ++ line ∷ [];
-            runs = more ++ own ∷ [];
-            are = are;
+            told = all_told;
             part = front ++ take count rest;
             begins = rw all_is (begins_shorter (front ++ rest) front rest count stop_last.begun.1 (take_all (length (front ++ rest)) (front ++ rest) (omega arith)));
             written = Appends-trans _ _ _ _ (take count rest) each_first.written stop_last.begun.2;
             passed = passed;
-            own = runs;
-            passed_are = passed_are;
             comes = comes;
           }
 
       begun_last : Begins
       begun_last = elim stop_last.why [
-        | inl kept ↦ begun_by first more (record {
-          are = runs_front (covering_by words rules most p) [] first line more own are.are each_first.as_many;
-          first = λ bytes may. let (later, is) = are.first bytes may in (line ∷ later, is ∙ append_assoc first (line ∷ []) later);
+        | inl kept ↦ begun_by (record {
+          lines = first;
+          first = λ bytes may. let (later, is) = begin bytes may in (line ∷ later, is ∙ append_assoc first (line ∷ []) later);
+          runs = more;
+          are = runs_front (covering_by words rules most p) [] first line more own are each_first.as_many;
         }) (kept ∙ each_first.comes)
-        | inr moved ↦ begun_by _ _ are (moved.0 ∙ ap (λ (p : Pass). pass_behind p seen_last own) each_first.comes ∙ sym (after_append _ _ seen_last more own as_many)
+        | inr moved ↦ begun_by all_told (moved.0 ∙ ap (λ (p : Pass). pass_behind p seen_last own) each_first.comes ∙ sym (after_append _ _ seen_last more own as_many)
             ∙ ap (λ (l : List (List ℕ)). pass_after (pass_in visitor) l (more ++ own ∷ [])) (sym (lines_append most first line)))
       ]
 
-    begun_within : (lines : List Line) (runs : List (List Occurrence)) (error : LineError) → StopsWithin L most visitor visitor' lines runs error → AreFirst lines runs → Begins
-    begun_within lines runs error (inl is) are = begun_whole lines runs is.0 are
-    begun_within lines runs error (inr last) are = begun_last last.first last.line last.more last.own last.between last.cause last.visits last.stops (rw (last.lines_are, last.runs_are) at are)
+    begun_within : (told : First) (error : LineError) → StopsWithin L most visitor visitor' told.lines told.runs error → Begins
+    begun_within told error (inl is) = begun_whole told is.0
+    begun_within told error (inr last) = begun_last last.first last.line last.more last.own last.between last.cause last.visits last.stops (rw (last.lines_are, last.runs_are) at told.are) (rw last.lines_are at told.first)
 
   module _ {R : Type 0} (S : SourceGhosts R) (Searched : Patterns → Type 0) (words : Bool) (rules : List Rule) (source source' : R) (visitor visitor' : V) where
     pub walked_lines : (p : Patterns) → Searched p → (done : Result (Unit {0}) LineError) → LeavesVisited S L Searched words rules most source source' visitor visitor' done
@@ -185,16 +183,18 @@ module _ {V W : Type 0} (L : VisitorGhosts V) (K : SinkGhosts W) (most : ℕ) (o
             comes = each.comes;
             written = each.written;
           };
-          begun = begun_whole S words rules p source source' visitor visitor' whole.given true whole.gives (stream_lines whole.given) whole.runs whole.visits (record {
-            are = whole.runs_are p sought;
+          begun = begun_whole S words rules p source source' visitor visitor' whole.given true whole.gives (record {
+            lines = stream_lines whole.given;
             first = λ bytes may. ([], ap stream_lines (may.1 ∙ ap (λ l. whole.given ++ l) may.2 ∙ append-nil whole.given) ∙ sym (append-nil (stream_lines whole.given)));
-          });
+            runs = whole.runs;
+            are = whole.runs_are p sought;
+          }) whole.visits;
         }
     walked_lines p sought (Err error) leaves =
         let begun = leaves.begun in
         record {
           whole = tt;
-          begun = begun_within S words rules p source source' visitor visitor' begun.given begun.ended begun.gives begun.lines begun.runs error begun.stops (record { are = begun.runs_are p sought; first = begun.first });
+          begun = begun_within S words rules p source source' visitor visitor' begun.given begun.ended begun.gives (record { lines = begun.lines; first = begun.first; runs = begun.runs; are = begun.runs_are p sought }) error begun.stops;
         }
 
     -- to the same output

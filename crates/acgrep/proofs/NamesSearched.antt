@@ -1,6 +1,6 @@
 -- What the file of a name has that was searched.
-use Rattle.acgrep.proofs.Common.{Consumes-nil, Fit, Job, Patterns, is_input}
-use Rattle.std.proofs.Common.{◌≡◌, Bool, List, Option, [], ap, false, refl, subst, true, ℕ}
+use Rattle.acgrep.proofs.Common.{Consumes-nil, Job, Patterns, is_input}
+use Rattle.std.proofs.Common.{◌≡◌, Bool, List, Option, [], false, refl, subst, true, ℕ}
 use Rattle.std.specs.Prelude.{MatchBool}
 use Rattle.acgrep.specs.Binary.{is_guarded, lines_sought}
 use Rattle.acgrep.specs.Files.{HasSelected, LeavesInput, SearchesName, known_of}
@@ -14,10 +14,8 @@ pub name_has : (p : Patterns) (job : Job) (holds : List ℕ → Option (List ℕ
 name_has p job holds follows name left left' held held' searched = (
   searched.file.text,
   searched.file.of,
-  subst (SomeLine (IsSelected p job.fit job.invert)) (ap (λ (j : Job). lines_sought j searched.file.text) searched.is_named.is)
-      (subst (λ (invert : Bool). SomeLine (IsSelected p job.fit invert) (lines_sought searched.named searched.file.text)) (ap (λ (j : Job). j.invert) searched.is_named.is)
-      (subst (λ (fit : Fit). SomeLine (IsSelected p fit searched.named.invert) (lines_sought searched.named searched.file.text)) (ap (λ (j : Job). j.fit) searched.is_named.is)
-      (either_some p searched.named searched.file.text searched.file.bytes (is_guarded searched.named) refl searched.file.tells))),
+  subst (λ (j : Job). SomeLine (IsSelected p j.fit j.invert) (lines_sought j searched.file.text)) searched.is_named.is
+      (either_some p searched.named searched.file.text searched.file.bytes (is_guarded searched.named) refl searched.file.tells),
 )
 
 -- where nothing is read, the input is left as it was

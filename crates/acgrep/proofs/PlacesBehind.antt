@@ -1,9 +1,11 @@
 -- The place behind a text of whole lines.
 use Rattle.acgrep.proofs.Common.{Job, Place, cases_Bool}
-use Rattle.std.proofs.Common.{◌%◌, ◌+◌, ◌-◌, ◌<◌, ◌==◌, ◌^◌, ◌∙◌, ◌∷◌, ◌≡◌, List, [], ap, arith, inl, inr, length, refl, suc, sym, zero, ℕ}
+use Rattle.std.proofs.Common.{◌%◌, ◌+◌, ◌<◌, ◌==◌, ◌^◌, ◌∙◌, ◌∷◌, ◌≡◌, List, [], ap, arith, cond, inl, inr, length, refl, sym, ℕ}
 use Rattle.std.proofs.Math.Nat.{mod-add-mod, mod-eq_of_lt, mod-lt}
-use Rattle.std.specs.Prelude.{slice_index}
-use Rattle.memchr.specs.Find.{is_byte, places, places_from}
+use Rattle.std.proofs.lemmas.List.Sums.{sum_by-cons}
+use Rattle.std.specs.List.{count_by}
+use Rattle.memchr.proofs.lemmas.CallerLemmas.{length-places}
+use Rattle.memchr.specs.Find.{is_byte, places}
 use Rattle.acgrep.specs.Lines.{EndsLine, joined_to, lines}
 use Rattle.acgrep.specs.Written.{NumbersLines, SamePlace, after_line, after_lines}
 use Rattle.acgrep.proofs.FirstLines.{lines_joined}
@@ -15,31 +17,18 @@ total [] = 0
 total (line ∷ rest) = (length line + 1) + total rest
 
 module _ (ending : ℕ) where
-  -- places count the same from one further
-  places_more : (x : ℕ) (hay : List ℕ) (n i : ℕ) → length (places_from (is_byte ending) (x ∷ hay) (suc i) n) ≡ length (places_from (is_byte ending) hay i n)
-  unfolding places_from
-  places_more x hay zero i = refl
-  places_more x hay (suc n) i =
-      let IH : length (places_from (is_byte ending) (x ∷ hay) (suc i + 1) n) ≡ length (places_from (is_byte ending) hay (i + 1) n) =
-      ap (λ (k : ℕ). length (places_from (is_byte ending) (x ∷ hay) k n)) (omega arith) ∙ places_more x hay n (i + 1) in
-      elim (cases_Bool (is_byte ending (slice_index hay i))) [
-        | inl is ↦ rw is (ap suc IH)
-        | inr not ↦ rw not IH
-      ]
-
-  places_first : (text : List ℕ) → EndsLine ending text → (length (places_from (is_byte ending) text 0 (length text)) ≡ length (lines ending text)) × (total (lines ending text) ≡ length text)
-  unfolding places_from
-  places_first [] ends = (refl, refl)
-  places_first (byte ∷ []) ends = rw (ends_one ending byte ends) (refl, refl)
-  places_first (byte ∷ next ∷ rest) ends =
-      let (count, size) = places_first (next ∷ rest) (ends_tail ending byte next rest ends) in
-      let later : length (places_from (is_byte ending) (byte ∷ next ∷ rest) 1 (length (next ∷ rest))) ≡ length (lines ending (next ∷ rest)) =
-      places_more byte (next ∷ rest) (length (next ∷ rest)) 0 ∙ count in
+  -- there are as many lines as bytes that end one, and with those they are all bytes
+  lines_counted : (text : List ℕ) → EndsLine ending text → (count_by (is_byte ending) text ≡ length (lines ending text)) × (total (lines ending text) ≡ length text)
+  lines_counted [] ends = (refl, refl)
+  lines_counted (byte ∷ []) ends = rw (ends_one ending byte ends) (refl, refl)
+  lines_counted (byte ∷ next ∷ rest) ends =
+      let (count, size) = lines_counted (next ∷ rest) (ends_tail ending byte next rest ends) in
+      let more : count_by (is_byte ending) (byte ∷ next ∷ rest) ≡ cond (byte == ending) 1 0 + count_by (is_byte ending) (next ∷ rest) = sum_by-cons _ byte (next ∷ rest) in
       elim (cases_Bool (byte == ending)) [
-        | inl is ↦ rw is (ap suc later, omega (arith, size))
+        | inl is ↦ rw is (omega (arith, rw is at more, count), omega (arith, size))
         | inr other ↦
             let (end, others, within, same) = first_line ending rest next in (
-              rw other (later ∙ ap length same ∙ sym (ap (λ (l : List (List ℕ)). length (joined_to byte l)) same)),
+              rw other (omega (arith, rw other at more, count, ap length same, ap (λ (l : List (List ℕ)). length (joined_to byte l)) same)),
               ap total (lines_joined ending byte (next ∷ rest) other ∙ ap (joined_to byte) same) ∙ omega (arith, size, ap total same),
             )
       ]
@@ -58,10 +47,8 @@ pub place_behind : (job : Job) (before after : Place) (text : List ℕ) → befo
     → (NumbersLines job → after.lines ≡ (before.lines + length (places (is_byte job.style.ending) text)) % 2 ^ 64) → after.bytes ≡ (before.bytes + length text) % 2 ^ 64
     → EndsLine job.style.ending text → SamePlace job after (after_lines before (lines job.style.ending text))
 place_behind job before after text low few counted sized ends =
-    let (count, size) = places_first job.style.ending text ends in
-    let whole : length text - 0 ≡ length text = omega arith in
-    let all : length (places (is_byte job.style.ending) text) ≡ length (lines job.style.ending text) = ap (λ (n : ℕ). length (places_from (is_byte job.style.ending) text 0 n)) whole ∙ count in
+    let (count, size) = lines_counted job.style.ending text ends in
     record {
       bytes = sized ∙ ap (λ (n : ℕ). (before.bytes + n) % 2 ^ 64) (sym size) ∙ sym (bytes_on (lines job.style.ending text) before few);
-      lines = λ asked. counted asked ∙ ap (λ (n : ℕ). (before.lines + n) % 2 ^ 64) all ∙ sym (lines_on (lines job.style.ending text) before low);
+      lines = λ asked. counted asked ∙ ap (λ (n : ℕ). (before.lines + n) % 2 ^ 64) (length-places (is_byte job.style.ending) text ∙ count) ∙ sym (lines_on (lines job.style.ending text) before low);
     }

@@ -1,25 +1,21 @@
 -- What may be told of the files that operands name.
-use Rattle.acgrep.proofs.Common.{Errors, Flags, IsOneOf, Nothing, SinkGhosts, Tells, TellsSome, cases_Bool, common_steps, or_input, some-tells, some-then, some-weaker}
+use Rattle.acgrep.proofs.Common.{Errors, Flags, Nothing, SinkGhosts, Tells, TellsSome, cases_Bool, common_steps, or_input, some-tells, some-then, some-weaker}
 use Rattle.std.proofs.Common.{◌++◌, ◌<◌, ◌∷◌, ◌≡◌, ◌≤◌, Bool, List, [], ap, arith, false, inl, inr, length, refl, subst, sym, true, ℕ}
 use Rattle.std.specs.Prelude.{if◌then◌else◌}
-use Rattle.tool_parts.proofs.Lines.{tells-none, tells-then, tells-weaker, then-some}
+use Rattle.tool_parts.proofs.Lines.{tells-none, tells-then, tells-weaker}
 use Rattle.acgrep.specs.Arguments.{Origin, Said, shown_by}
 use Rattle.acgrep.specs.Folders.{Tree}
 use Rattle.acgrep.specs.Reached.{TellsMissed}
 use Rattle.acgrep.specs.Runs.{AreReached, status_reached}
 use Rattle.acgrep.specs.Told.{IsMessage, MaySay, TellsOfFile, TellsStatus, files_told, names_told, shown_names, source_names}
-use Rattle.acgrep.proofs.Told.{AreWithin, among-first, among-later, message-more, status-some, status-weaker, within-cut}
+use Rattle.acgrep.proofs.Told.{AreWithin, among-first, among-later, message-more, status-some, status-weaker}
 
 -- where a message of sources of patterns is told, and nothing before, a search failed
-pub some-sources : {E : Type 0} (K : SinkGhosts E) (tree : Tree) (given : Said) (sources : List Origin) (names : List (List ℕ)) (old new : Errors E) → TellsSome K (IsMessage (source_names sources)) old new
-    → TellsSome K (MaySay tree given sources names) old new
-some-sources K tree given sources names old new told = some-weaker K (IsMessage (source_names sources)) (MaySay tree given sources names) old new
-    (λ line is. inl (inl (message-more (source_names sources) (names_told given.flags.no_messages given.label sources names) (λ name is. among-first name (source_names sources) (files_told given.flags.no_messages given.label (or_input names)) is) line is))) told
-
 pub sources-told : {E : Type 0} (K : SinkGhosts E) (tree : Tree) (given : Said) (sources : List Origin) (names : List (List ℕ)) (old mid new : Errors E) → mid ≡ old
     → TellsSome K (IsMessage (source_names sources)) mid new → TellsStatus K (MaySay tree given sources names) given.flags.no_messages (shown_by given.flags) 2 old new
-sources-told K tree given sources names old mid new silent told = status-some K (MaySay tree given sources names) given.flags.no_messages (shown_by given.flags) old new
-    (rw silent at (some-sources K tree given sources names mid new told))
+sources-told {E = E} K tree given sources names old mid new silent told = subst (λ (e : Errors E). TellsStatus K (MaySay tree given sources names) given.flags.no_messages (shown_by given.flags) 2 e new) silent
+    (status-some K (MaySay tree given sources names) given.flags.no_messages (shown_by given.flags) mid new (some-weaker K (IsMessage (source_names sources)) (MaySay tree given sources names) mid new
+    (λ line is. inl (inl (message-more (source_names sources) (names_told given.flags.no_messages given.label sources names) (λ name is. among-first name (source_names sources) (files_told given.flags.no_messages given.label (or_input names)) is) line is))) told))
 
 -- and what may be told of its files
 pub may-behind : (tree : Tree) (given : Said) (sources : List Origin) (names : List (List ℕ)) (line : List ℕ) → MaySay tree given [] names line → MaySay tree given sources names line
@@ -84,48 +80,23 @@ module _ (tree : Tree) (given : Said) (names files unread : List (List ℕ)) (re
   reached-told K old mid new found before after = missed-told K (MaySay tree given [] names) given.flags unread may-missed found old mid new before
       (status-weaker K (IsMessage (files_told given.flags.no_messages given.label files)) (MaySay tree given [] names) given.flags.no_messages (shown_by given.flags) found mid new may-file after)
 
--- what was told of some names, of which these are left
-pub record IsTold {E : Type 0} (K : SinkGhosts E) (all rest : List (List ℕ)) (old new : Errors E) : Type 0 where
-  pub tells : Tells K (IsMessage all) old new
-  pub none : length rest ≡ length all → new ≡ old
-  pub some : length rest < length all → TellsSome K (IsMessage all) old new
-  pub within : AreWithin rest all
-  pub fewer : length rest ≤ length all
+-- each of these names was told, one after another
+abbrev pub EachTold : {E : Type 0} → SinkGhosts E → List (List ℕ) → Errors E → Errors E → Type 0
+EachTold K [] old new = new ≡ old
+EachTold K (name ∷ names) old new = (mid : Errors _) × TellsOfFile K name old mid × EachTold K names mid new
 
 module _ {E : Type 0} (K : SinkGhosts E) (all : List (List ℕ)) where
-  pub told-start : (e : Errors E) → IsTold K all all e e
-  told-start e = record {
-    tells = tells-none K (IsMessage all) e;
-    none = λ same. refl;
-    some = λ less. absurd (omega (arith, less));
-    within = λ name is. is;
-    fewer = omega arith;
-  }
+  each_tells : (names : List (List ℕ)) (old new : Errors E) → AreWithin names all → EachTold K names old new
+      → Tells K (IsMessage all) old new × (length names ≡ 0 → new ≡ old) × (0 < length names → TellsSome K (IsMessage all) old new)
+  each_tells [] old new within same = (subst (Tells K (IsMessage all) old) (sym same) (tells-none K (IsMessage all) old), λ none. same, λ some. absurd (omega (arith, some)))
+  each_tells (name ∷ names) old new within (mid, told, others) =
+      let some = some-then K (IsMessage all) old mid new (told all (within name (inl refl))) (each_tells names mid new (λ n is. within n (inr is)) others).0 in
+      (some-tells K (IsMessage all) old new some, λ none. absurd (omega (arith, none)), λ _. some)
 
-  pub told-more : (name : List ℕ) (names : List (List ℕ)) (old mid new : Errors E) → IsTold K all (name ∷ names) old mid → TellsOfFile K name mid new → IsTold K all names old new
-  told-more name names old mid new before now = record {
-    tells = some-tells K (IsMessage all) old new told;
-    none = λ same. absurd (omega (arith, same, fewer));
-    some = λ less. told;
-    within = cut.1;
-    fewer = omega (arith, fewer);
-  }
-    where
-      fewer : length (name ∷ names) ≤ length all
-      fewer = before.fewer
-
-      cut : IsOneOf name all × AreWithin names all
-      cut = within-cut name names (name ∷ names) all refl before.within
-
-      told : TellsSome K (IsMessage all) old new
-      told = then-some K (IsMessage all) old mid new before.tells (now all cut.0)
-
-  pub told-end : (rest : List (List ℕ)) (old new : Errors E) → length rest ≡ 0 → IsTold K all rest old new → TellsMissed K false all old new
-  told-end rest old new gone told = record {
-    tells = told.tells;
-    none = λ which. elim which [ inl hushed ↦ absurd (cc) | inr empty ↦ told.none (omega (arith, gone, empty)) ];
-    some = λ asked full. told.some (omega (arith, gone, full));
-  }
+  pub told-each : (old new : Errors E) → EachTold K all old new → TellsMissed K false all old new
+  told-each old new each =
+      let (tells, none, some) = each_tells all old new (λ name is. is) each in
+      record { tells = tells; none = λ which. elim which [ inl hushed ↦ absurd (cc) | inr empty ↦ none empty ]; some = λ asked. some }
 
   pub told-hushed : (e : Errors E) → TellsMissed K true all e e
   told-hushed e = record { tells = tells-none _ _ _; none = λ which. refl; some = λ asked. absurd (cc) }

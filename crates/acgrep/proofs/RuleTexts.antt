@@ -35,7 +35,7 @@ file_among (rule ∷ rules) (suc i) d lt file =
     let later = file_among rules i d (omega (arith, lt)) file in
     elim (cases_Bool (is_from_file rule.sense)) [ inl own ↦ rw own (inr later) | inr glob ↦ rw glob later ]
 
--- no rule is left, or no text
+-- without a text no rule is there
 pub expanded_none : (rules : List RuleSaid) → expanded rules [] ≡ []
 expanded_none [] = refl
 expanded_none (rule ∷ rules) = refl

@@ -1,6 +1,6 @@
 -- What a message tells is one that may be told.
-use Rattle.acgrep.proofs.Common.{Errors, IsOneOf, Job, Lines, Matches, Nothing, Objects, Outcome, Seen, Shown, SinkGhosts, Source, Tells, TellsBytes, TellsSome, Unread, cases_Bool, cases_lt, common_steps, get_or, reason_text, some-one, some-tells, some-then, some-weaker}
-use Rattle.std.proofs.Common.{◌++◌, ◌-◌, ◌<◌, ◌∙◌, ◌∷◌, ◌≡◌, ◌≤◌, ◌⊎◌, Bool, Bor, List, None, Option, Some, [], ap, arith, codes, false, inl, inr, length, refl, subst, sym, true, ℕ}
+use Rattle.acgrep.proofs.Common.{Errors, IsOneOf, Job, Lines, Matches, Nothing, Objects, Outcome, Seen, Shown, SinkGhosts, Source, Tells, TellsBytes, TellsSome, Unread, common_steps, get_or, reason_text, some-one, some-tells, some-then, some-weaker}
+use Rattle.std.proofs.Common.{◌++◌, ◌<◌, ◌∙◌, ◌∷◌, ◌≡◌, ◌≤◌, ◌⊎◌, Bool, Bor, List, None, Option, Some, [], ap, arith, codes, false, inl, inr, length, refl, subst, sym, true, ℕ}
 use Rattle.std.specs.Prelude.{IfSome, MatchBool, if◌then◌else◌, nat_lt, slice_index_or}
 use Rattle.tool_parts.proofs.Lines.{tells-none, tells-weaker, then-some}
 use Rattle.std.specs.Str.{is_utf8}
@@ -10,7 +10,7 @@ use Rattle.acgrep.specs.Files.{IsNamed, shown_name}
 use Rattle.acgrep.specs.Folders.{Known}
 use Rattle.acgrep.specs.InTurn.{is_enough, seen_after, status_by}
 use Rattle.acgrep.specs.Runs.{origins_of}
-use Rattle.acgrep.specs.Told.{IsMessage, IsToldCause, IsUnopened, MayName, MaySaid, MayTell, TellsIf, TellsOfOutcome, TellsOutcome, TellsStatus, files_told, names_said, no_text_text, obstacle_text, shown_names, source_names}
+use Rattle.acgrep.specs.Told.{IsMessage, IsToldCause, IsUnopened, MayName, MaySaid, MayTell, StaysOrFails, TellsIf, TellsOfOutcome, TellsOutcome, TellsStatus, files_told, names_said, no_text_text, obstacle_text, shown_names, source_names}
 use Rattle.acgrep.specs.declared.arguments.Source.TheVariants.{File}
 use Rattle.acgrep.specs.declared.failure.Obstacle.{Obstacle}
 use Rattle.acgrep.specs.declared.failure.Obstacle.TheVariants.{Closed, Fault, Loop, NoInput, Output}
@@ -120,16 +120,12 @@ module _ {E : Type 0} (K : SinkGhosts E) (P : List ℕ → Type 0) where
   status-seen hushed shown seen old new told = by seen.failed refl
     where
       below : (shown : Shown) (selected failed : Bool) → failed ≡ false → (if is_enough shown selected then 0 else (if failed then 2 else (if selected then 0 else 1))) < 2
-      below shown selected true clean = absurd (cc)
-      below shown true false clean = elim (cases_Bool (is_enough shown true)) [ inl enough ↦ rw enough (omega arith) | inr not ↦ rw not (omega arith) ]
-      below shown false false clean = elim (cases_Bool (is_enough shown false)) [ inl enough ↦ rw enough (omega arith) | inr not ↦ rw not (omega arith) ]
+      below shown selected failed clean = grind (arith, common_steps)
 
       quiet : (shown : Shown) (selected failed : Bool) → failed ≡ true → (if is_enough shown selected then 0 else (if failed then 2 else (if selected then 0 else 1))) < 2 → (shown ≡ Nothing → ⊥) → ⊥
-      quiet shown selected false is low loud = absurd (cc)
-      quiet shown selected true is low loud = elim (cases_Bool (is_enough shown selected)) [
-        | inl enough ↦ loud (enough_only shown selected enough).0
-        | inr not ↦ absurd (omega (arith, rw not at low))
-      ]
+      quiet shown selected failed is low loud =
+          let enough : is_enough shown selected ≡ true = grind (arith, common_steps) in
+          loud (enough_only shown selected enough).0
 
       by : (b : Bool) → seen.failed ≡ b → TellsStatus K P hushed shown (status_by shown seen) old new
       by false clean = record {
@@ -144,6 +140,12 @@ module _ {E : Type 0} (K : SinkGhosts E) (P : List ℕ → Type 0) where
             let some : MatchBool hushed (Tells K P old new) (TellsSome K P old new) = subst (λ (b : Bool). TellsIf K P hushed b old new) failed told in
             subst (λ (b : Bool). MatchBool b (Tells K P old new) (TellsSome K P old new)) asked some;
       }
+
+  -- another status that tells of an error where this one does
+  pub status-as : (hushed : Bool) (shown : Shown) (status status' : ℕ) (old new : Errors E) → (status' < 2 → status < 2) → (status' ≡ 2 → status ≡ 2) → TellsStatus K P hushed shown status old new
+      → TellsStatus K P hushed shown status' old new
+  status-as hushed shown status status' old new low failed told =
+      record { tells = told.tells; silent = λ is loud. told.silent (low is) loud; some = λ asked two. told.some asked (failed two) }
 
   -- what may be told in one case may be in another
   pub status-weaker : (Q : List ℕ → Type 0) (hushed : Bool) (shown : Shown) (status : ℕ) (old new : Errors E) → ((line : List ℕ) → P line → Q line) → TellsStatus K P hushed shown status old new
@@ -174,44 +176,29 @@ told-cut false label first rest names all cut within =
     let both : AreWithin (shown_name label first ∷ shown_names label rest) all = subst (λ (l : List (List ℕ)). AreWithin l all) cut within in
     (λ asked. both (shown_name label first) (inl refl), λ name is. both name (inr is))
 
--- the first of some names is, and those behind it are
-pub within-cut : (first : List ℕ) (rest names all : List (List ℕ)) → names ≡ first ∷ rest → AreWithin names all → IsOneOf first all × AreWithin rest all
-within-cut first rest names all cut within =
-    let both : AreWithin (first ∷ rest) all = subst (λ (l : List (List ℕ)). AreWithin l all) cut within in
-    (both first (inl refl), λ name is. both name (inr is))
-
 -- the same is told of a status that is that one
 pub not-quiet : (quiet names lacking count json only : Bool)
     → (if quiet then Nothing else if names then Names else if lacking then Lacking else if count then Count else if json then Objects else if only then Matches else Lines) ≡ Nothing
     → quiet ≡ false → ⊥
 not-quiet quiet names lacking count json only is loud = grind (arith, common_steps)
 
-module _ {E : Type 0} (K : SinkGhosts E) (names : List (List ℕ)) (P : List ℕ → Type 0) (may : (line : List ℕ) → IsMessage names line → P line) where
-  -- what was told before a last flush, and of it
-  pub finished : (hushed : Bool) (shown : Shown) (status status' : ℕ) (old mid new : Errors E) → status ≤ 2 → status' ≤ 2 → (status' ≡ status) ⊎ (status' ≡ 2) → TellsStatus K P hushed shown status old mid
-      → (status' < 2 → new ≡ mid) → (2 ≤ status → new ≡ mid) → (status < 2 → status' ≡ 2 → TellsSome K (IsMessage names) mid new) → TellsStatus K P hushed shown status' old new
-  finished hushed shown status status' old mid new bound bound' which before same kept told = record {
-    tells = elim (cases_lt status 2) [
-      | inl low ↦ elim (cases_lt status' 2) [
-        | inl low' ↦ subst (Tells K P old) (sym (same low')) before.tells
-        | inr two ↦ some-tells K P old new (failed low (omega (arith, two, bound')))
-      ]
-      | inr high ↦ subst (Tells K P old) (sym (kept high)) before.tells
-    ];
-    silent = λ low loud.
-        let is : status' ≡ status = elim which [ inl is ↦ is | inr two ↦ absurd (omega (arith, low, two)) ] in
-        same low ∙ before.silent (subst (λ (n : ℕ). n < 2) is low) loud;
-    some = late;
-  }
-    where
-      failed : status < 2 → status' ≡ 2 → TellsSome K P old new
-      failed low two = then-some K P old mid new before.tells (some-weaker K (IsMessage names) P mid new may (told low two))
+module _ {E : Type 0} (K : SinkGhosts E) (status status' : ℕ) (old new : Errors E) where
+  -- a status that tells of no error is as it was
+  pub stays-low : StaysOrFails K status status' old new → status' < 2 → status' ≡ status
+  stays-low (inl is) low = is.0
+  stays-low (inr failed) low = absurd (omega (arith, low, failed.0))
 
-      late : hushed ≡ false → status' ≡ 2 → TellsSome K P old new
-      late asked two = elim (cases_lt status 2) [
-        | inl low ↦ failed low two
-        | inr high ↦ subst (λ (e : Errors E). TellsSome K P old e) (sym (kept high)) (before.some asked (omega (arith, high, bound)))
-      ]
+  pub stays-bound : StaysOrFails K status status' old new → status ≤ 2 → status' ≤ 2
+  stays-bound (inl is) bound = omega (arith, is.0, bound)
+  stays-bound (inr failed) bound = omega (arith, failed.0)
+
+module _ {E : Type 0} (K : SinkGhosts E) (names : List (List ℕ)) (P : List ℕ → Type 0) (may : (line : List ℕ) → IsMessage names line → P line) where
+  -- what was told before the output was handed on, and of that
+  pub finished : (hushed : Bool) (shown : Shown) (status status' : ℕ) (old mid new : Errors E) → TellsStatus K P hushed shown status old mid → StaysOrFails K status status' mid new
+      → TellsStatus K P hushed shown status' old new
+  finished hushed shown status status' old mid new before (inl (same, kept)) = rw (same, kept) before
+  finished hushed shown status status' old mid new before (inr (two, told)) =
+      rw two (status-some K P hushed shown old new (then-some K P old mid new before.tells (some-weaker K (IsMessage names) P mid new may (told names))))
 
 -- what may be told of a call may be where its arguments say this
 pub told-said : (known : Known) (left : Option (List ℕ)) (given : Option Said) (line : List ℕ) → MayTell (names_said given) line → MaySaid known left given line

@@ -53,27 +53,16 @@ module _ (p : Patterns) (job : Job) (context : Context) where
   text_lines a b x y text one goes = grind (arith, common_steps)
 
   -- a text and one behind it
-  pub text_join : (a b c : State) (x y z : Option (List ℕ)) (front back : List ℕ) → EndsLine job.style.ending front → (IsSettled job b → ⊥)
-      → WalksText p job context a b x y front → WalksText p job context b c y z back → WalksText p job context a c x z (front ++ back)
-  text_join a b c x y z front back whole goes one other = record {
+  pub text_join : (a b c : State) (x y y' z : Option (List ℕ)) (front back : List ℕ) → Appends y y' [] → EndsLine job.style.ending front → (IsSettled job b → ⊥)
+      → WalksText p job context a b x y front → WalksText p job context b c y' z back → WalksText p job context a c x z (front ++ back)
+  text_join a b c x y y' z front back keeps whole goes one other = record {
     left = other.left;
     searched = one.searched ++ other.searched;
     cut = lines_append job.style.ending front back whole ∙ ap (λ (l : List (List ℕ)). l ++ lines job.style.ending back) (text_lines a b x y front one goes)
         ∙ ap (λ (l : List (List ℕ)). one.searched ++ l) other.cut ∙ sym (append_assoc one.searched other.searched (lines job.style.ending other.left));
-    tells = lines_join (walk_of a) (walk_of b) (walk_of c) x y z one.searched other.searched one.tells other.tells;
+    tells = lines_join (walk_of a) (walk_of b) (walk_of c) x y z one.searched other.searched one.tells
+        (record { bytes = other.tells.bytes; walks = other.tells.walks; written = Appends-trans y y' z [] other.tells.bytes keeps other.tells.written });
     ends = other.ends;
-  }
-
-  pub text_none : (a : State) (x y : Option (List ℕ)) → Appends x y [] → WalksText p job context a a x y []
-  text_none a x y written = record { left = []; searched = []; cut = refl; tells = lines_none (walk_of a) x y written; ends = inl refl }
-
-  pub text_behind_kept : (a b : State) (x y z : Option (List ℕ)) (text : List ℕ) → Appends x y [] → WalksText p job context a b y z text → WalksText p job context a b x z text
-  text_behind_kept a b x y z text keeps one = record {
-    left = one.left;
-    searched = one.searched;
-    cut = one.cut;
-    tells = record { bytes = one.tells.bytes; walks = one.tells.walks; written = Appends-trans x y z [] one.tells.bytes keeps one.tells.written };
-    ends = one.ends;
   }
 
   -- where so many are selected as are asked for no further one is

@@ -1,13 +1,13 @@
 -- What a walk through folders finds.
 use Rattle.acgrep.proofs.Common.{Ways, get_or, length-map}
-use Rattle.std.proofs.Common.{◌++◌, ◌+◌, ◌-◌, ◌<◌, ◌∙◌, ◌∷◌, ◌≡◌, Bool, List, None, Option, Some, [], ap, arith, codes, false, inl, inr, length, refl, subst, sym, true, ℕ}
+use Rattle.std.proofs.Common.{◌++◌, ◌+◌, ◌<◌, ◌∙◌, ◌∷◌, ◌≡◌, Bool, List, None, Option, Some, [], ap, arith, codes, false, inl, inr, length, refl, subst, sym, true, ℕ}
 use Rattle.std.proofs.lemmas.List.{append-nil, append_assoc, get_or-map, map-append}
 use Rattle.std.proofs.lemmas.List.Sorted.{IsPermutation-trans}
 use Rattle.std.specs.Cmp.Lexicographic.{slice_cmp}
 use Rattle.std.specs.List.Sorted.{IsPermutation, IsSorted, IsSortedBy}
 use Rattle.std.specs.Ordering.{nat_cmp}
-use Rattle.std.specs.Prelude.{IfSome, MatchBool, map}
-use Rattle.acgrep.specs.Folders.{AreBelow, AreFiles, Begins, Enters, FindsFiles, HoldsNames, IsKind, IsLost, Loses, PutsInside, Spot, Tree, entered, files_by, input, inside, is_folder, is_lost_left, is_spot_left, is_standard, left, looked, lost, missed, missed_of, none, operand, unlisted}
+use Rattle.std.specs.Prelude.{IfSome, map}
+use Rattle.acgrep.specs.Folders.{AreBelow, AreFiles, Begins, Enters, FindsFiles, HoldsNames, IsKind, IsLost, PutsInside, Spot, Tree, entered, files_by, input, inside, is_folder, is_lost_left, is_spot_left, is_standard, left, looked, lost, missed, missed_of, none, operand, unlisted}
 use Rattle.acgrep.specs.Listed.{listed_bytes}
 use Rattle.acgrep.specs.Rules.{RuleSaid}
 use Rattle.acgrep.specs.declared.folders.Kind.{Kind}
@@ -88,73 +88,50 @@ pub enters-put : (tree : Tree) (folder : List ℕ) (names : List (List ℕ)) (be
 enters-put tree folder names before after found listed puts = inl (puts.ordered, holds-put tree folder names puts.ordered listed puts.permuted puts.sorted, puts.put, refl)
 
 -- what is found at a name
+module _ (tree : Tree) (rules : List RuleSaid) (ways : Ways) (spot : Spot) (spots after : List Spot) (old new : Found) where
+  -- these files, where what stands behind it then stands for others
+  finds-names : (files : List (List ℕ)) → listed_bytes new.names.items ≡ listed_bytes old.names.items ++ files → new.unread ≡ old.unread
+      → ((more others : List (List ℕ)) → AreFiles tree rules ways after more others → AreFiles tree rules ways (spot ∷ spots) (files ++ more) others) → FindsFiles tree rules ways (spot ∷ spots) after old new
+  finds-names files grown same leads =
+      record { files = files; unread = []; names = grown; missed = ap (λ u. missed_of u.items) same ∙ sym (append-nil (missed_of old.unread.items)); leads = leads }
+
+  -- or none
+  finds-none : new ≡ old → ((more others : List (List ℕ)) → AreFiles tree rules ways after more others → AreFiles tree rules ways (spot ∷ spots) more others)
+      → FindsFiles tree rules ways (spot ∷ spots) after old new
+  finds-none same leads = finds-names [] (ap (λ f. listed_bytes f.names.items) same ∙ sym (append-nil (listed_bytes old.names.items))) (ap (λ f. f.unread) same) leads
+
+  -- or it is told
+  finds-missed : (new.names ≡ old.names) × (missed_of new.unread.items ≡ missed_of old.unread.items ++ (spot.name ∷ []))
+      → ((more others : List (List ℕ)) → AreFiles tree rules ways after more others → AreFiles tree rules ways (spot ∷ spots) more (spot.name ∷ others)) → FindsFiles tree rules ways (spot ∷ spots) after old new
+  finds-missed (same, grown) leads =
+      record { files = []; unread = spot.name ∷ []; names = ap (λ n. listed_bytes n.items) same ∙ sym (append-nil (listed_bytes old.names.items)); missed = grown; leads = leads }
+
+  pub finds-entered : is_standard spot ≡ false → IsKind tree ways spot Folder → is_spot_left rules true spot ≡ false → Enters tree spot.name spots after old new → FindsFiles tree rules ways (spot ∷ spots) after old new
+  finds-entered other is kept (inl (names, holds, put, same)) =
+      finds-none same (λ more others are. entered names other is kept holds (subst (λ (l : List Spot). AreFiles tree rules ways l more others) put are))
+  finds-entered other is kept (inr (put, same, grown)) =
+      finds-missed (same, grown) (λ more others are. unlisted other is kept (subst (λ (l : List Spot). AreFiles tree rules ways l more others) put are))
+
 module _ (tree : Tree) (rules : List RuleSaid) (ways : Ways) (spot : Spot) (spots : List Spot) (old new : Found) where
   pub finds-input : is_standard spot ≡ true → listed_bytes new.names.items ≡ listed_bytes old.names.items ++ (spot.name ∷ []) → new.unread ≡ old.unread → FindsFiles tree rules ways (spot ∷ spots) spots old new
-  finds-input is grown same = record {
-    files = spot.name ∷ [];
-    unread = [];
-    names = grown;
-    missed = ap (λ u. missed_of u.items) same ∙ sym (append-nil (missed_of old.unread.items));
-    leads = λ more others are. input is are;
-  }
+  finds-input is grown same = finds-names tree rules ways spot spots spots old new (spot.name ∷ []) grown same (λ more others are. input is are)
 
   pub finds-looked : (kind : Kind) → is_standard spot ≡ false → IsKind tree ways spot kind → is_folder kind ≡ false → is_spot_left rules false spot ≡ false
       → listed_bytes new.names.items ≡ listed_bytes old.names.items ++ files_by ways kind spot
       → new.unread ≡ old.unread → FindsFiles tree rules ways (spot ∷ spots) spots old new
-  finds-looked kind other is plain kept grown same = record {
-    files = files_by ways kind spot;
-    unread = [];
-    names = grown;
-    missed = ap (λ u. missed_of u.items) same ∙ sym (append-nil (missed_of old.unread.items));
-    leads = λ more others are. looked kind other is plain kept are;
-  }
+  finds-looked kind other is plain kept grown same = finds-names tree rules ways spot spots spots old new (files_by ways kind spot) grown same (λ more others are. looked kind other is plain kept are)
 
   -- nothing is at one that is left out
   pub finds-left : (kind : Kind) → is_standard spot ≡ false → IsKind tree ways spot kind → is_spot_left rules (is_folder kind) spot ≡ true → FindsFiles tree rules ways (spot ∷ spots) spots old old
-  finds-left kind other is out = record {
-    files = [];
-    unread = [];
-    names = sym (append-nil (listed_bytes old.names.items));
-    missed = sym (append-nil (missed_of old.unread.items));
-    leads = λ more others are. left kind other is out are;
-  }
+  finds-left kind other is out = finds-none tree rules ways spot spots spots old old refl (λ more others are. left kind other is out are)
 
-  -- nor at one that cannot be looked at, which is told or left out
-  pub finds-lost : is_standard spot ≡ false → IsLost tree ways spot → Loses rules spot old new → FindsFiles tree rules ways (spot ∷ spots) spots old new
-  finds-lost other gone loses = by (is_lost_left rules spot) refl loses
-    where
-      by : (out : Bool) → is_lost_left rules spot ≡ out
-          → MatchBool out (new ≡ old) ((new.names ≡ old.names) × (missed_of new.unread.items ≡ missed_of old.unread.items ++ (spot.name ∷ []))) → FindsFiles tree rules ways (spot ∷ spots) spots old new
-      by true out same = record {
-        files = [];
-        unread = [];
-        names = ap (λ f. listed_bytes f.names.items) same ∙ sym (append-nil (listed_bytes old.names.items));
-        missed = ap (λ f. missed_of f.unread.items) same ∙ sym (append-nil (missed_of old.unread.items));
-        leads = λ more others are. lost other gone out are;
-      }
-      by false kept (same, grown) = record {
-        files = [];
-        unread = spot.name ∷ [];
-        names = ap (λ n. listed_bytes n.items) same ∙ sym (append-nil (listed_bytes old.names.items));
-        missed = grown;
-        leads = λ more others are. missed other gone kept are;
-      }
+  -- nor at one that cannot be looked at and is left out; else it is told
+  pub finds-out : is_standard spot ≡ false → IsLost tree ways spot → is_lost_left rules spot ≡ true → FindsFiles tree rules ways (spot ∷ spots) spots old old
+  finds-out other gone out = finds-none tree rules ways spot spots spots old old refl (λ more others are. lost other gone out are)
 
-  pub finds-entered : (after : List Spot) → is_standard spot ≡ false → IsKind tree ways spot Folder → is_spot_left rules true spot ≡ false → Enters tree spot.name spots after old new → FindsFiles tree rules ways (spot ∷ spots) after old new
-  finds-entered after other is kept (inl (names, holds, put, same)) = record {
-    files = [];
-    unread = [];
-    names = ap (λ f. listed_bytes f.names.items) same ∙ sym (append-nil (listed_bytes old.names.items));
-    missed = ap (λ f. missed_of f.unread.items) same ∙ sym (append-nil (missed_of old.unread.items));
-    leads = λ more others are. entered names other is kept holds (subst (λ (l : List Spot). AreFiles tree rules ways l more others) put are);
-  }
-  finds-entered after other is kept (inr (put, same, grown)) = record {
-    files = [];
-    unread = spot.name ∷ [];
-    names = ap (λ n. listed_bytes n.items) same ∙ sym (append-nil (listed_bytes old.names.items));
-    missed = grown;
-    leads = λ more others are. unlisted other is kept (subst (λ (l : List Spot). AreFiles tree rules ways l more others) put are);
-  }
+  pub finds-lost : is_standard spot ≡ false → IsLost tree ways spot → is_lost_left rules spot ≡ false → new.names ≡ old.names
+      → missed_of new.unread.items ≡ missed_of old.unread.items ++ (spot.name ∷ []) → FindsFiles tree rules ways (spot ∷ spots) spots old new
+  finds-lost other gone kept same grown = finds-missed tree rules ways spot spots spots old new (same, grown) (λ more others are. missed other gone kept are)
 
 -- what is a folder is that kind
 pub folder-alone : (tree : Tree) (ways : Ways) (spot : Spot) (kind : Kind) → is_folder kind ≡ true → IsKind tree ways spot kind → IsKind tree ways spot Folder

@@ -1,6 +1,6 @@
 -- The longest match that begins first tells which pattern is the whole line.
 use Rattle.acgrep.proofs.Common.{IsAnswer, IsBefore, LeftmostLongest, MatchKind, Occurrence, OccursIn, Patterns, and_from, and_parts, cases_Bool, eq-eqb, plain_search, true≢false}
-use Rattle.std.proofs.Common.{◌==◌, ◌∙◌, ◌≡◌, List, None, Some, ap, arith, eqb-true, false, inl, inr, length, subst, sym, true, ℕ}
+use Rattle.std.proofs.Common.{◌==◌, ◌∙◌, ◌≡◌, List, None, Some, ap, arith, eqb-true, inl, inr, length, subst, sym, ℕ}
 use Rattle.std.specs.Prelude.{◌&&◌, ◌⊎◌, Bool, if◌then◌else◌}
 use Rattle.acgrep.specs.Alone.{IsWholeLine, IsWholeOrNone, whole_match}
 

@@ -1,6 +1,6 @@
 -- What the arguments, those after the program's name, say.
 use Rattle.acgrep.specs.Common.{LeftmostLongest, is_ascii_digit}
-use Rattle.std.specs.Prelude.{◌&&◌, ◌++◌, ◌<◌, ◌==◌, ◌^◌, ◌||◌, ◌∷◌, ◌≡◌, Bool, IfErr, IfOk, List, None, OnOk, Option, Result, Some, [], codes, false, if◌then◌else◌, is_some, length, map, nat_lt, not, option_and_then, option_map, slice_index, true, unwrap_or, ℕ}
+use Rattle.std.specs.Prelude.{◌&&◌, ◌++◌, ◌==◌, ◌^◌, ◌||◌, ◌∷◌, ◌≡◌, Bool, IfErr, IfOk, List, None, OnOk, Option, Result, Some, [], codes, false, if◌then◌else◌, is_some, length, map, nat_lt, not, option_and_then, option_map, true, unwrap_or, ℕ}
 use Rattle.std.specs.Str.{all_ascii_digits}
 use Rattle.std.specs.Str.Parse.{digits_value}
 use Rattle.tool_parts.specs.ArgumentForms.{Form, argument_form, joined_letters, long_name, long_with, no_more, no_option}
@@ -262,11 +262,6 @@ valued_letter letter =
 abbrev pub behind_by : Valued → List ℕ → Said → Option ReadSoFar
 behind_by valued (first ∷ rest) s = value_by valued (first ∷ rest) s
 behind_by valued [] s = Some (record { awaits = Argument valued; said = s })
-
--- so many digits stand at the front of letters, and then none
-pub record AreDigits (letters : List ℕ) (count : ℕ) : Type 0 where
-  pub all : (k : ℕ) → k < count → is_ascii_digit (slice_index letters k) ≡ true
-  pub ends : count < length letters → is_ascii_digit (slice_index letters count) ≡ false
 
 -- digits among joined letters are the number of `-C`
 abbrev pub with_digits : List ℕ → Said → Option Said

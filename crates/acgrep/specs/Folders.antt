@@ -183,12 +183,6 @@ pub record Begins (tree : Tree) (rules : List RuleSaid) (ways : Ways) (operands 
   pub leads : (files unread : List (List ℕ)) → AreFiles tree rules ways spots files unread
       → AreBelow tree rules ways operands (listed_bytes found.names.items ++ files) (missed_of found.unread.items ++ unread)
 
--- what cannot be looked at was told, or left out
-abbrev pub Loses : List RuleSaid → Spot → Found → Found → Type 0
-Loses rules spot old new =
-    MatchBool (is_lost_left rules spot) (new ≡ old)
-    ((new.names ≡ old.names) × (missed_of new.unread.items ≡ missed_of old.unread.items ++ (spot.name ∷ [])))
-
 -- an operand of this kind is passed over
 abbrev pub is_passed : Ways → Kind → Bool
 is_passed ways Folder = ways.skips_folders

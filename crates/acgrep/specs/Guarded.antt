@@ -1,13 +1,12 @@
 -- How lines are searched up to the first that holds a zero byte, and then those from it on.
-use Rattle.acgrep.specs.Common.{Appends, Consumes, IsAtEnd, Patterns}
+use Rattle.acgrep.specs.Common.{IsAtEnd, Patterns}
 use Rattle.std.specs.Prelude.{◌++◌, ◌==◌, ◌∷◌, ◌≡◌, ◌⊎◌, Bool, List, MatchBool, None, Option, Some, [], drop, false, take, true, ℕ}
 use Rattle.acgrep.specs.Binary.{is_text}
-use Rattle.acgrep.specs.Lines.{lines}
-use Rattle.acgrep.specs.Streamed.{Course, ReadsSome, SearchesBehind, TextIf}
-use Rattle.acgrep.specs.Written.{IsAny}
+use Rattle.acgrep.specs.Lines.{EndsLine, lines}
+use Rattle.acgrep.specs.Streamed.{SearchesRead}
+use Rattle.acgrep.specs.Written.{IsSettled}
 use Rattle.acgrep.specs.declared.job.Job.{Job}
-use Rattle.acgrep.specs.declared.stream.Came.{Came}
-use Rattle.acgrep.specs.declared.stream.Came.TheVariants.{Binary, End}
+use Rattle.acgrep.specs.declared.job.State.{State}
 
 -- the first of some lines holds a zero byte
 abbrev pub IsFirstBinary : List (List ℕ) → Type 0
@@ -23,41 +22,19 @@ abbrev pub IsZeroLine : (ending : ℕ) → List ℕ → Option ℕ → Type 0
 IsZeroLine ending bytes None = is_text bytes ≡ true
 IsZeroLine ending bytes (Some start) = (is_text (take start bytes) ≡ true) × BeginsBinary ending (drop start bytes)
 
--- nothing came
-abbrev pub is_end : Came → Bool
-is_end End = true
-is_end _ = false
-
--- what is kept of bytes behind those that are searched
-abbrev pub IsKept : (alone : Bool) → Came → (ending : ℕ) → List ℕ → Type 0
-IsKept alone Binary ending kept = (alone ≡ true) × BeginsBinary ending kept
-IsKept alone _ ending kept = TextIf alone kept
-
--- bytes come behind those that are kept, and the whole lines of both are searched, or those up to the first that holds a zero byte alone
-pub record ReadsFront (p : Patterns) (job : Job) (alone : Bool) (c : Course) (kept_before kept_after : List ℕ) (came : Came) : Type 0 where
-  pub some : ReadsSome p job c kept_before kept_after (is_end came)
-  pub text : TextIf alone kept_before → TextIf alone some.searched
-  pub left : TextIf alone kept_before → IsKept alone came job.style.ending kept_after
-
 -- whole lines of the bytes that were there and of what was read are searched, and these bytes are kept
-pub record SearchesFront (p : Patterns) (job : Job) (alone : Bool) (c : Course) (first kept : List ℕ) : Type 0 where
-  pub some : ReadsSome p job c first kept false
-  pub text : TextIf alone some.searched
+pub record SearchesFront (p : Patterns) (job : Job) (alone : Bool) (before after : State) (held held' left left' : Option (List ℕ)) (first kept : List ℕ) : Type 0 where
+  pub some : SearchesRead p job alone before after held held' left left' first kept
+  pub whole : EndsLine job.style.ending some.searched
 
 -- all are, or those before lines behind which nothing more is told
-pub record SearchesPast (p : Patterns) (job : Job) (alone : Bool) (c : Course) (first : List ℕ) : Type 0 where
-  pub all : SearchesBehind p job c first
-  pub text : TextIf alone all.searched
+pub record SearchesPast (p : Patterns) (job : Job) (alone : Bool) (before after : State) (held held' left left' : Option (List ℕ)) (first : List ℕ) : Type 0 where
+  pub kept : List ℕ
+  pub some : SearchesRead p job alone before after held held' left left' first kept
+  pub ends : ((kept ≡ []) × IsAtEnd left') ⊎ (EndsLine job.style.ending some.searched × IsSettled job after)
 
 -- the lines up to one that holds a zero byte are searched, which is kept, or there is none
-abbrev pub EndsFront : Patterns → Job → (alone : Bool) → Course → (first kept : List ℕ) → Bool → Type 0
-EndsFront p job alone c first kept binary =
-    MatchBool binary ((alone ≡ true) × SearchesFront p job alone c first kept × BeginsBinary job.style.ending kept) (SearchesPast p job alone c first)
-
--- bytes came behind those that are there, and it is known whether a line of both is selected, whatever follows; nothing is written
-pub record FindsSelected (p : Patterns) (job : Job) (kept : List ℕ) (left left' held held' : Option (List ℕ)) (any : Bool) : Type 0 where
-  pub came : List ℕ
-  pub consumed : Consumes left left' came
-  pub found : (more : List ℕ) → (IsAtEnd left' → more ≡ []) → IsAny p job.fit job.invert (lines job.style.ending ((kept ++ came) ++ more)) any
-  pub ends : IsAtEnd left' ⊎ (any ≡ true)
-  pub unwritten : Appends held held' []
+abbrev pub EndsFront : Patterns → Job → (alone : Bool) → (before after : State) → (held held' left left' : Option (List ℕ)) → (first kept : List ℕ) → Bool → Type 0
+EndsFront p job alone before after held held' left left' first kept binary =
+    MatchBool binary ((alone ≡ true) × SearchesFront p job alone before after held held' left left' first kept × BeginsBinary job.style.ending kept)
+    (SearchesPast p job alone before after held held' left left' first)

@@ -1,12 +1,11 @@
 -- What a source adds to the patterns that were read before.
 use Rattle.acgrep.specs.Common.{Readers}
-use Rattle.std.specs.Prelude.{◌++◌, ◌∷◌, ◌≡◌, List, MatchBool, Option, Vec, [], true, ℕ}
-use Rattle.acgrep.specs.Arguments.{Origin}
-use Rattle.acgrep.specs.Gathered.{AddsGiven, AllGive}
+use Rattle.std.specs.Prelude.{◌++◌, ◌∷◌, ◌≡◌, List, MatchBool, Option, Vec, [], ℕ}
+use Rattle.acgrep.specs.Gathered.{AllGive}
 use Rattle.acgrep.specs.Lines.{lines}
 use Rattle.acgrep.specs.Listed.{listed_bytes}
-use Rattle.acgrep.specs.Rules.{RuleSaid, is_from_file, rule_said, rules_said}
-use Rattle.acgrep.specs.Runs.{AreOf, AreWords, IsTextOf, origins_of}
+use Rattle.acgrep.specs.Rules.{RuleSaid, is_from_file, rules_said}
+use Rattle.acgrep.specs.Runs.{AreWords, IsTextOf, origins_of}
 use Rattle.acgrep.specs.declared.arguments.Source.{Source}
 use Rattle.acgrep.specs.declared.open.Open.{Ghosts as Openers}
 use Rattle.acgrep.specs.declared.patterns.Keys.{Keys}
@@ -17,10 +16,6 @@ pub record AddsText (holds : List ℕ → Option (List ℕ)) (name : List ℕ) (
   pub text : List ℕ
   pub grown : new ≡ old ++ text
   pub is : IsTextOf holds name left left' text
-
--- a source that is the file of this name
-abbrev pub file_origin : List ℕ → Origin
-file_origin name = record { is_file = true; bytes = name }
 
 -- the text of the file of a rule, or none for one that is a glob
 abbrev pub IsTextOfRule : (List ℕ → Option (List ℕ)) → RuleSaid → (left left' : Option (List ℕ)) → List ℕ → Type 0
@@ -40,11 +35,6 @@ module _ {F X R : Type 0} (openers : Openers F X) (readers : Readers R) (files :
   ReadsSources sources input input' keys =
       AreWords (openers.holds files) (origins_of sources) (readers.remaining input) (readers.remaining input') (lines 10 keys.text.items)
 
-  -- those of a source are added to others
-  abbrev pub AddsSource : Origin → R → R → Keys → Keys → Type 0
-  AddsSource source input input' old new =
-      AddsGiven (AreOf (openers.holds files) source (readers.remaining input) (readers.remaining input')) (lines 10 old.text.items) (lines 10 new.text.items)
-
   -- the text of a file is added to bytes
   abbrev pub AddsFile : List ℕ → R → R → List ℕ → List ℕ → Type 0
   AddsFile name input input' old new =
@@ -54,12 +44,3 @@ module _ {F X R : Type 0} (openers : Openers F X) (readers : Readers R) (files :
   abbrev pub ReadsTexts : {Z : Type 0} → List Rule → R → R → List (Vec ℕ Z) → Type 0
   ReadsTexts rules input input' texts =
       AreTexts (openers.holds files) (rules_said rules) (readers.remaining input) (readers.remaining input') (listed_bytes texts)
-
-  -- the text of a rule is
-  abbrev pub ReadsText : Rule → R → R → List ℕ → Type 0
-  ReadsText rule input input' text =
-      IsTextOfRule (openers.holds files) (rule_said rule) (readers.remaining input) (readers.remaining input') text
-
-  -- and stands behind those of others
-  abbrev pub AddsRuleText : {Z : Type 0} → Rule → R → R → (old new : List (Vec ℕ Z)) → Type 0
-  AddsRuleText rule input input' old new = (text : List ℕ) × (listed_bytes new ≡ listed_bytes old ++ (text ∷ [])) × ReadsText rule input input' text

@@ -56,33 +56,35 @@ pub record MarksText (job : Job) (covering : Covering) (known held held' : Optio
   pub any_is : any ≡ nat_lt 0 (file_selected job covering (stream_lines text) runs)
   pub written : Appends held held' (file_marked job covering (stream_lines text) runs ++ total_if job.shown job.style (file_selected job covering (stream_lines text) runs))
 
--- some first lines of it have these runs
-pub record HasFirst (covering : Covering) (known : Option (List ℕ)) (lines : List Line) (runs : List (List Occurrence)) : Type 0 where
+-- some first lines of it, and their runs
+pub record HasFirst (covering : Covering) (known : Option (List ℕ)) : Type 0 where
   pub text : List ℕ
   pub of : IfSome known (λ bytes. text ≡ bytes)
+  pub lines : List Line
   pub first : AreFirstLines lines (stream_lines text)
+  pub runs : List (List Occurrence)
   pub are : AreLineRuns covering [] lines runs
+
+-- one of them is selected
+abbrev pub HasSelectedLine : (job : Job) (covering : Covering) (known : Option (List ℕ)) → HasFirst covering known → Type 0
+HasSelectedLine job covering known has = nat_lt 0 (file_selected job covering has.lines has.runs) ≡ true
 
 -- a selected line of it told all
 pub record TellsAll (job : Job) (covering : Covering) (known held held' : Option (List ℕ)) (any : Bool) : Type 0 where
   pub needs : needs_one job.shown ≡ true
   pub is_any : any ≡ true
-  pub lines : List Line
-  pub runs : List (List Occurrence)
-  pub has : HasFirst covering known lines runs
-  pub selected : nat_lt 0 (file_selected job covering lines runs) ≡ true
-  pub written : Appends held held' (total_if job.shown job.style (file_selected job covering lines runs))
+  pub has : HasFirst covering known
+  pub selected : HasSelectedLine job covering known has
+  pub written : Appends held held' (total_if job.shown job.style (file_selected job covering has.lines has.runs))
 
 abbrev pub MarksFile : Job → Covering → (known held held' : Option (List ℕ)) → Bool → Type 0
 MarksFile job covering known held held' any = MarksText job covering known held held' any ⊎ TellsAll job covering known held held' any
 
 -- a beginning of what is asked of some first lines was written, and then one of what is asked of the file as a whole
 pub record BeginsMarks (job : Job) (covering : Covering) (known held held' : Option (List ℕ)) : Type 0 where
-  pub lines : List Line
-  pub runs : List (List Occurrence)
-  pub has : HasFirst covering known lines runs
+  pub has : HasFirst covering known
   pub part : List ℕ
-  pub begins : StartsWith (file_marked job covering lines runs) part
+  pub begins : StartsWith (file_marked job covering has.lines has.runs) part
   pub count : ℕ
   pub tail : List ℕ
   pub ends : StartsWith (total_if job.shown job.style count) tail
@@ -95,11 +97,8 @@ pub record MarksBy {A : Type 0} (G : Automata A) (cover : LineCover A) (covering
   pub is : covering ≡ covering_by (words_of cover) (rules_of cover) (most_of cover) covering.patterns
 
 -- a line of a file is selected
-pub record HasMarkedLine (job : Job) (covering : Covering) (known : Option (List ℕ)) : Type 0 where
-  pub lines : List Line
-  pub runs : List (List Occurrence)
-  pub has : HasFirst covering known lines runs
-  pub selected : nat_lt 0 (file_selected job covering lines runs) ≡ true
+abbrev pub HasMarkedLine : Job → Covering → Option (List ℕ) → Type 0
+HasMarkedLine job covering known = (has : HasFirst covering known) × HasSelectedLine job covering known has
 
 -- what comes of a file of these bytes
 pub record ComesMarked (job : Job) (covering : Covering) (known held held' : Option (List ℕ)) (outcome : Outcome) : Type 0 where
@@ -170,26 +169,24 @@ pub record WalksGiven {R W : Type 0} (S : SourceGhosts R) (K : SinkGhosts W) (as
   pub comes : pass' ≡ pass_after pass (seen_lines covering.most (stream_lines text)) runs
   pub written : Appends (K.taken output) (K.taken output') (marked_lines asked pass (seen_lines covering.most (stream_lines text)) runs)
 
--- some first lines of what a source gave, whatever follows
-pub record AreFirstGiven (covering : Covering) (given : List ℕ) (ended : Bool) (lines : List Line) (runs : List (List Occurrence)) : Type 0 where
-  pub are : AreLineRuns covering [] lines runs
+-- some first lines of what a source gave, whatever follows, and their runs
+pub record FirstGiven (covering : Covering) (given : List ℕ) (ended : Bool) : Type 0 where
+  pub lines : List Line
   pub first : (bytes : List ℕ) → MayBe given ended bytes → AreFirstLines lines (stream_lines bytes)
+  pub runs : List (List Occurrence)
+  pub are : AreLineRuns covering [] lines runs
 
 -- the search came behind some first lines, and a beginning of what is asked of some first lines was written
 pub record BeginsWalk {R W : Type 0} (S : SourceGhosts R) (K : SinkGhosts W) (asked : FileAsked) (pass pass' : Pass) (source source' : R) (output output' : W) (covering : Covering) : Type 0 where
   pub given : List ℕ
   pub ended : Bool
   pub gives : SourceGave S source source' given ended
-  pub lines : List Line
-  pub runs : List (List Occurrence)
-  pub are : AreFirstGiven covering given ended lines runs
+  pub told : FirstGiven covering given ended
   pub part : List ℕ
-  pub begins : StartsWith (marked_lines asked pass (seen_lines covering.most lines) runs) part
+  pub begins : StartsWith (marked_lines asked pass (seen_lines covering.most told.lines) told.runs) part
   pub written : Appends (K.taken output) (K.taken output') part
-  pub passed : List Line
-  pub own : List (List Occurrence)
-  pub passed_are : AreFirstGiven covering given ended passed own
-  pub comes : pass' ≡ pass_after pass (seen_lines covering.most passed) own
+  pub passed : FirstGiven covering given ended
+  pub comes : pass' ≡ pass_after pass (seen_lines covering.most passed.lines) passed.runs
 
 -- what comes of the lines of a source
 pub record WalksLines {R W : Type 0} (S : SourceGhosts R) (K : SinkGhosts W) (asked : FileAsked) (pass pass' : Pass) (result : Result (Unit {0}) LineError) (source source' : R) (output output' : W) (covering : Covering) : Type 0 where
@@ -199,7 +196,3 @@ pub record WalksLines {R W : Type 0} (S : SourceGhosts R) (K : SinkGhosts W) (as
 -- what holds of all by which a cover marks lines
 abbrev pub IfMarks : {A : Type 0} → Automata A → LineCover A → (Covering → Type 0) → Type 0
 IfMarks G cover Holds = (covering : Covering) → MarksBy G cover covering → Holds covering
-
--- what comes of a file of these bytes, whatever it marks by
-abbrev pub MarksBytes : {W A : Type 0} → Automata A → SinkGhosts W → Marking A → Job → Option (List ℕ) → W → W → Outcome → Type 0
-MarksBytes G K marking job known output output' outcome = IfMarks G marking.cover (λ covering. ComesMarked job covering known (K.taken output) (K.taken output') outcome)

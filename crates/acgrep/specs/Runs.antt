@@ -320,19 +320,11 @@ abbrev pub OrBeginsCounts : Flags → List (List ℕ) → ((held held' : Option 
 OrBeginsCounts flags patterns Begun held held' = MatchBool (asks_counts flags) (BeginsCounts (ending_by flags) patterns Begun held held') (Begun held held')
 
 -- these patterns of a call were searched for in the files that these operands name
-abbrev pub CountsReached : Known → Screen → Said → Patterns → (patterns names : List (List ℕ)) → (left left' held held' : Option (List ℕ)) → ℕ → Type 0
-CountsReached known screen given p patterns names left left' held held' status =
-    Counts (ending_by given.flags) patterns (λ old new. SearchesReached known screen given p names left left' old new status) held held'
-
 abbrev pub ReachesOrCounts : Known → Screen → Said → Patterns → (patterns names : List (List ℕ)) → (left left' held held' : Option (List ℕ)) → ℕ → Type 0
 ReachesOrCounts known screen given p patterns names left left' held held' status =
     OrCounts given.flags patterns (λ old new. SearchesReached known screen given p names left left' old new status) held held'
 
 -- or their search was begun
-abbrev pub BeginsCounted : Known → Screen → Said → Patterns → (patterns names : List (List ℕ)) → (left held held' : Option (List ℕ)) → Type 0
-BeginsCounted known screen given p patterns names left held held' =
-    BeginsCounts (ending_by given.flags) patterns (λ old new. BeginsOrKeeps known screen given p names left old new) held held'
-
 abbrev pub BeginsOrCounts : Known → Screen → Said → Patterns → (patterns names : List (List ℕ)) → (left held held' : Option (List ℕ)) → Type 0
 BeginsOrCounts known screen given p patterns names left held held' =
     OrBeginsCounts given.flags patterns (λ old new. BeginsOrKeeps known screen given p names left old new) held held'

@@ -1,20 +1,16 @@
 -- What a call does by rules, by what its arguments say.
-use Rattle.acgrep.specs.Common.{Bor, Keeps, Patterns, Readers, Rule, SinkGhosts, bytes_eq, name_bytes}
-use Rattle.std.specs.Prelude.{◌++◌, ◌<◌, ◌==◌, ◌≡◌, ◌⊎◌, Bool, List, MatchBool, Option, [], codes, decimal, false, if◌then◌else◌, unwrap_or, ℕ}
-use Rattle.aho_automaton.specs.declared.automaton.Automaton.{Ghosts as Automata}
+use Rattle.acgrep.specs.Common.{Keeps, Patterns, Rule, bytes_eq}
+use Rattle.std.specs.Prelude.{◌++◌, ◌==◌, ◌≡◌, ◌⊎◌, Bool, List, MatchBool, Option, [], codes, decimal, false, if◌then◌else◌, unwrap_or, ℕ}
 use Rattle.aho_core.specs.declared.search.MatchKind.TheVariants.{Standard}
 use Rattle.secret_rules.specs.Covering.{Covering, covering_by}
 use Rattle.secret_rules.specs.Rules.{AreSound}
 use Rattle.secret_rules.specs.Tables.{TellsRules}
 use Rattle.acgrep.specs.Arguments.{Said}
-use Rattle.acgrep.specs.Folders.{Known, known_by}
+use Rattle.acgrep.specs.Folders.{Known}
 use Rattle.acgrep.specs.Gathered.{AllGive}
-use Rattle.acgrep.specs.MarkedFiles.{AreMarkedOr, AreMarksBegun, IfMarks}
+use Rattle.acgrep.specs.MarkedFiles.{AreMarkedOr, AreMarksBegun}
 use Rattle.acgrep.specs.Runs.{After, AfterRules, IsTextOf, Reached, ReachesAll, status_told}
 use Rattle.acgrep.specs.declared.colors.Screen.{Screen}
-use Rattle.acgrep.specs.declared.folders.Folders.{Ghosts as FolderGhosts}
-use Rattle.acgrep.specs.declared.marked_files.Marking.{Marking}
-use Rattle.acgrep.specs.declared.open.Open.{Ghosts as Openers}
 use Rattle.acgrep.specs.declared.options.Flags.{Flags}
 
 -- the name that stands for the rules of the program
@@ -96,13 +92,3 @@ unwritten_line most count =
 
 abbrev pub long_message : (most count : ℕ) → List ℕ
 long_message most count = if count == 0 then [] else unwritten_line most count
-
--- files are opened and folders listed by one value, standard input is read from another, and a third is written to
-module _ {F X R W A : Type 0} (openers : Openers F X) (folders : FolderGhosts F) (readers : Readers R) (sinks : SinkGhosts W) (G : Automata A) (files : F) (marking : Marking A) (screen : Screen) (given : Said) where
-  abbrev pub SearchesMarking : List (Bor (List ℕ)) → R → W → W → ℕ → Type 0
-  SearchesMarking names input output output' status = IfMarks G marking.cover (λ covering. status < 2
-      → ReachesMarked (known_by openers folders files) screen given covering (name_bytes names) (readers.remaining input) (sinks.taken output) (sinks.taken output') status)
-
-  abbrev pub BeginsMarking : List (Bor (List ℕ)) → R → W → W → Type 0
-  BeginsMarking names input output output' = IfMarks G marking.cover (λ covering.
-      MayReachMarked (known_by openers folders files) screen given covering (name_bytes names) (readers.remaining input) (sinks.taken output) (sinks.taken output'))

@@ -1,29 +1,28 @@
 -- What searching does, whatever patterns the searcher was built from.
 use Rattle.acgrep.specs.Common.{Appends, Bor, Patterns, Readers, SinkGhosts, Writers}
-use Rattle.std.specs.Prelude.{◌∷◌, Bool, IfOk, List, OnErr, OnOk, Option, Result, [], ℕ}
-use Rattle.acgrep.specs.Contexts.{BeginsLines, BeginsSearched, IsChosenBy, SearchesText, ShowsEach, WalksBegun, WalksLines, WalksText, walk_of}
+use Rattle.std.specs.Prelude.{◌&&◌, ◌∷◌, Bool, IfOk, List, OnErr, OnOk, Option, Result, Some, [], ℕ}
+use Rattle.acgrep.specs.Contexts.{BeginsLines, BeginsSearched, SearchesText, ShowsEach, Steps, separator_if, walk_of}
 use Rattle.acgrep.specs.Files.{BeginsFile, SearchesReader}
-use Rattle.acgrep.specs.Filled.{bytes_buffered}
-use Rattle.acgrep.specs.Guarded.{FindsSelected}
 use Rattle.acgrep.specs.InTurn.{IfBroken, IfSearched}
 use Rattle.acgrep.specs.Searchers.{ForQuery, Seeks}
 use Rattle.acgrep.specs.Selected.{lines_by}
 use Rattle.acgrep.specs.Streamed.{BeginsBehind}
-use Rattle.acgrep.specs.Written.{EachLine, HasNone, SearchesPlain, SearchesTo, TellsLines, WritesLine, WritesNext}
-use Rattle.acgrep.specs.declared.buffer.Buffer.{Buffer}
+use Rattle.acgrep.specs.Written.{EachLine, HasNone, IsSelected, SearchesPlain, SearchesTo, TellsLines, WritesLine}
 use Rattle.acgrep.specs.declared.files.Outcome.{Outcome}
 use Rattle.acgrep.specs.declared.options.Context.{Context}
 use Rattle.acgrep.specs.declared.print.Place.{Place}
+use Rattle.acgrep.specs.declared.job.Job.{Job}
 use Rattle.acgrep.specs.declared.job.Query.{Query}
 use Rattle.acgrep.specs.declared.job.State.{State}
+use Rattle.acgrep.specs.declared.trail.Trail.{Trail}
 
 -- what is asked of a selected line is written where a call does not fail
 abbrev pub WritesLineBy : Query → Place → (held held' : Option (List ℕ)) → List ℕ → {T E : Type 0} → Result T E → Type 0
 WritesLineBy query place held held' line result = (p : Patterns) → Seeks query p → OnOk result (WritesLine p query.job place held held' line)
 
--- the same of a selected line behind others
-abbrev pub WritesNextBy : Query → State → (held held' : Option (List ℕ)) → List ℕ → {T E : Type 0} → Result T E → Type 0
-WritesNextBy query before held held' line result = (p : Patterns) → Seeks query p → OnOk result (WritesNext p query.job before held held' line)
+-- a line is selected
+abbrev pub IsSelectedBy : Query → Patterns → List ℕ → Type 0
+IsSelectedBy query p line = IsSelected p query.job.fit query.job.invert line
 
 -- the lines of a text are searched where a call does not fail, and where it fails a beginning of what is told of them is written
 module _ {W : Type 0} (sinks : SinkGhosts W) (query : Query) (before after : State) (old new : W) where
@@ -44,54 +43,25 @@ module _ {W : Type 0} (sinks : SinkGhosts W) (query : Query) (before after : Sta
   BeginsPlainBy text result =
       ForQuery query (λ p. OnErr result (BeginsLines p query.job before after.selected (sinks.taken old) (sinks.taken new) (lines_by query.job text)))
 
-  -- where they are
-  abbrev pub WalksBy : {T E : Type 0} → Context → List ℕ → Result T E → Type 0
-  WalksBy context text result =
-      (p : Patterns) → Seeks query p → OnOk result (WalksText p query.job context before after (sinks.taken old) (sinks.taken new) text)
-
-  abbrev pub BegunBy : {T E : Type 0} → Context → List ℕ → Result T E → Type 0
-  BegunBy context text result =
-      (p : Patterns) → Seeks query p → OnErr result (WalksBegun p query.job context (walk_of before) (sinks.taken old) (sinks.taken new) (lines_by query.job text))
-
-  -- of one line
-  abbrev pub StepsBy : {T E : Type 0} → Context → List ℕ → Result T E → Type 0
-  StepsBy context line result = (p : Patterns) → Seeks query p
-      → OnOk result (WalksLines p query.job context (walk_of before) (walk_of after) (sinks.taken old) (sinks.taken new) (line ∷ []))
-
-  abbrev pub BeginsLineAround : {T E : Type 0} → Context → List ℕ → Result T E → Type 0
-  BeginsLineAround context line result = (p : Patterns) → Seeks query p
-      → OnErr result (WalksBegun p query.job context (walk_of before) (sinks.taken old) (sinks.taken new) (line ∷ []))
-
-  -- by whether it is selected, where more are asked for
-  abbrev pub WalksWhere : {T E : Type 0} → Bool → Context → List ℕ → Result T E → Type 0
-  WalksWhere chosen context line result = (p : Patterns) → Seeks query p → IsChosenBy p query.job before.selected line chosen
-      → OnOk result (WalksLines p query.job context (walk_of before) (walk_of after) (sinks.taken old) (sinks.taken new) (line ∷ []))
-
-  abbrev pub BeginsWalkWhere : {T E : Type 0} → Bool → Context → List ℕ → Result T E → Type 0
-  BeginsWalkWhere chosen context line result = (p : Patterns) → Seeks query p → IsChosenBy p query.job before.selected line chosen
-      → OnErr result (WalksBegun p query.job context (walk_of before) (sinks.taken old) (sinks.taken new) (line ∷ []))
-
-  -- up to those that are answered
-  abbrev pub SearchesSomeBy : {E : Type 0} → List ℕ → Result (Bor (List ℕ)) E → Type 0
-  SearchesSomeBy text result =
-      ForQuery query (λ p. IfOk result (λ left. SearchesTo p query.job before after (sinks.taken old) (sinks.taken new) text left.now))
-
-  -- of a line of which that holds
-  abbrev pub TellsWhere : {T E : Type 0} → (Patterns → List ℕ → Type 0) → List ℕ → Result T E → Type 0
-  TellsWhere Holds line result = (p : Patterns) → Seeks query p → Holds p line → OnOk result (TellsLines p query.job before after (sinks.taken old) (sinks.taken new) (line ∷ []))
-
-  abbrev pub BeginsWhere : {T E : Type 0} → (Patterns → List ℕ → Type 0) → List ℕ → Result T E → Type 0
-  BeginsWhere Holds line result =
-      (p : Patterns) → Seeks query p → Holds p line → OnErr result (BeginsLines p query.job before after.selected (sinks.taken old) (sinks.taken new) (line ∷ []))
+-- what is told of lines is put together on the page of a state
+module _ (query : Query) (before after : State) where
+  -- of a line of which that holds, behind what is there
+  abbrev pub TakesWhere : {T E : Type 0} → (Patterns → List ℕ → Type 0) → List ℕ → Result T E → Type 0
+  TakesWhere Holds line result = (p : Patterns) → Seeks query p → Holds p line
+      → OnOk result (TellsLines p query.job before after (Some before.page.items) (Some after.page.items) (line ∷ []))
 
   -- of lines without a match
-  abbrev pub TellsOthersBy : {T E : Type 0} → List ℕ → Result T E → Type 0
-  TellsOthersBy text result = (p : Patterns) → Seeks query p → EachLine (HasNone p) (lines_by query.job text)
-      → OnOk result (TellsLines p query.job before after (sinks.taken old) (sinks.taken new) (lines_by query.job text))
+  abbrev pub TakesOthersBy : {T E : Type 0} → List ℕ → Result T E → Type 0
+  TakesOthersBy text result = (p : Patterns) → Seeks query p → EachLine (HasNone p) (lines_by query.job text)
+      → OnOk result (SearchesTo p query.job before after (Some []) (Some after.page.items) text [])
 
-  abbrev pub BeginsOthersBy : {T E : Type 0} → List ℕ → Result T E → Type 0
-  BeginsOthersBy text result = (p : Patterns) → Seeks query p → EachLine (HasNone p) (lines_by query.job text)
-      → OnErr result (BeginsLines p query.job before after.selected (sinks.taken old) (sinks.taken new) (lines_by query.job text))
+  -- of the lines up to those that are answered
+  abbrev pub TakesSomeBy : {E : Type 0} → List ℕ → Result (Bor (List ℕ)) E → Type 0
+  TakesSomeBy text result = ForQuery query (λ p. IfOk result (λ left. SearchesTo p query.job before after (Some []) (Some after.page.items) text left.now))
+
+  -- of one line, where lines around selected ones are asked for
+  abbrev pub StepsBy : {T E : Type 0} → Context → List ℕ → Result T E → Type 0
+  StepsBy context line result = (p : Patterns) → Seeks query p → OnOk result (Steps p query.job context (walk_of before) line after.page.items (walk_of after))
 
 -- a beginning of what is asked of a file is written
 abbrev pub BeginsFileBy : {W : Type 0} → SinkGhosts W → Query → (known : Option (List ℕ)) → W → W → Outcome → Type 0
@@ -118,10 +88,9 @@ module _ {R W : Type 0} (readers : Readers R) (sinks : SinkGhosts W) (query : Qu
   BeginsReadBy alone before after reader old new kept result = ForQuery query
       (λ p. OnErr result (BeginsBehind p query.job alone before after (sinks.taken old) (sinks.taken new) (readers.remaining reader) kept))
 
-  -- whether a line is selected of those that are there or come
-  abbrev pub FindsBy : {E : Type 0} → Buffer → R → R → W → W → Result Bool E → Type 0
-  FindsBy buffer reader reader' old new result = ForQuery query
-      (λ p. IfOk result (FindsSelected p query.job (bytes_buffered buffer) (readers.remaining reader) (readers.remaining reader') (sinks.taken old) (sinks.taken new)))
+-- what is written before a selected line and those held before it
+abbrev pub between_by : Job → Context → Trail → List ℕ
+between_by job context trail = separator_if (context.parted && (trail.some && trail.apart)) job.style
 
 -- what is asked of lines around a selected one is written, from a place on
 abbrev pub ShowsEachBy : {W : Type 0} → Writers W → Query → Place → List (List ℕ) → W → W → {T E : Type 0} → Result T E → Type 0

@@ -7,8 +7,7 @@ use Rattle.aho_core.specs.Patterns.{pattern_at}
 use Rattle.aho_core.specs.declared.search.Anchored.TheVariants.{No}
 use Rattle.aho_core.specs.declared.search.Span.{Span}
 use Rattle.memchr.specs.Find.{Nowhere}
-use Rattle.acgrep.specs.Lines.{EndsLine, IsEnding, lines}
-use Rattle.acgrep.specs.Written.{HasNone}
+use Rattle.acgrep.specs.Lines.{IsEnding, lines}
 use Rattle.acgrep.specs.declared.options.Fit.TheVariants.{AnyPart}
 use Rattle.acgrep.specs.declared.job.Job.{Job}
 use Rattle.acgrep.specs.declared.job.State.{State}
@@ -22,12 +21,9 @@ HoldNoEnding ending p =
 abbrev pub ForLines : (ending : ℕ) → (Patterns → Type 0) → (Patterns → Type 0) → Type 0
 ForLines ending Are Holds = (p : Patterns) → Are p → HoldNoEnding ending p → Holds p
 
--- the lines of a text, and whether it ends in one
+-- the lines of a text
 abbrev pub lines_by : Job → List ℕ → List (List ℕ)
 lines_by job text = lines job.style.ending text
-
-abbrev pub EndsBy : Job → List ℕ → Type 0
-EndsBy job text = EndsLine job.style.ending text
 
 -- the span is a line of the text, without the byte that ends it
 pub record IsLine (ending : ℕ) (text : List ℕ) (line : Span) : Type 0 where
@@ -52,11 +48,6 @@ pub record IsFirstWith (p : Patterns) (ending : ℕ) (text : List ℕ) (line : S
 abbrev pub IsNextLine : Patterns → (ending : ℕ) → List ℕ → Option Span → Type 0
 IsNextLine p ending text None = (m : Occurrence) → OccursIn p (plain_search text) m → ⊥
 IsNextLine p ending text (Some line) = IsFirstWith p ending text line
-
--- where none is selected none was before, and nothing occurs in the text
-abbrev pub FindsNone : Patterns → State → State → List ℕ → Type 0
-FindsNone p before after text =
-    after.selected ≡ 0 → (before.selected ≡ 0) × HasNone p text
 
 -- where lines in which a pattern occurs are selected and none was, nothing occurs in a text that is not empty
 abbrev pub IsNoneSelected : Patterns → Job → List ℕ → State → Type 0

@@ -49,10 +49,6 @@ pub record CountsLines (found : List (List ℕ)) (counts counts' : List ℕ) : T
   pub as_many : length counts' ≡ length counts
   pub grown : (number : ℕ) → number < length counts → slice_index counts' number ≡ count_with (slice_index counts number) (count_of number found)
 
--- by one line, whichever it is, that writes this number
-abbrev pub CountsNumber : ℕ → (counts counts' : List ℕ) → Type 0
-CountsNumber number counts counts' = (line : List ℕ) → number_by line ≡ Some number → CountsLines (line ∷ []) counts counts'
-
 -- before any was found
 abbrev pub zeros_of : List (List ℕ) → List ℕ
 zeros_of patterns = map (λ pattern. 0) patterns

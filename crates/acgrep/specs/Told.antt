@@ -95,6 +95,10 @@ module _ {E : Type 0} (K : SinkGhosts E) where
   abbrev pub TellsCause : Errors E → Errors E → Type 0
   TellsCause old new = (names : List (List ℕ)) → TellsSome K (IsMessage names) old new
 
+  -- a status stays and nothing is told, or the output could not be written, which is told
+  abbrev pub StaysOrFails : (status status' : ℕ) → Errors E → Errors E → Type 0
+  StaysOrFails status status' old new = ((status' ≡ status) × (new ≡ old)) ⊎ ((status' ≡ 2) × TellsCause old new)
+
   -- with the file of a name
   abbrev pub TellsOfFile : List ℕ → Errors E → Errors E → Type 0
   TellsOfFile name old new = (names : List (List ℕ)) → IsOneOf name names → TellsSome K (IsMessage names) old new
@@ -293,10 +297,6 @@ module _ {E : Type 0} (K : SinkGhosts E) where
   abbrev pub TellsOfFiles : Bool → List ℕ → List (List ℕ) → Shown → ℕ → Errors E → Errors E → Type 0
   TellsOfFiles hushed label names shown status old new = TellsStatus K (IsMessage (files_told hushed label names)) hushed shown status old new
 
-  -- and of a text of the program
-  abbrev pub TellsOfText : ℕ → Errors E → Errors E → Type 0
-  TellsOfText status old new = (hushed : Bool) → (shown : Shown) → (names : List (List ℕ)) → TellsStatus K (MayTell names) hushed shown status old new
-
   -- and of a search for the patterns of these sources
   abbrev pub TellsOfSearch : Tree → Said → List Origin → List (List ℕ) → ℕ → Errors E → Errors E → Type 0
   TellsOfSearch tree given sources names status old new =
@@ -315,11 +315,6 @@ module _ {E : Type 0} (K : SinkGhosts E) where
   -- why the rules in files are not read
   abbrev pub TellsOfRules : List RuleSaid → Errors E → Errors E → Type 0
   TellsOfRules rules old new = TellsSome K (IsMessage (rule_files rules)) old new
-
-  -- and why those of one are not
-  abbrev pub TellsOfRule : RuleSaid → Errors E → Errors E → Type 0
-  TellsOfRule rule old new =
-      (names : List (List ℕ)) → (is_from_file rule.sense ≡ true → IsOneOf rule.glob names) → TellsSome K (IsMessage names) old new
 
   -- and of a call whose arguments say this
   abbrev pub TellsOfCall : Known → (left : Option (List ℕ)) → Said → ℕ → Errors E → Errors E → Type 0

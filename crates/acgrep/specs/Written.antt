@@ -1,6 +1,6 @@
 -- What is written of the lines of a text, one after another.
 use Rattle.acgrep.specs.Common.{Appends, Occurrence, OccursIn, Patterns, plain_search}
-use Rattle.std.specs.Prelude.{◌%◌, ◌&&◌, ◌++◌, ◌+◌, ◌-◌, ◌<◌, ◌^◌, ◌∷◌, ◌≡◌, ◌≤◌, ◌⊎◌, Bool, List, MatchBool, None, Option, Some, [], drop, false, if◌then◌else◌, length, min, nat_le, nat_lt, not, true, ℕ, ⊤}
+use Rattle.std.specs.Prelude.{◌%◌, ◌&&◌, ◌++◌, ◌+◌, ◌-◌, ◌<◌, ◌^◌, ◌∷◌, ◌≡◌, ◌≤◌, ◌⊎◌, Bool, List, MatchBool, None, Option, Some, [], drop, false, length, min, nat_le, nat_lt, not, true, ℕ, ⊤}
 use Rattle.acgrep.specs.Alone.{AreShownOf, IsAloneFrom}
 use Rattle.acgrep.specs.Lines.{EndsLine, lines}
 use Rattle.acgrep.specs.Objects.{objects_by}
@@ -125,10 +125,6 @@ abbrev pub is_full : Option ℕ → ℕ → Bool
 is_full None count = false
 is_full (Some most) count = nat_lt 0 count && nat_le most count
 
--- the count of selected lines behind one that is selected
-abbrev pub next_count : Option ℕ → ℕ → ℕ
-next_count most count = if is_full most count then count else one_more count
-
 -- the lines from a place on: these bytes are written, and the count of selected lines goes on from `count` to `total`; where so many
 -- are selected as are asked for, nothing is told of those that follow
 abbrev pub TellsOfLines : Patterns → Job → Place → ℕ → List (List ℕ) → List ℕ → ℕ → Type 0
@@ -138,10 +134,6 @@ TellsOfLines p job place count (line ∷ rest) bytes total =
     ⊎ ((is_full job.most count ≡ false) × ((IsSelected p job.fit job.invert line × ((shown : List ℕ) × (more : List ℕ)
     × ShowsLine p job place line shown × TellsOfLines p job (after_line place line) (one_more count) rest more total × (bytes ≡ shown ++ more)))
     ⊎ (IsPassedOver p job.fit job.invert line × TellsOfLines p job (after_line place line) count rest bytes total)))
-
--- what is asked of a selected line is written, or nothing where so many are selected before it
-abbrev pub WritesNext : Patterns → Job → State → Option (List ℕ) → Option (List ℕ) → List ℕ → Type 0
-WritesNext p job before old new line = MatchBool (is_full job.most before.selected) (new ≡ old) (WritesLine p job before.place old new line)
 
 -- these lines are searched: what is told of them is written, and nothing else
 pub record TellsLines (p : Patterns) (job : Job) (before after : State) (old new : Option (List ℕ)) (searched : List (List ℕ)) : Type 0 where

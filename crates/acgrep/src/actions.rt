@@ -1,9 +1,7 @@
 //! What the arguments of `--color`, `-d`, `-D` and `--binary-files` name.
 
 ghost use Rattle.std.specs.Prelude.{◌≡◌};
-ghost use Rattle.acgrep.specs.Actions.{binary_named, color_named, devices_named, folder_actions, folders_named, is_one_of};
-ghost use Rattle.tool_parts.specs.OptionNames.{found_among};
-ghost use Rattle.tool_parts.specs.declared.options.found.Found.TheVariants.{Unknown};
+ghost use Rattle.acgrep.specs.Actions.{binary_named, color_named, devices_named, folders_named, is_one_of};
 
 use crate::all_options::Switch;
 use crate::options::Color;
@@ -49,20 +47,12 @@ fn is_one_of(first: &[u8], second: &[u8], third: &[u8], bytes: &[u8]) -> bool
 pub fn folders_in(bytes: &[u8]) -> Option<Switch>
     ensures folders { result ≡ folders_named bytes.now }
 {
-    match folders_of(bytes).option() {
-        Ok(switch) => Some(switch),
-        Err(_) => None,
-    }
-}
-
-/// What is found of them among the names of what is done with folders.
-fn folders_of(bytes: &[u8]) -> Found<Switch>
-    ensures found { result ≡ found_among folder_actions bytes.now Unknown }
-{
     Found::Unknown
         .or(bytes, b"read", Switch::ReadFolders)
         .or(bytes, b"recurse", Switch::Recursive)
         .or(bytes, b"skip", Switch::SkipFolders)
+        .option()
+        .ok()
 }
 
 /// What is done with devices, if bytes name that.

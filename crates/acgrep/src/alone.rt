@@ -36,20 +36,9 @@ pub fn next_alone(searcher: &AhoCorasick, line: &[u8], at: usize) -> Result<Opti
         → IfOk result (IsNextAlone p line.now at) }
 {
     match searcher.match_kind() {
-        MatchKind::LeftmostLongest => longest_alone(searcher, line, at),
-        kind => Err(Stop::Search(MatchError::unsupported_overlapping(kind))),
+        MatchKind::LeftmostLongest => {}
+        kind => return Err(Stop::Search(MatchError::unsupported_overlapping(kind))),
     }
-}
-
-/// The same where of the matches that begin first the longest is found.
-fn longest_alone(searcher: &AhoCorasick, line: &[u8], at: usize) -> Result<Option<Match>, Stop>
-    requires of { IsBuiltFromSome searcher.now }
-    requires within { at ≤ length line.now + 1 }
-    ensures behind { IfOk result (λ found. IfSome found (λ m. at ≤ m.start)) }
-    ensures within { IfOk result (λ found. IfSome found (λ m. m.end ≤ length line.now)) }
-    ensures next { (p : Patterns) → IsBuiltFrom searcher.now p → p.kind ≡ LeftmostLongest
-        → IfOk result (IsNextAlone p line.now at) }
-{
     let mut from = at;
     while let Some(longest) = find_within(searcher, line, from, line.len())? {
         if let Some(found) = alone_at(searcher, line, longest)? {

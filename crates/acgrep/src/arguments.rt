@@ -3,14 +3,14 @@
 //! Options may be joined, take their argument joined or as the next one, and stand behind files. A long name may be a beginning that
 //! no other option's name has. Two hyphens end the options.
 
-ghost use Rattle.std.specs.Prelude.{◌≡◌, ◌≤◌, Some, IfOk, IfErr, OnOk, length};
+ghost use Rattle.std.specs.Prelude.{◌≡◌, IfErr, IfOk, List, OnOk, Some, ℕ};
 ghost use Rattle.tool_parts.specs.Arguments.{kind_by};
-ghost use Rattle.acgrep.specs.Arguments.{AreDigits, FailsBy, ReadsBy, SaysMore, argument_by, behind_by, fresh_by, joined_by, letters_by, named_by, nothing_said, number_by, said, said_by, source_option, so_far, taken_by, value_by, valued_letter, with_format, with_operand, with_rule, with_rule_file, with_source, with_switch};
+ghost use Rattle.acgrep.specs.Arguments.{FailsBy, ReadsBy, SaysMore, argument_by, behind_by, fresh_by, joined_by, letters_by, named_by, nothing_said, number_by, said, said_by, source_option, so_far, taken_by, value_by, valued_letter, with_digits, with_format, with_operand, with_rule, with_rule_file, with_source, with_switch};
 ghost use Rattle.acgrep.specs.Listed.{listed_bytes};
 ghost use Rattle.acgrep.specs.Long.{option_by};
 ghost use Rattle.acgrep.specs.Rules.{rules_said};
 ghost use Rattle.acgrep.specs.Runs.{ruled};
-ghost use Rattle.acgrep.specs.Mistakes.{IsFirstMistake, TellsBy, mistake_at, wrong_behind, wrong_fresh, wrong_joined, wrong_letters, wrong_name, wrong_value};
+ghost use Rattle.acgrep.specs.Mistakes.{IsFirstMistake, TellsBy, digits_value_of, if_none, mistake_at, wrong_behind, wrong_digits, wrong_fresh, wrong_joined, wrong_letters, wrong_name, wrong_value};
 ghost use Rattle.acgrep.specs.Told.{format_parts, kind_parts, number_parts, valued_name, wrong_parts};
 
 use crate::actions::{binary_in, color_in, devices_in, folders_in};
@@ -331,15 +331,21 @@ fn read_letters<'a>(given: &mut Given<'a>, letters: &'a [u8]) -> Result<Awaited,
     ensures refused { FailsBy (letters_by letters.now (said given.old)) result }
     ensures wrong { TellsBy (wrong_letters letters.now) result }
 {
+    // The digits that stand before `rest`, and what is left from the first of them on.
+    let mut digits: &'a [u8] = b"";
+    let mut from = letters;
     let mut rest = letters;
     while let Some((letter, behind)) = rest.split_first() {
-        let digits = digits_in(rest);
-        if digits > 0 {
-            let number = read_number(Valued::Around, &rest[..digits])?;
-            given.flags.context = Some(number);
-            rest = &rest[digits..];
+        rest = behind;
+        if letter.is_ascii_digit() {
+            digits = &from[..from.len() - behind.len()];
             continue;
         }
+        if let Err(refusal) = read_digits(given, digits) {
+            return Err(refusal);
+        }
+        digits = b"";
+        from = behind;
         if *letter == b'e' || *letter == b'f' {
             return take_source(given, *letter == b'f', behind);
         }
@@ -350,9 +356,32 @@ fn read_letters<'a>(given: &mut Given<'a>, letters: &'a [u8]) -> Result<Awaited,
             Some(switch) => given.flags = given.flags.switched(switch),
             None => return Err(Refusal::Wrong(Wrong::UnknownLetter(*letter))),
         }
-        rest = behind;
     }
-    Ok(Awaited::Fresh)
+    match read_digits(given, digits) {
+        Ok(()) => Ok(Awaited::Fresh),
+        Err(refusal) => Err(refusal),
+    }
+}
+
+/// Takes digits among joined letters for a number of lines, if there are some.
+fn read_digits<'a>(given: &mut Given<'a>, digits: &'a [u8]) -> Result<(), Refusal<'a>>
+    ensures read { OnOk result (with_digits digits.now (said given.old) ≡ Some (said given.new)) }
+    ensures right { OnOk result ((others : List (List ℕ))
+        → if_none (digits_value_of digits.now) (wrong_digits digits.now) others ≡ others) }
+    ensures refused { FailsBy (with_digits digits.now (said given.old)) result }
+    ensures none { FailsBy (digits_value_of digits.now) result }
+    ensures wrong { TellsBy (wrong_digits digits.now) result }
+{
+    let Some(_) = digits.split_first() else {
+        return Ok(());
+    };
+    match read_number(Valued::Around, digits) {
+        Ok(number) => {
+            given.flags.context = Some(number);
+            Ok(())
+        }
+        Err(refusal) => Err(refusal),
+    }
 }
 
 /// Takes what stands behind `-e`, or behind `-f`, for its argument, if it is not empty.
@@ -401,19 +430,6 @@ fn take_value<'a>(
         return Ok(Awaited::Argument(valued));
     }
     read_value(given, valued, behind)
-}
-
-/// How many digits stand at the front of letters.
-fn digits_in(letters: &[u8]) -> usize
-    ensures within { result ≤ length letters.now }
-    ensures digits { AreDigits letters.now result }
-{
-    for count in 0..letters.len() {
-        if !letters[count].is_ascii_digit() {
-            return count;
-        }
-    }
-    letters.len()
 }
 
 /// The option that gives a file of patterns, or patterns.

@@ -1,6 +1,6 @@
 //! The bytes that were read and not searched yet.
 
-ghost use Rattle.std.specs.Prelude.{◌≡◌, ◌≤◌, ◌<◌, IfOk, OnOk, drop, length, vec_len};
+ghost use Rattle.std.specs.Prelude.{◌≡◌, ◌≤◌, ◌<◌, [], IfOk, OnOk, drop, length, vec_len};
 
 use std::alloc::{AllocError, Global};
 use std::io;
@@ -31,6 +31,7 @@ impl Buffer {
     /// Forgets all bytes.
     pub fn clear(&mut self)
         ensures none { self.new.held ≡ 0 }
+        ensures bytes { bytes_buffered self.new ≡ [] }
     {
         self.held = 0;
     }

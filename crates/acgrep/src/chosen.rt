@@ -44,10 +44,8 @@ fn choose_among<F: Folders>(
     ensures all { IfOk result (λ found. missed_of found.unread.items ≡ []) }
 {
     let mut found = Found::new(alloc);
-    let mut rest = names;
-    while !rest.is_empty() {
-        choose_one(alloc, files, rules, ways, rest[0], &mut found)?;
-        rest = &rest[1..];
+    for name in names {
+        choose_one(alloc, files, rules, ways, *name, &mut found)?;
     }
     Ok(found)
 }

@@ -4,10 +4,9 @@
 //! says nothing, and what follows a part that is wrong says nothing either.
 
 ghost use Rattle.std.specs.Prelude.{◌≡◌};
-ghost use Rattle.std.specs.List.{position_or_len, slice_split};
+ghost use Rattle.std.specs.List.{slice_split};
 ghost use Rattle.acgrep.specs.Colors.{colors_by, is_code, is_code_byte, is_colon, is_right, palette_of, with_parts};
 
-use crate::lines::{behind, line_end};
 use tool_parts::options::argument::first_equals;
 
 /// The names of matches: in selected lines and around them, in selected ones, and around them.
@@ -60,8 +59,7 @@ pub struct Colors<'a> {
 }
 
 impl<'a> Colors<'a> {
-    ghost use Rattle.std.specs.Prelude.{[], ◌∷◌};
-    ghost use Rattle.acgrep.specs.Colors.{usual_colors, with_code, with_name, with_part, with_parts};
+    ghost use Rattle.acgrep.specs.Colors.{usual_colors, with_code, with_name, with_part};
 
     /// Those where nothing is said of them.
     fn new() -> Colors<'a>
@@ -76,16 +74,6 @@ impl<'a> Colors<'a> {
             beside: b"01;31",
             erases: true,
         }
-    }
-
-    /// These with the last part, unless it is wrong.
-    fn with_last(self, part: &'a [u8]) -> Colors<'a>
-        ensures with { palette_of result ≡ with_parts (part.now ∷ []) (palette_of self.entry) }
-    {
-        if is_right(part) {
-            return self.with_part(part);
-        }
-        self
     }
 
     /// These with a part that is not wrong.
@@ -152,25 +140,12 @@ pub fn read_colors<'a>(text: &'a [u8]) -> Colors<'a>
 fn read_parts<'a>(colors: &mut Colors<'a>, text: &'a [u8])
     ensures read { palette_of colors.new ≡ with_parts (slice_split is_colon text.now) (palette_of colors.old) }
 {
-    let mut rest = text;
-    let mut end = first_colon(rest);
-    while end < rest.len() {
-        let part = &rest[..end];
+    for part in text.split(|byte| *byte == b':') {
         if !is_right(part) {
             return;
         }
         *colors = colors.with_part(part);
-        rest = behind(rest, end);
-        end = first_colon(rest);
     }
-    *colors = colors.with_last(rest);
-}
-
-/// Where the first colon stands, or else the end.
-fn first_colon(text: &[u8]) -> usize
-    ensures place { result ≡ position_or_len is_colon text.now }
-{
-    line_end(text, b':')
 }
 
 /// Whether a part is right: before an equals sign it has a name, and behind it a code.

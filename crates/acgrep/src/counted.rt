@@ -1,16 +1,16 @@
 //! A search whose matches are counted: in place of each match the number of its pattern is put down, on a line of its own.
 
-ghost use Rattle.std.specs.Prelude.{◌≡◌, ◌≤◌, ◌<◌, ◌⊎◌, OnErr, OnOk};
+ghost use Rattle.std.specs.Prelude.{◌≡◌, ◌≤◌, ◌<◌, OnErr, OnOk, true};
 ghost use Rattle.std.specs.Io.KnownBytes.{Appends};
 ghost use Rattle.aho_core.specs.Replacement.{pieces_of};
 ghost use Rattle.aho_devices.specs.Counts.{AppendsBeginning};
 ghost use Rattle.tool_parts.specs.Names.{name_bytes};
 ghost use Rattle.chromesquid.specs.Searcher.{IsBuiltFromSome};
 ghost use Rattle.acgrep.specs.Arguments.{said};
-ghost use Rattle.acgrep.specs.Counted.{BeginsCountOf, BeginsSearchOrCount, CountsOperands, SearchesOrCounts};
+ghost use Rattle.acgrep.specs.Counted.{BeginsSearchOrCount, SearchesOrCounts};
 ghost use Rattle.acgrep.specs.Folders.{tree_of};
-ghost use Rattle.acgrep.specs.Tallies.{PutsBytes, counts_table_of, zeros_of};
-ghost use Rattle.acgrep.specs.Told.{TellsCause, TellsOfReached};
+ghost use Rattle.acgrep.specs.Tallies.{counts_table_of};
+ghost use Rattle.acgrep.specs.Told.{StaysOrFails, TellsOfReached};
 
 use crate::arguments::Given;
 use crate::below::search_operands;
@@ -19,10 +19,11 @@ use crate::failure::Stop;
 use crate::files::Files;
 use crate::folders::Folders;
 use crate::open::Open;
+use crate::run::finish;
 use crate::tally::{put_rows, tally, zeros};
 use crate::unread::tell_total;
 use chromesquid::{AhoCorasick, FromWrite, Sink, write_whole};
-use std::alloc::{AllocError, Global};
+use std::alloc::Global;
 use std::io::Read;
 use tool_parts::errors::Errors;
 
@@ -47,37 +48,15 @@ pub fn search_or_count<F: Open + Folders, R: Read, W: Sink, E: Sink>(
         input.old output.old output.new }
     ensures told { TellsOfReached E.Sink (tree_of F.Folders operands.now.files.now) (said given.now)
         (name_bytes operands.now.names.now) result errors.old errors.new }
+    ensures flushed { result < 2 → W.flushed output.new ≡ true }
 {
-    if given.flags.asks_counts() {
-        return count_operands(
-            searcher, given, screen, patterns, operands, input, output, errors,
+    if !given.flags.asks_counts() {
+        return finish(
+            search_operands(searcher, given, screen, operands, input, output, errors),
+            output,
+            errors,
         );
     }
-    search_operands(searcher, given, screen, operands, input, output, errors)
-}
-
-/// Counts the matches of each pattern in the files that these operands name, and writes the counts.
-fn count_operands<F: Open + Folders, R: Read, W: Sink, E: Sink>(
-    searcher: &AhoCorasick,
-    given: &Given<'_>,
-    screen: &Screen<'_>,
-    patterns: &[&[u8]],
-    operands: &Files<'_, F>,
-    input: &mut R,
-    output: &mut W,
-    errors: &mut Errors<'_, E>,
-) -> u8
-    requires of { IsBuiltFromSome searcher.now }
-    ensures bound { result ≤ 2 }
-    ensures searched { CountsOperands F.Open F.Folders R.Read W.Sink operands.now.files.now
-        operands.now.names.now searcher.now screen.now (said given.now) patterns.now
-        input.old input.new output.old output.new result }
-    ensures begun { BeginsCountOf F.Open F.Folders R.Read W.Sink operands.now.files.now
-        operands.now.names.now searcher.now screen.now (said given.now) patterns.now
-        input.old output.old output.new }
-    ensures told { TellsOfReached E.Sink (tree_of F.Folders operands.now.files.now) (said given.now)
-        (name_bytes operands.now.names.now) result errors.old errors.new }
-{
     let mut found = FromWrite::new(Vec::new(operands.alloc));
     let status = search_operands(searcher, given, screen, operands, input, &mut found, errors);
     let numbers = found.into_inner();
@@ -102,24 +81,23 @@ pub fn end_counts<W: Sink, E: Sink>(
     output: &mut W,
     errors: &mut Errors<'_, E>,
 ) -> u8
-    ensures status { (result ≡ status) ⊎ (result ≡ 2) }
     ensures written { result < 2 → Appends (W.taken output.old) (W.taken output.new)
         (counts_table_of ending patterns.now numbers.now) }
     // Where it fails a beginning of that is written.
     ensures begun { AppendsBeginning (W.taken output.old) (W.taken output.new)
         (counts_table_of ending patterns.now numbers.now) }
-    ensures silent { result < 2 → errors.new ≡ errors.old }
-    ensures told_before { 2 ≤ status → errors.new ≡ errors.old }
-    ensures told { status < 2 → result ≡ 2 → TellsCause E.Sink errors.old errors.new }
+    ensures flushed { result < 2 → W.flushed output.new ≡ true }
+    ensures told { StaysOrFails E.Sink status result errors.old errors.new }
 {
     match write_counts(alloc, patterns, numbers, ending, output) {
-        Ok(()) => status,
+        Ok(()) => finish(status, output, errors),
         Err(stop) => {
             // Where the status is 2 it is told already why.
             if status < 2 {
                 tell_total(&stop, errors);
+                return 2;
             }
-            2
+            status
         }
     }
 }
@@ -137,38 +115,10 @@ fn write_counts<W: Sink>(
     ensures begun { OnErr result (AppendsBeginning (W.taken output.old) (W.taken output.new)
         (counts_table_of ending patterns.now numbers.now)) }
 {
-    let mut text = Vec::new(alloc);
-    put_counts(alloc, patterns, numbers, ending, &mut text)?;
-    Ok(write_whole(output, text.as_slice())?)
-}
-
-/// Puts together how often each pattern was found.
-fn put_counts(
-    alloc: Global,
-    patterns: &[&[u8]],
-    numbers: &[u8],
-    ending: u8,
-    text: &mut Vec<u8>,
-) -> Result<(), AllocError>
-    ensures put { OnOk result
-        (PutsBytes text.old text.new (counts_table_of ending patterns.now numbers.now)) }
-{
     let mut counts = zeros(alloc, patterns)?;
-    put_tallied(patterns, numbers, ending, counts.as_mut_slice(), text)
-}
-
-/// Counts these numbers of patterns, and puts a row for each pattern.
-fn put_tallied(
-    patterns: &[&[u8]],
-    numbers: &[u8],
-    ending: u8,
-    counts: &mut [u64],
-    text: &mut Vec<u8>,
-) -> Result<(), AllocError>
-    requires none { counts.old ≡ zeros_of (pieces_of patterns.now) }
-    ensures put { OnOk result
-        (PutsBytes text.old text.new (counts_table_of ending patterns.now numbers.now)) }
-{
-    tally(numbers, ending, counts);
-    put_rows(text, patterns, counts)
+    let tallied = counts.as_mut_slice();
+    tally(numbers, ending, tallied);
+    let mut text = Vec::new(alloc);
+    put_rows(&mut text, patterns, tallied)?;
+    Ok(write_whole(output, text.as_slice())?)
 }

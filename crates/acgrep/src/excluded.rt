@@ -1,10 +1,10 @@
 //! The rules of `--exclude-from`: each line of a file is a glob of files that are not searched.
 
-ghost use Rattle.std.specs.Prelude.{◌≡◌, ◌++◌, ◌∷◌, [], IfOk, IfSome, IsErr, IsNone, IsSome, OnOk, false, true};
+ghost use Rattle.std.specs.Prelude.{◌≡◌, ◌++◌, [], IfOk, IfSome, IsErr, IsNone, IsSome, OnOk, true};
 ghost use Rattle.acgrep.specs.Listed.{listed_bytes};
-ghost use Rattle.acgrep.specs.Loading.{AddsRuleText, ReadsText, ReadsTexts};
+ghost use Rattle.acgrep.specs.Loading.{IsTextOfRule, ReadsTexts};
 ghost use Rattle.acgrep.specs.Rules.{expanded, glob_of_line, is_from_file, is_space, rule_before, rule_said, rules_by, rules_said};
-ghost use Rattle.acgrep.specs.Told.{TellsCause, TellsOfRule, TellsOfRules};
+ghost use Rattle.acgrep.specs.Told.{TellsOfRules};
 
 use crate::arguments::Source;
 use crate::keys::{read_text, tell_source};
@@ -34,50 +34,19 @@ pub fn read_globs<F: Open, R: Read, E: Sink>(
 {
     let mut texts = Vec::new(alloc);
     for rule in rules {
-        if !read_rule(alloc, &mut texts, *rule, files, input, errors) {
+        let text = match text_of(alloc, *rule, files, input) {
+            Ok(text) => text,
+            Err(error) => {
+                tell_source(Source::File(rule.glob), &error, errors);
+                return None;
+            }
+        };
+        let Ok(()) = texts.push(text) else {
+            tell_memory(errors);
             return None;
-        }
+        };
     }
     Some(texts)
-}
-
-/// Adds the text of a rule to others, and answers whether it could be read. Where it could not that is told.
-fn read_rule<F: Open, R: Read, E: Sink>(
-    alloc: Global,
-    texts: &mut Vec<Vec<u8>>,
-    rule: Rule<'_>,
-    files: &F,
-    input: &mut R,
-    errors: &mut Errors<'_, E>,
-) -> bool
-    ensures read { result ≡ true → AddsRuleText F.Open R.Read files.now rule.entry
-        input.old input.new texts.old.items texts.new.items }
-    ensures silent { result ≡ true → errors.new ≡ errors.old }
-    ensures told { result ≡ false → TellsOfRule E.Sink (rule_said rule.entry) errors.old errors.new }
-{
-    match text_of(alloc, rule, files, input) {
-        Ok(text) => add_text(texts, text, errors),
-        Err(error) => {
-            tell_source(Source::File(rule.glob), &error, errors);
-            false
-        }
-    }
-}
-
-/// Adds a text to others, and answers whether there was memory for it. Where there was none that is told.
-fn add_text<E: Sink>(texts: &mut Vec<Vec<u8>>, text: Vec<u8>, errors: &mut Errors<'_, E>) -> bool
-    ensures added { result ≡ true
-        → listed_bytes texts.new.items ≡ listed_bytes texts.old.items ++ (text.items ∷ []) }
-    ensures silent { result ≡ true → errors.new ≡ errors.old }
-    ensures told { result ≡ false → TellsCause E.Sink errors.old errors.new }
-{
-    match texts.push(text) {
-        Ok(()) => true,
-        Err(_) => {
-            tell_memory(errors);
-            false
-        }
-    }
 }
 
 /// The text of the file of a rule.
@@ -87,8 +56,8 @@ fn text_of<F: Open, R: Read>(
     files: &F,
     input: &mut R,
 ) -> io::Result<Vec<u8>>
-    ensures read { IfOk result (λ text.
-        ReadsText F.Open R.Read files.now rule.entry input.old input.new text.items) }
+    ensures read { IfOk result (λ text. IsTextOfRule (F.holds files.now) (rule_said rule.entry)
+        (R.remaining input.old) (R.remaining input.new) text.items) }
     ensures file { IsErr result → is_from_file rule.entry.sense ≡ true }
 {
     let mut text = Vec::new(alloc);
@@ -119,14 +88,12 @@ pub fn expanded<'a>(
         rules_said all.items ≡ expanded (rules_said rules.now) (listed_bytes texts.now)) }
 {
     let mut all = Vec::new(alloc);
-    let mut rest = rules;
     let mut left = texts;
-    while let Some((text, others)) = left.split_first() {
-        if rest.is_empty() {
+    for rule in rules {
+        let Some((text, others)) = left.split_first() else {
             return Ok(all);
-        }
-        add_rules(&mut all, rest[0], text.as_slice())?;
-        rest = &rest[1..];
+        };
+        add_rules(&mut all, *rule, text.as_slice())?;
         left = others;
     }
     Ok(all)

@@ -3,12 +3,11 @@
 ghost use Rattle.std.specs.Prelude.{◌≡◌, ◌≤◌, ◌<◌, ◌⊎◌, [], IsTrue, OnOk, false, length, true};
 ghost use Rattle.std.specs.Io.KnownBytes.{Appends};
 ghost use Rattle.chromesquid.specs.Searcher.{IsBuiltFromSome};
-ghost use Rattle.acgrep.specs.Binary.{takes_text};
 ghost use Rattle.acgrep.specs.Filled.{ReadsOn};
 ghost use Rattle.acgrep.specs.Listed.{listed_bytes};
-ghost use Rattle.acgrep.specs.Told.{IsMessage, TellsIf, TellsOfEnd, TellsOfFiles, TellsOfOutcome, files_told};
-ghost use Rattle.acgrep.specs.Files.{AreFilesBegun, AreSearchedOr, BeginsName, BeginsTotal, EndsFile, IsNamed, LeavesInput, SearchesName, search_work, shown_name, total_if};
-ghost use Rattle.acgrep.specs.InTurn.{AreSeen, IfBroken, IfSearched, is_enough, nothing_seen, seen_after, status_by};
+ghost use Rattle.acgrep.specs.Told.{TellsOfEnd, TellsOfFiles, TellsOfOutcome};
+ghost use Rattle.acgrep.specs.Files.{AreFilesBegun, AreSearchedOr, BeginsName, BeginsTotal, EndsFile, IsNamed, LeavesInput, SearchesName, shown_name, total_if};
+ghost use Rattle.acgrep.specs.InTurn.{IfBroken, IfSearched, is_enough, nothing_seen, seen_after, status_by};
 ghost use Rattle.acgrep.specs.Printed.{Puts};
 ghost use Rattle.acgrep.specs.Searched.{BeginsFileBy, SearchesReaderBy};
 ghost use Rattle.acgrep.specs.Searchers.{ForQuery};
@@ -155,38 +154,6 @@ pub fn search_names<F: Open, R: Read, W: Sink, E: Sink>(
         return 2;
     };
     let mut state = State::new(query.job.alloc, query.job.first);
-    let seen = search_each(
-        query,
-        files,
-        names,
-        &mut buffer,
-        input,
-        &mut state,
-        output,
-        errors,
-    );
-    seen.status(query.job.shown)
-}
-
-/// Searches the files of these names, one after another, and answers what was seen.
-fn search_each<F: Open, R: Read, W: Sink, E: Sink>(
-    query: &Query<'_>,
-    files: &F,
-    names: &[Vec<u8>],
-    buffer: &mut Buffer,
-    input: &mut R,
-    state: &mut State,
-    output: &mut W,
-    errors: &mut Errors<'_, E>,
-) -> Seen
-    requires of { IsBuiltFromSome query.now.searcher.now }
-    ensures seen { ForQuery query.now (λ p.
-        AreSeen (search_work p query.now.job (F.holds files.now)) query.now.job.shown (listed_bytes names.now)
-        (R.remaining input.old) (R.remaining input.new)
-        (W.taken output.old) (W.taken output.new) result) }
-    ensures told { TellsIf E.Sink (IsMessage (files_told query.now.job.hushed query.now.job.label.now (listed_bytes names.now)))
-        query.now.job.hushed result.failed errors.old errors.new }
-{
     let mut seen = Seen::new();
     let mut rest = names;
     while goes_on(rest, seen) {
@@ -195,16 +162,16 @@ fn search_each<F: Open, R: Read, W: Sink, E: Sink>(
             files,
             rest[0].as_slice(),
             seen.selected,
-            buffer,
+            &mut buffer,
             input,
-            state,
+            &mut state,
             output,
             errors,
         );
         seen = seen.after(query.job.shown, outcome);
         rest = &rest[1..];
     }
-    seen
+    seen.status(query.job.shown)
 }
 
 /// Whether a further file is to be searched.

@@ -1,8 +1,9 @@
 //! The format by which a match is written: bytes, and fields in braces.
 
-ghost use Rattle.std.specs.Prelude.{◌≡◌, ◌≤◌, ◌<◌, ◌∷◌, ◌++◌, [], IfSome, OnOk, Some, length};
+ghost use Rattle.std.specs.List.{starts_with};
+ghost use Rattle.std.specs.Prelude.{◌≡◌, ◌≤◌, ◌<◌, ◌∷◌, ◌++◌, [], IfSome, IsTrue, OnOk, Some, drop, length, nat_eq};
 ghost use Rattle.acgrep.specs.Arguments.{FailsBy};
-ghost use Rattle.acgrep.specs.Formats.{format_text, front_at, front_by, format_pieces, plain_front, up_to_brace};
+ghost use Rattle.acgrep.specs.Formats.{format_pieces, format_text, front_at, front_by, piece_text, plain_front, up_to_brace};
 ghost use Rattle.acgrep.specs.Mistakes.{TellsBy};
 ghost use Rattle.acgrep.specs.Told.{format_parts};
 
@@ -73,31 +74,43 @@ fn front_of(rest: &[u8]) -> Option<Front>
     ensures front { result ≡ front_by rest.now }
     ensures some { IfSome result (λ front. 0 < front.len) }
     ensures within { IfSome result (λ front. front.len ≤ length rest.now) }
+    ensures taken { IfSome result (λ front. piece_text front.piece ++ drop front.len rest.now ≡ rest.now) }
 {
-    if rest.starts_with(b"{{") {
+    if begins(rest, b"{{") {
         taking(Piece::Byte(b'{'), 2)
-    } else if rest.starts_with(b"}}") {
+    } else if begins(rest, b"}}") {
         taking(Piece::Byte(b'}'), 2)
-    } else if rest.starts_with(b"{path}") {
+    } else if begins(rest, b"{path}") {
         taking(Piece::Path, 6)
-    } else if rest.starts_with(b"{line}") {
+    } else if begins(rest, b"{line}") {
         taking(Piece::LineNumber, 6)
-    } else if rest.starts_with(b"{start}") {
+    } else if begins(rest, b"{start}") {
         taking(Piece::Start, 7)
-    } else if rest.starts_with(b"{end}") {
+    } else if begins(rest, b"{end}") {
         taking(Piece::End, 5)
-    } else if rest.starts_with(b"{pattern}") {
+    } else if begins(rest, b"{pattern}") {
         taking(Piece::PatternNumber, 9)
-    } else if rest.starts_with(b"{text}") {
+    } else if begins(rest, b"{text}") {
         taking(Piece::Found, 6)
     } else {
         plain_front(rest[0])
     }
 }
 
+/// Whether a format begins with a text.
+fn begins(rest: &[u8], text: &[u8]) -> bool
+    ensures begins { result ≡ starts_with nat_eq rest.now text.now }
+    ensures within { IsTrue result → length text.now ≤ length rest.now }
+    ensures cut { IsTrue result → text.now ++ drop (length text.now) rest.now ≡ rest.now }
+{
+    rest.starts_with(text)
+}
+
 /// The piece that a byte is: none where it is a brace.
 fn plain_front(byte: u8) -> Option<Front>
     ensures front { result ≡ plain_front byte }
+    ensures text { IfSome result (λ front. piece_text front.piece ≡ byte ∷ []) }
+    ensures one { IfSome result (λ front. front.len ≡ 1) }
 {
     if byte == b'{' || byte == b'}' {
         return None;

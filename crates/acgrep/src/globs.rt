@@ -3,7 +3,7 @@
 //! `*` stands for any bytes, `?` for one, and a set in brackets for one of its bytes, or behind `!` or `^` for one that is none of
 //! them. A backslash makes the byte behind it stand for itself. A bracket that nothing closes stands for itself too.
 
-ghost use Rattle.std.specs.Prelude.{◌≡◌, ◌≤◌, [], IfSome, length};
+ghost use Rattle.std.specs.Prelude.{◌≡◌, ◌≤◌, IfSome, length};
 ghost use Rattle.acgrep.specs.Globs.{any_suffix, base_name, begins_part, closing, fits, front_fits, has_behind, has_in_brackets, has_in_set, in_item, is_range, item_len, negation, operand_fits, own_len, part_len, stands_for, value_at};
 
 /// What a name comes to where it is read along a glob, up to the first star.
@@ -44,14 +44,8 @@ fn fits_some_suffix(glob: &[u8], name: &[u8]) -> bool
             }
         }
     }
-    are_stars(rest)
-}
-
-/// Whether there are stars alone: those fit an empty name.
-fn are_stars(glob: &[u8]) -> bool
-    ensures stars { result ≡ fits 0 glob.now [] }
-{
-    for byte in glob {
+    // Stars alone fit an empty name.
+    for byte in rest {
         if *byte != b'*' {
             return false;
         }

@@ -1,15 +1,14 @@
 //! Searching what a reader gives where no line from the first on that holds a zero byte is to be written: such bytes would not be lines
 //! to read, and a terminal may take them for commands.
 
-ghost use Rattle.std.specs.Prelude.{◌≡◌, [], OnErr, OnOk, true};
+ghost use Rattle.std.specs.Prelude.{◌≡◌, OnOk, true};
 ghost use Rattle.std.specs.Io.KnownBytes.{Appends};
 ghost use Rattle.aho_devices.specs.Counts.{AppendsBeginning};
 ghost use Rattle.chromesquid.specs.Searcher.{IsBuiltFromSome};
 ghost use Rattle.acgrep.specs.Binary.{binary_by, is_guarded};
 ghost use Rattle.acgrep.specs.Filled.{ReadsOn};
 ghost use Rattle.acgrep.specs.Printed.{Puts};
-ghost use Rattle.acgrep.specs.Searched.{BeginsGuardedBy, FindsBy, SearchesGuardedBy};
-ghost use Rattle.acgrep.specs.Searchers.{ForQuery};
+ghost use Rattle.acgrep.specs.Searched.{BeginsGuardedBy, SearchesGuardedBy};
 
 use crate::buffer::Buffer;
 use crate::failure::Stop;
@@ -48,28 +47,7 @@ pub fn search_guarded<R: Read, W: Sink>(
     if query.job.is_full(state.selected) {
         return Ok(any);
     }
-    if finds(query, buffer, input, state, output)? {
-        write_binary(&query.job.style, &mut state.page, output)?;
-        return Ok(true);
-    }
-    Ok(any)
-}
-
-/// Whether a line is selected of those that are there or come. Nothing is written.
-fn finds<R: Read, W: Sink>(
-    query: &Query<'_>,
-    buffer: &mut Buffer,
-    input: &mut R,
-    state: &mut State,
-    output: &mut W,
-) -> Result<bool, Stop>
-    requires of { IsBuiltFromSome query.now.searcher.now }
-    ensures found { FindsBy R.Read W.Sink query.now
-        buffer.old input.old input.new output.old output.new result }
-    ensures unwritten { ForQuery query.now (λ p.
-        OnErr result (Appends (W.taken output.old) (W.taken output.new) [])) }
-    ensures reads { ReadsOn (R.remaining input.old) (R.remaining input.new) }
-{
+    // Of the other lines nothing is written.
     let seeking = query.job.seeking();
     state.begin(&seeking);
     let sought = Query {
@@ -77,7 +55,12 @@ fn finds<R: Read, W: Sink>(
         job: seeking,
     };
     search_behind(&sought, false, buffer, input, state, output)?;
-    Ok(state.selected > 0)
+    let found = state.selected > 0;
+    if found {
+        write_binary(&query.job.style, &mut state.page, output)?;
+        return Ok(true);
+    }
+    Ok(any)
 }
 
 /// Writes that a line with a zero byte, or one behind it, is selected. It is put together first.

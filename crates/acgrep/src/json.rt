@@ -71,7 +71,8 @@ pub fn put_bytes<W: Write>(output: &mut W, bytes: &[u8]) -> io::Result<()>
         return put_escaped(output, bytes);
     }
     output.write_all(b",\"bytes\":\"")?;
-    write!(output, "{}", Base64Display::new(bytes, &STANDARD))
+    write!(output, "{}", Base64Display::new(bytes, &STANDARD))?;
+    Ok(())
 }
 
 /// Whether bytes are UTF-8.

@@ -2,12 +2,13 @@
 
 ghost use Rattle.std.specs.Prelude.{◌≡◌, ◌≤◌, IfOk, IfSome, IsNone, IsSome, OnOk, length};
 ghost use Rattle.std.specs.Io.KnownBytes.{Keeps};
-ghost use Rattle.acgrep.specs.Lines.{EndsLine};
+ghost use Rattle.acgrep.specs.Gathered.{AddsGiven};
+ghost use Rattle.acgrep.specs.Lines.{EndsLine, lines};
 ghost use Rattle.acgrep.specs.Arguments.{origin_of};
 ghost use Rattle.tool_parts.specs.Names.{is_input};
-ghost use Rattle.acgrep.specs.Loading.{AddsFile, AddsSource, ReadsSources, file_origin};
+ghost use Rattle.acgrep.specs.Loading.{AddsFile, ReadsSources};
 ghost use Rattle.acgrep.specs.Origins.{IsFoundIn, begin_of, piece_at};
-ghost use Rattle.acgrep.specs.Runs.{origins_of};
+ghost use Rattle.acgrep.specs.Runs.{AreOf, origins_of};
 ghost use Rattle.acgrep.specs.Told.{MayName, TellsOfFile, TellsOfSources, source_names};
 
 use crate::arguments::Source;
@@ -71,32 +72,18 @@ fn read_source<F: Open, R: Read>(
     input: &mut R,
 ) -> io::Result<()>
     requires whole { EndsLine 10 keys.old.text.items }
-    ensures added { OnOk result (AddsSource F.Open R.Read files.now
-        (origin_of source.entry) input.old input.new keys.old keys.new) }
+    ensures added { OnOk result (AddsGiven (AreOf (F.holds files.now) (origin_of source.entry)
+        (R.remaining input.old) (R.remaining input.new)) (lines 10 keys.old.text.items) (lines 10 keys.new.text.items)) }
     ensures ends { OnOk result (EndsLine 10 keys.new.text.items) }
 {
     match source {
         Source::Text(text) => Ok(keys.add_text(text)?),
-        Source::File(name) => read_file(keys, name, files, input),
+        Source::File(name) => {
+            keys.begin()?;
+            read_text(&mut keys.text, name, files, input)?;
+            Ok(keys.end_file()?)
+        }
     }
-}
-
-/// Adds the patterns of a file.
-fn read_file<F: Open, R: Read>(
-    keys: &mut Keys,
-    name: &[u8],
-    files: &F,
-    input: &mut R,
-) -> io::Result<()>
-    requires whole { EndsLine 10 keys.old.text.items }
-    ensures added { OnOk result (AddsSource F.Open R.Read files.now
-        (file_origin name.now) input.old input.new keys.old keys.new) }
-    ensures ends { OnOk result (EndsLine 10 keys.new.text.items) }
-{
-    keys.begin()?;
-    read_text(&mut keys.text, name, files, input)?;
-    keys.end_file()?;
-    Ok(())
 }
 
 /// Adds the bytes of a file.

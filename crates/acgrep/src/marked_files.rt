@@ -6,7 +6,7 @@ ghost use Rattle.tool_parts.specs.Names.{is_input};
 ghost use Rattle.tool_parts.specs.Telling.{TellsSome};
 ghost use Rattle.acgrep.specs.InTurn.{AreSeen};
 ghost use Rattle.acgrep.specs.Listed.{listed_bytes};
-ghost use Rattle.acgrep.specs.MarkedFiles.{ComesOfName, IfMarks, IsMarking, MarksBytes, SameMarking, mark_work};
+ghost use Rattle.acgrep.specs.MarkedFiles.{ComesMarked, ComesOfName, IfMarks, IsMarking, SameMarking, mark_work};
 ghost use Rattle.acgrep.specs.Told.{TellsIf, TellsOutcome};
 ghost use Rattle.acgrep.specs.ToldByRules.{IsMarkTold};
 
@@ -135,7 +135,8 @@ fn mark_reader<A: Automaton, R: Read + Drop, W: Sink, E: Sink>(
 ) -> Outcome
     requires ready { IsMarking A.Automaton marking.old }
     ensures comes { (known : Option (List ℕ)) → Keeps known (R.remaining reader)
-        → MarksBytes A.Automaton W.Sink marking.old job.now known output.old output.new result }
+        → IfMarks A.Automaton marking.old.cover (λ covering.
+        ComesMarked job.now covering known (W.taken output.old) (W.taken output.new) result) }
     ensures read { marking.new.input_read ≡ marking.old.input_read }
     ensures told { TellsOutcome E.Sink IsMarkTold job.now.hushed result errors.old errors.new }
     ensures same { SameMarking marking.old marking.new }

@@ -1,9 +1,9 @@
 //! What is written of a line that rules mark.
 
 ghost use Rattle.std.specs.Prelude.{◌≡◌};
-ghost use Rattle.acgrep.specs.Marked.{marked_shown, rule_id, ruled_json, ruled_object, ruled_objects};
+ghost use Rattle.acgrep.specs.Marked.{marked_shown, rule_id, ruled_json, ruled_object};
 ghost use Rattle.acgrep.specs.Objects.{fields_told};
-ghost use Rattle.acgrep.specs.Printed.{Puts, matches_by};
+ghost use Rattle.acgrep.specs.Printed.{Puts};
 
 use crate::fields::{Fields, fields_of};
 use crate::json::{put_bytes, put_escaped, put_front};
@@ -29,45 +29,20 @@ pub fn put_marked<W: Write>(
 {
     match shown {
         Shown::Lines => put_line(output, style, place, line),
-        Shown::Matches => put_runs(output, style, place, line, runs),
-        Shown::Objects => put_objects(output, style, rules, place, line, runs),
+        Shown::Matches => {
+            for run in runs {
+                put_match(output, style, place, line, run)?;
+            }
+            Ok(())
+        }
+        Shown::Objects => {
+            for found in runs {
+                put_ruled_object(output, style, rules, place, line, found)?;
+            }
+            Ok(())
+        }
         Shown::Count | Shown::Names | Shown::Lacking | Shown::Nothing => Ok(()),
     }
-}
-
-/// Writes each run.
-fn put_runs<W: Write>(
-    output: &mut W,
-    style: &Style<'_>,
-    place: Place,
-    line: &[u8],
-    runs: &[Match],
-) -> io::Result<()>
-    ensures written { Puts W.Write output.old output.new result
-        (matches_by style.now place line.now runs.now) }
-{
-    for run in runs {
-        put_match(output, style, place, line, run)?;
-    }
-    Ok(())
-}
-
-/// Writes each run as an object.
-fn put_objects<W: Write>(
-    output: &mut W,
-    style: &Style<'_>,
-    rules: &[Rule],
-    place: Place,
-    line: &[u8],
-    runs: &[Match],
-) -> io::Result<()>
-    ensures written { Puts W.Write output.old output.new result
-        (ruled_objects style.now rules.now place line.now runs.now) }
-{
-    for run in runs {
-        put_ruled_object(output, style, rules, place, line, run)?;
-    }
-    Ok(())
 }
 
 /// Writes a run as an object.

@@ -256,14 +256,13 @@ pub fn put_up_to<W: Write>(
     ensures written { Puts W.Write output.old output.new result
         (colored_by style.now line.now at found.now) }
 {
-    let start = found.start();
-    let end = found.end();
-    if end == start {
+    if found.start() == found.end() {
         return Ok(at);
     }
-    output.write_all(part(line, at, start))?;
-    put_painted(output, style, match_code(style), part(line, start, end))?;
-    Ok(end)
+    output.write_all(part(line, at, found.start()))?;
+    let bytes = part(line, found.start(), found.end());
+    put_painted(output, style, match_code(style), bytes)?;
+    Ok(found.end())
 }
 
 /// Writes a match with what stands before it, if it is not empty.

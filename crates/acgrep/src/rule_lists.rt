@@ -7,7 +7,7 @@ ghost use Rattle.tool_parts.specs.Names.{name_bytes};
 ghost use Rattle.secret_rules.specs.Rules.{AreSound};
 ghost use Rattle.secret_rules.specs.Tables.{TellsRules};
 ghost use Rattle.acgrep.specs.Gathered.{AddsGiven};
-ghost use Rattle.acgrep.specs.RunsByRules.{AreAllRules, AreNamedRules, is_own};
+ghost use Rattle.acgrep.specs.RunsByRules.{AreAllRules, AreNamedRules};
 
 use crate::arguments::Source;
 use crate::keys::{read_text, tell_source};
@@ -69,7 +69,7 @@ fn add_rules<F: Open, R: Read, E: Sink>(
     ensures silent { result ≡ true → errors.new ≡ errors.old }
     ensures told { result ≡ false → TellsSome E.Sink IsMarkTold errors.old errors.new }
 {
-    if is_own(name) {
+    if name == OWN {
         return add_text(alloc, rules, name, BUILTIN.as_bytes(), errors);
     }
     let mut text = Vec::new(alloc);
@@ -80,13 +80,6 @@ fn add_rules<F: Open, R: Read, E: Sink>(
             false
         }
     }
-}
-
-/// Whether the name stands for the rules of the program.
-fn is_own(name: &[u8]) -> bool
-    ensures own { result ≡ is_own name.now }
-{
-    name == OWN
 }
 
 /// Adds the rules of the text of a file, and answers whether there are some. Where there are none that is told.

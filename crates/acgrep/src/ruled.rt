@@ -1,16 +1,17 @@
 //! A call by rules: the lines are selected in which they mark something.
 
-ghost use Rattle.std.specs.Prelude.{◌≡◌, ◌<◌, ◌≤◌, IfOk, false};
+ghost use Rattle.std.specs.Prelude.{◌≡◌, ◌<◌, ◌≤◌, IfOk, false, true};
+ghost use Rattle.tool_parts.specs.Names.{name_bytes};
 ghost use Rattle.tool_parts.specs.Telling.{TellsBytes};
 ghost use Rattle.secret_rules.specs.Covering.{covering_by};
 ghost use Rattle.secret_rules.specs.Ready.{CanCoverLines, rules_of};
 ghost use Rattle.acgrep.specs.Arguments.{said, shown_by};
 ghost use Rattle.acgrep.specs.Folders.{known_by};
-ghost use Rattle.acgrep.specs.MarkedFiles.{IsMarking, MarksBy};
+ghost use Rattle.acgrep.specs.MarkedFiles.{IfMarks, IsMarking, MarksBy};
 ghost use Rattle.acgrep.specs.Told.{TellsStatus};
 ghost use Rattle.acgrep.specs.ToldByRules.{IsMarkTold};
 ghost use Rattle.acgrep.specs.declared.options.Shown.TheVariants.{Nothing};
-ghost use Rattle.acgrep.specs.RunsByRules.{BeginsMarking, MarksAsked, MarksReached, MayBeginAsked, MayBeginMarks, SearchesMarking, unwritten_line, long_message, most_said, no_patterns};
+ghost use Rattle.acgrep.specs.RunsByRules.{MarksAsked, MayBeginAsked, MayReachMarked, ReachesMarked, long_message, most_said, no_patterns, unwritten_line};
 
 use crate::arguments::Given;
 use crate::below::{are_several, reach, status_below};
@@ -22,6 +23,7 @@ use crate::marked_files::{Marking, mark_each};
 use crate::open::Open;
 use crate::options::Flags;
 use crate::rule_lists::{read_rules, tell_all};
+use crate::run::finish;
 use crate::tell::PROGRAM;
 use chromesquid::{AhoCorasick, Automaton, BuildError, Sink};
 use rule_files::{MAX_DIGITS, digits_of};
@@ -36,7 +38,7 @@ const USUAL_MOST: u64 = 1024 * 1024;
 /// How many rules there may be at most.
 const MOST_RULES: usize = 2_147_483_646;
 
-/// Reads the rules, and searches by them.
+/// Reads the rules, searches by them, and tells how many lines are too long.
 pub fn mark_asked<F: Open + Folders, R: Read, W: Sink, E: Sink>(
     alloc: Global,
     given: &Given<'_>,
@@ -52,34 +54,14 @@ pub fn mark_asked<F: Open + Folders, R: Read, W: Sink, E: Sink>(
     ensures begins { MayBeginAsked (known_by F.Open F.Folders files.now) screen.now (said given.now)
         (R.remaining input.old) (W.taken output.old) (W.taken output.new) }
     ensures told { TellsStatus E.Sink IsMarkTold given.now.flags.no_messages Nothing result errors.old errors.new }
+    ensures flushed { result < 2 → W.flushed output.new ≡ true }
 {
     let names = given.rule_files.as_slice();
     let Some(rules) = read_rules(alloc, names, files, input, errors) else {
         return 2;
     };
-    search_by(alloc, given, &rules, screen, files, input, output, errors)
-}
-
-/// Searches by these rules, and tells how many lines are too long.
-fn search_by<F: Open + Folders, R: Read, W: Sink, E: Sink>(
-    alloc: Global,
-    given: &Given<'_>,
-    rules: &Rules,
-    screen: &Screen<'_>,
-    files: &F,
-    input: &mut R,
-    output: &mut W,
-    errors: &mut Errors<'_, E>,
-) -> u8
-    ensures bound { result ≤ 2 }
-    ensures searches { result < 2 → MarksReached (known_by F.Open F.Folders files.now) screen.now (said given.now) rules.now
-        (R.remaining input.old) (W.taken output.old) (W.taken output.new) result }
-    ensures begins { MayBeginMarks (known_by F.Open F.Folders files.now) screen.now (said given.now) rules.now
-        (R.remaining input.old) (W.taken output.old) (W.taken output.new) }
-    ensures told { TellsStatus E.Sink IsMarkTold given.now.flags.no_messages Nothing result errors.old errors.new }
-{
     let most = most_of(&given.flags);
-    let cover = match cover_of(alloc, rules, most) {
+    let cover = match cover_of(alloc, &rules, most) {
         Ok(cover) => cover,
         Err(error) => {
             tell_all(&error, errors);
@@ -92,16 +74,14 @@ fn search_by<F: Open + Folders, R: Read, W: Sink, E: Sink>(
         input_read: false,
         long: 0,
     };
-    let operands = Files {
-        alloc,
-        names: given.operands.as_slice(),
-        files,
-    };
+    let operands = given.operands.as_slice();
     let status = mark_operands(
+        alloc,
         &mut marking,
         given,
         screen,
-        &operands,
+        operands,
+        files,
         input,
         output,
         errors,
@@ -143,10 +123,12 @@ fn cover_of<'r, 'a>(
 
 /// Searches the files that these operands name, with those below folders where that is asked for.
 fn mark_operands<A: Automaton, F: Open + Folders, R: Read, W: Sink, E: Sink>(
+    alloc: Global,
     marking: &mut Marking<'_, '_, A>,
     given: &Given<'_>,
     screen: &Screen<'_>,
-    operands: &Files<'_, F>,
+    names: &[&[u8]],
+    files: &F,
     input: &mut R,
     output: &mut W,
     errors: &mut Errors<'_, E>,
@@ -154,23 +136,34 @@ fn mark_operands<A: Automaton, F: Open + Folders, R: Read, W: Sink, E: Sink>(
     requires ready { IsMarking A.Automaton marking.old }
     requires unread { marking.old.input_read ≡ false }
     ensures bound { result ≤ 2 }
-    ensures searched { SearchesMarking F.Open F.Folders R.Read W.Sink A.Automaton operands.now.files.now
-        marking.old screen.now (said given.now) operands.now.names.now input.old output.old output.new result }
-    ensures begun { BeginsMarking F.Open F.Folders R.Read W.Sink A.Automaton operands.now.files.now
-        marking.old screen.now (said given.now) operands.now.names.now input.old output.old output.new }
+    ensures searched { IfMarks A.Automaton marking.old.cover (λ covering. result < 2
+        → ReachesMarked (known_by F.Open F.Folders files.now) screen.now (said given.now) covering
+        (name_bytes names.now) (R.remaining input.old) (W.taken output.old) (W.taken output.new) result) }
+    ensures begun { IfMarks A.Automaton marking.old.cover (λ covering.
+        MayReachMarked (known_by F.Open F.Folders files.now) screen.now (said given.now) covering
+        (name_bytes names.now) (R.remaining input.old) (W.taken output.old) (W.taken output.new)) }
     ensures told { TellsStatus E.Sink IsMarkTold given.now.flags.no_messages (shown_by given.now.flags)
         result errors.old errors.new }
+    ensures flushed { result < 2 → W.flushed output.new ≡ true }
 {
-    let Some(found) = reach(given, operands, errors) else {
+    let operands = Files {
+        alloc,
+        names,
+        files,
+    };
+    let Some(found) = reach(given, &operands, errors) else {
         return 2;
     };
-    let names = found.names.as_slice();
-    let several = are_several(&given.flags, operands.names, names);
-    let job = job_of(operands.alloc, given, screen, several);
-    let files = operands.files;
-    let seen = mark_each(marking, &job, files, names, input, output, errors);
+    let listed = found.names.as_slice();
+    let several = are_several(&given.flags, names, listed);
+    let job = job_of(alloc, given, screen, several);
+    let seen = mark_each(marking, &job, files, listed, input, output, errors);
     let status = seen.status(job.shown);
-    status_below(&given.flags, found.unread.as_slice(), status)
+    finish(
+        status_below(&given.flags, found.unread.as_slice(), status),
+        output,
+        errors,
+    )
 }
 
 /// Tells how many lines have more bytes than this, if one has.

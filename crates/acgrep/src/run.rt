@@ -1,6 +1,6 @@
 //! A call over its arguments, files and streams.
 
-ghost use Rattle.std.specs.Prelude.{◌≡◌, ◌≤◌, ◌<◌, ◌⊎◌, [], IfSome, IsTrue, None, Some, false, true};
+ghost use Rattle.std.specs.Prelude.{◌≡◌, ◌≤◌, ◌<◌, [], IfSome, IsTrue, None, Some, false, true};
 ghost use Rattle.std.specs.Io.KnownBytes.{Appends, Keeps};
 ghost use Rattle.aho_devices.specs.Counts.{AppendsBeginning};
 ghost use Rattle.aho_core.specs.Replacement.{pieces_of};
@@ -8,13 +8,13 @@ ghost use Rattle.acgrep.specs.Listed.{listed_bytes};
 ghost use Rattle.acgrep.specs.Arguments.{said, said_by};
 ghost use Rattle.acgrep.specs.Beside.{unfit_said};
 ghost use Rattle.tool_parts.specs.Names.{name_bytes};
-ghost use Rattle.tool_parts.specs.Telling.{Tells, TellsBytes, TellsSome};
-ghost use Rattle.acgrep.specs.Told.{MaySaid, MayTell, TellsCause, TellsOfCall, TellsOfSaid, TellsOfSearch, TellsOfText, IsLoud, TellsRefusal};
+ghost use Rattle.tool_parts.specs.Telling.{Tells, TellsSome};
+ghost use Rattle.acgrep.specs.Told.{IsLoud, MaySaid, MayTell, StaysOrFails, TellsOfCall, TellsOfSaid, TellsOfSearch, TellsRefusal};
 ghost use Rattle.acgrep.specs.ToldByRules.{IsMarkTold, TellsByRules};
 ghost use Rattle.acgrep.specs.Mistakes.{TellsLacking, TellsMistake, TellsNoPattern, TellsRefused, TellsUnfit};
 ghost use Rattle.acgrep.specs.Folders.{known_by, tree_of};
-ghost use Rattle.acgrep.specs.Runs.{AsksAny, AsksByRules, AsksToSearch, BeginsNoMatch, BeginsSaid, BeginsSearch, BeginsFor, GivesNone, IfSaid, IsByPatterns, Searches, SearchesFor, SearchesRuled, SearchesSaid, WritesNoMatch, are_empty, kind_sought, knows_none, lists_finds, origins_of, selects_none, status_told, takes_any, words_sought};
-ghost use Rattle.acgrep.specs.RunsByRules.{BeginsByRules, MarksRuled, SearchesByRules};
+ghost use Rattle.acgrep.specs.Runs.{AsksAny, AsksByRules, AsksToSearch, BeginsNoMatch, BeginsSaid, BeginsSearch, BeginsFor, GivesNone, IfSaid, IsByPatterns, Searches, SearchesFor, SearchesSaid, WritesNoMatch, are_empty, kind_sought, knows_none, lists_finds, origins_of, selects_none, status_told, takes_any, words_sought};
+ghost use Rattle.acgrep.specs.RunsByRules.{BeginsByRules, SearchesByRules};
 
 use crate::arguments::{Given, Source, parse, with_rules};
 use crate::beside::{tell_unfit, unfit_of};
@@ -112,13 +112,10 @@ pub fn run<F: Open + Folders, R: Read, W: Sink, E: Sink>(
     ensures flushed { result < 2 → W.flushed output.new ≡ true }
 {
     match parse(alloc, arguments) {
-        Ok(given) => {
-            let status = answer(alloc, given, screen, files, input, output, errors);
-            finish(status, output, errors)
-        }
+        Ok(given) => answer(alloc, given, screen, files, input, output, errors),
         Err(refusal) => {
             tell_refused(refusal, errors);
-            finish(2, output, errors)
+            2
         }
     }
 }
@@ -144,13 +141,10 @@ pub fn refuse<E: Sink>(errors: &mut Errors<'_, E>) -> u8
 }
 
 /// Hands on what the output keeps, and answers the status.
-fn finish<W: Sink, E: Sink>(status: u8, output: &mut W, errors: &mut Errors<'_, E>) -> u8
-    ensures status { (result ≡ status) ⊎ (result ≡ 2) }
+pub fn finish<W: Sink, E: Sink>(status: u8, output: &mut W, errors: &mut Errors<'_, E>) -> u8
     ensures kept { Keeps (W.taken output.old) (W.taken output.new) }
     ensures flushed { result < 2 → W.flushed output.new ≡ true }
-    ensures silent { result < 2 → errors.new ≡ errors.old }
-    ensures told_before { 2 ≤ status → errors.new ≡ errors.old }
-    ensures told { status < 2 → result ≡ 2 → TellsCause E.Sink errors.old errors.new }
+    ensures told { StaysOrFails E.Sink status result errors.old errors.new }
 {
     match output.flush() {
         Ok(()) => status,
@@ -158,8 +152,9 @@ fn finish<W: Sink, E: Sink>(status: u8, output: &mut W, errors: &mut Errors<'_, 
             // Where the status is 2 it is told already why.
             if status < 2 {
                 tell_write(errors);
+                return 2;
             }
-            2
+            status
         }
     }
 }
@@ -177,7 +172,7 @@ fn answer<F: Open + Folders, R: Read, W: Sink, E: Sink>(
     ensures bound { result ≤ 2 }
     ensures patternless { AsksToSearch (said given.entry) → GivesNone (said given.entry) → result ≡ 2 }
     ensures lacking { AsksToSearch (said given.entry) → GivesNone (said given.entry)
-        → TellsNoPattern E.Sink errors.old errors.new }
+        → TellsLacking E.Sink errors.old errors.new }
     ensures searches { AsksToSearch (said given.entry) → result < 2
         → Searches (known_by F.Open F.Folders files.now) screen.now (said given.entry)
         (R.remaining input.old) (R.remaining input.new)
@@ -187,7 +182,7 @@ fn answer<F: Open + Folders, R: Read, W: Sink, E: Sink>(
         (R.remaining input.old) (W.taken output.old) (W.taken output.new) }
     ensures unfit { AsksAny (said given.entry) → IfSome (unfit_said (said given.entry)) (λ line. result ≡ 2) }
     ensures unfitting { AsksAny (said given.entry) → IfSome (unfit_said (said given.entry))
-        (TellsBytes E.Sink errors.old errors.new) }
+        (λ line. TellsUnfit E.Sink line errors.old errors.new) }
     ensures marks { AsksByRules (said given.entry) → result < 2
         → SearchesByRules (known_by F.Open F.Folders files.now) screen.now (said given.entry)
         (R.remaining input.old) (W.taken output.old) (W.taken output.new) result }
@@ -199,6 +194,7 @@ fn answer<F: Open + Folders, R: Read, W: Sink, E: Sink>(
     ensures told { IsByPatterns (Some (said given.entry))
         → TellsOfCall E.Sink (known_by F.Open F.Folders files.now) (R.remaining input.old)
         (said given.entry) result errors.old errors.new }
+    ensures flushed { result < 2 → W.flushed output.new ≡ true }
 {
     if given.flags.version {
         return write_text(VERSION, output, errors);
@@ -210,48 +206,11 @@ fn answer<F: Open + Folders, R: Read, W: Sink, E: Sink>(
         tell_unfit(errors, unfit);
         return 2;
     }
-    let no_match_ok = given.flags.no_match_ok;
-    let status = search_ruled(alloc, given, screen, files, input, output, errors);
-    status_told(no_match_ok, status)
-}
-
-/// Does what right arguments ask for, by patterns or by rules. The globs of files that are not searched are read first.
-fn search_ruled<F: Open + Folders, R: Read, W: Sink, E: Sink>(
-    alloc: Global,
-    given: Given<'_>,
-    screen: &Screen<'_>,
-    files: &F,
-    input: &mut R,
-    output: &mut W,
-    errors: &mut Errors<'_, E>,
-) -> u8
-    ensures bound { result ≤ 2 }
-    ensures patternless { given.entry.flags.by_rules ≡ false → GivesNone (said given.entry) → result ≡ 2 }
-    ensures lacking { given.entry.flags.by_rules ≡ false → GivesNone (said given.entry)
-        → TellsNoPattern E.Sink errors.old errors.new }
-    ensures searches { given.entry.flags.by_rules ≡ false → result < 2
-        → SearchesRuled (known_by F.Open F.Folders files.now) screen.now (said given.entry)
-        (R.remaining input.old) (R.remaining input.new)
-        (W.taken output.old) (W.taken output.new) result }
-    ensures begins { given.entry.flags.by_rules ≡ false
-        → BeginsSearch (known_by F.Open F.Folders files.now) screen.now (said given.entry)
-        (R.remaining input.old) (W.taken output.old) (W.taken output.new) }
-    ensures told { given.entry.flags.by_rules ≡ false
-        → TellsOfCall E.Sink (known_by F.Open F.Folders files.now) (R.remaining input.old)
-        (said given.entry) result errors.old errors.new }
-    ensures marks { given.entry.flags.by_rules ≡ true → result < 2
-        → MarksRuled (known_by F.Open F.Folders files.now) screen.now (said given.entry)
-        (R.remaining input.old) (W.taken output.old) (W.taken output.new) result }
-    ensures begins_marks { given.entry.flags.by_rules ≡ true
-        → BeginsByRules (known_by F.Open F.Folders files.now) screen.now (said given.entry)
-        (R.remaining input.old) (W.taken output.old) (W.taken output.new) }
-    ensures told_marks { given.entry.flags.by_rules ≡ true
-        → TellsByRules E.Sink (said given.entry) result errors.old errors.new }
-{
     if lacks_pattern(&given) {
         tell_wrong(errors, Wrong::NoPattern);
         return 2;
     }
+    // The globs of files that are not searched are read first.
     let rules = given.rules.as_slice();
     let Some(texts) = read_globs(alloc, rules, files, input, errors) else {
         return 2;
@@ -260,12 +219,15 @@ fn search_ruled<F: Open + Folders, R: Read, W: Sink, E: Sink>(
         tell_memory(errors);
         return 2;
     };
+    let no_match_ok = given.flags.no_match_ok;
     let by_rules = given.flags.by_rules;
     let ruled = with_rules(given, all);
     if by_rules {
-        return mark_asked(alloc, &ruled, screen, files, input, output, errors);
+        let status = mark_asked(alloc, &ruled, screen, files, input, output, errors);
+        return status_told(no_match_ok, status);
     }
-    search_asked(alloc, &ruled, screen, files, input, output, errors)
+    let status = search_asked(alloc, &ruled, screen, files, input, output, errors);
+    status_told(no_match_ok, status)
 }
 
 /// Whether neither an option nor an operand gives a pattern, and lines are not selected by rules.
@@ -280,6 +242,9 @@ fn lacks_pattern(given: &Given<'_>) -> bool
 /// The status of a search, by whether finding nothing is no failure.
 fn status_told(no_match_ok: bool, status: u8) -> u8
     ensures told { result ≡ status_told no_match_ok status }
+    ensures bound { status ≤ 2 → result ≤ 2 }
+    ensures low { result < 2 → status < 2 }
+    ensures failed { result ≡ 2 → status ≡ 2 }
 {
     if no_match_ok && status == 1 {
         return 0;
@@ -307,6 +272,7 @@ fn search_asked<F: Open + Folders, R: Read, W: Sink, E: Sink>(
     ensures begins { BeginsSaid (known_by F.Open F.Folders files.now) screen.now (said given.now)
         (R.remaining input.old) (W.taken output.old) (W.taken output.new) }
     ensures told { TellsOfSaid E.Sink (tree_of F.Folders files.now) (said given.now) result errors.old errors.new }
+    ensures flushed { result < 2 → W.flushed output.new ≡ true }
 {
     let sources = given.sources.as_slice();
     let operands = given.operands.as_slice();
@@ -331,16 +297,14 @@ fn search_asked<F: Open + Folders, R: Read, W: Sink, E: Sink>(
 
 /// Writes a text, and answers the status.
 fn write_text<W: Sink, E: Sink>(text: &[u8], output: &mut W, errors: &mut Errors<'_, E>) -> u8
-    ensures bound { result ≤ 2 }
-    ensures status { (result ≡ 0) ⊎ (result ≡ 2) }
     ensures written { result ≡ 0 → Appends (W.taken output.old) (W.taken output.new) text.now }
     // Where it fails a beginning of that is written.
-    ensures begun { result ≡ 2
-        → AppendsBeginning (W.taken output.old) (W.taken output.new) text.now }
-    ensures told { TellsOfText E.Sink result errors.old errors.new }
+    ensures begun { AppendsBeginning (W.taken output.old) (W.taken output.new) text.now }
+    ensures flushed { result < 2 → W.flushed output.new ≡ true }
+    ensures told { StaysOrFails E.Sink 0 result errors.old errors.new }
 {
     match write_whole(output, text) {
-        Ok(()) => 0,
+        Ok(()) => finish(0, output, errors),
         Err(_) => {
             tell_write(errors);
             2
@@ -370,6 +334,7 @@ fn search<F: Open + Folders, R: Read, W: Sink, E: Sink>(
         (R.remaining input.old) (W.taken output.old) (W.taken output.new) }
     ensures told { TellsOfSearch E.Sink (tree_of F.Folders files.now) (said given.now)
         (origins_of sources.now) (name_bytes names.now) result errors.old errors.new }
+    ensures flushed { result < 2 → W.flushed output.new ≡ true }
 {
     let flags = &given.flags;
     let Some(keys) = read_keys(alloc, sources, files, input, errors) else {
@@ -413,18 +378,17 @@ fn end_unsearched<W: Sink, E: Sink>(
     output: &mut W,
     errors: &mut Errors<'_, E>,
 ) -> u8
-    ensures status { (result ≡ 1) ⊎ (result ≡ 2) }
     ensures written { result < 2 → WritesNoMatch flags.now (pieces_of patterns.now)
         (W.taken output.old) (W.taken output.new) }
     ensures begun { BeginsNoMatch flags.now (pieces_of patterns.now)
         (W.taken output.old) (W.taken output.new) }
-    ensures silent { result < 2 → errors.new ≡ errors.old }
-    ensures told { result ≡ 2 → TellsCause E.Sink errors.old errors.new }
+    ensures flushed { result < 2 → W.flushed output.new ≡ true }
+    ensures told { StaysOrFails E.Sink 1 result errors.old errors.new }
 {
     if flags.asks_counts() {
         return end_counts(alloc, patterns, b"", flags.ending(), 1, output, errors);
     }
-    1
+    finish(1, output, errors)
 }
 
 /// The patterns that are searched for: none where at most no line is asked for.

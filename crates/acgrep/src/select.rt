@@ -1,14 +1,14 @@
 //! Which lines of a text are selected, and what is written of them.
 
-ghost use Rattle.std.specs.Prelude.{◌≡◌, ◌+◌, ◌%◌, ◌^◌, ◌≤◌, ◌<◌, IfOk, IfSome, OnOk, false, true, length};
+ghost use Rattle.std.specs.Prelude.{◌≡◌, ◌+◌, ◌%◌, ◌^◌, ◌≤◌, ◌<◌, IfOk, IfSome, OnOk, true, length};
 ghost use Rattle.memchr.specs.Find.{is_byte, places};
 ghost use Rattle.aho_core.specs.Patterns.{Patterns};
 ghost use Rattle.chromesquid.specs.Searcher.{IsBuiltFrom, IsBuiltFromSome};
 ghost use Rattle.acgrep.specs.declared.options.Fit.TheVariants.{AnyPart};
-ghost use Rattle.acgrep.specs.Searched.{BeginsOthersBy, BeginsPlainBy, BeginsWhere, SearchesPlainBy, SearchesSomeBy, TellsOthersBy, TellsWhere, WritesLineBy, WritesNextBy};
+ghost use Rattle.acgrep.specs.Searched.{BeginsPlainBy, IsSelectedBy, SearchesPlainBy, TakesOthersBy, TakesSomeBy, TakesWhere, WritesLineBy};
 ghost use Rattle.acgrep.specs.Searchers.{ForQuery, Seeks};
-ghost use Rattle.acgrep.specs.Selected.{EndsBy, FindsNone, ForLines, IsLine, IsNextLine, IsNoneSelected, lines_by};
-ghost use Rattle.acgrep.specs.Written.{HasMatch, IsMatched, IsSelected, NumbersLines, SamePlace, after_line, after_lines, is_full, next_count, place_behind, selects};
+ghost use Rattle.acgrep.specs.Selected.{ForLines, IsNextLine, IsNoneSelected};
+ghost use Rattle.acgrep.specs.Written.{HasMatch, IsMatched, NumbersLines, after_line};
 
 use crate::alone::has_alone;
 use crate::failure::Stop;
@@ -29,28 +29,19 @@ pub fn next_line(searcher: &AhoCorasick, text: &[u8], ending: u8) -> Result<Opti
     ensures within { IfOk result (λ line. IfSome line (λ line. line.end ≤ length text.now)) }
     ensures next { ForLines ending (IsBuiltFrom searcher.now) (λ p. IfOk result (IsNextLine p ending text.now)) }
 {
-    match searcher.try_find(text)? {
-        Some(found) => Ok(Some(line_around(text, found.start(), ending))),
-        None => Ok(None),
-    }
-}
-
-/// The line of a text that holds a place.
-fn line_around(text: &[u8], place: usize, ending: u8) -> Span
-    requires within { place ≤ length text.now }
-    ensures line { IsLine ending text.now result }
-    ensures before { result.start ≤ place }
-    ensures behind { place ≤ result.end }
-{
+    let Some(found) = searcher.try_find(text)? else {
+        return Ok(None);
+    };
+    let place = found.start();
     let start = line_start(&text[..place], ending);
     let rest = line_end(&text[place..], ending);
-    Span {
+    Ok(Some(Span {
         start,
         end: place + rest,
-    }
+    }))
 }
 
-/// The same where no lines around selected ones are written.
+/// Searches a text of whole lines where no lines around selected ones are written.
 pub fn search_plain<W: Sink>(
     query: &Query<'_>,
     text: &[u8],
@@ -67,59 +58,50 @@ pub fn search_plain<W: Sink>(
 {
     let mut rest = text;
     while query.job.goes_on(rest, state) {
-        rest = search_some(query, rest, state, output)?;
+        let count = state.selected;
+        match take_some(query, rest, state) {
+            Ok(left) => {
+                write_whole(output, state.page.as_slice())?;
+                rest = left;
+            }
+            Err(stop) => {
+                state.selected = count;
+                return Err(stop);
+            }
+        }
     }
     Ok(())
 }
 
-/// Searches the lines up to the first with a match and that one, and answers what follows.
-fn search_some<'t, W: Sink>(
-    query: &Query<'_>,
-    text: &'t [u8],
-    state: &mut State,
-    output: &mut W,
-) -> Result<&'t [u8], Stop>
+/// Goes over the lines up to the first in which a pattern occurs and over that one, puts together what is written of them, and answers
+/// what follows. So where the output cannot be written to the end, what is there is a beginning of it.
+fn take_some<'t>(query: &Query<'_>, text: &'t [u8], state: &mut State) -> Result<&'t [u8], Stop>
     requires of { IsBuiltFromSome query.now.searcher.now }
     requires some { 0 < length text.now }
     ensures shorter { IfOk result (λ left. length left.now < length text.now) }
-    ensures none { ForQuery query.now (λ p. query.now.job.invert ≡ false
-        → query.now.job.fit ≡ AnyPart → OnOk result (FindsNone p state.old state.new text.now)) }
-    ensures written { SearchesSomeBy W.Sink query.now
-        state.old state.new output.old output.new text.now result }
-    ensures begun { BeginsPlainBy W.Sink query.now
-        state.old state.new output.old output.new text.now result }
+    ensures takes { TakesSomeBy query.now state.old state.new text.now result }
 {
-    match next_line(query.searcher, text, query.job.style.ending)? {
-        Some(line) => {
-            pass_others(query, &text[..line.start], state, output)?;
-            pass_matched(query, &text[line.start..line.end], state, output)?;
-            Ok(behind(text, line.end))
-        }
-        None => {
-            pass_others(query, text, state, output)?;
-            Ok(&text[text.len()..])
-        }
-    }
+    let Some(line) = next_line(query.searcher, text, query.job.style.ending)? else {
+        take_others(query, text, state)?;
+        return Ok(&[]);
+    };
+    take_others(query, &text[..line.start], state)?;
+    take_matched(query, &text[line.start..line.end], state)?;
+    Ok(behind(text, line.end))
 }
 
 /// Goes over a line in which a pattern occurs.
-fn pass_matched<W: Sink>(
-    query: &Query<'_>,
-    line: &[u8],
-    state: &mut State,
-    output: &mut W,
-) -> Result<(), Stop>
+fn take_matched(query: &Query<'_>, line: &[u8], state: &mut State) -> Result<(), Stop>
     requires of { IsBuiltFromSome query.now.searcher.now }
-    ensures selected { query.now.job.invert ≡ false → query.now.job.fit ≡ AnyPart
-        → OnOk result (0 < state.new.selected) }
     ensures placed { OnOk result (state.new.place ≡ after_line state.old.place line.now) }
-    ensures written { TellsWhere W.Sink query.now
-        state.old state.new output.old output.new HasMatch line.now result }
-    ensures begun { BeginsWhere W.Sink query.now
-        state.old state.new output.old output.new HasMatch line.now result }
+    ensures takes { TakesWhere query.now state.old state.new HasMatch line.now result }
 {
     let matched = is_match(query, line)?;
-    pass_line(query, matched, line, state, output)
+    if query.job.selects(matched) {
+        return take_selected(query, line, state);
+    }
+    state.place = behind_line(state.place, line);
+    Ok(())
 }
 
 /// Whether a line in which a pattern occurs matches.
@@ -136,126 +118,43 @@ pub fn is_match(query: &Query<'_>, line: &[u8]) -> Result<bool, Stop>
     }
 }
 
-/// Goes over a line of which it is known whether it matches.
-fn pass_line<W: Sink>(
-    query: &Query<'_>,
-    matched: bool,
-    line: &[u8],
-    state: &mut State,
-    output: &mut W,
-) -> Result<(), Stop>
+/// Goes over a selected line. Where so many lines are selected already as are asked for nothing is written.
+fn take_selected(query: &Query<'_>, line: &[u8], state: &mut State) -> Result<(), Stop>
     requires of { IsBuiltFromSome query.now.searcher.now }
-    ensures selected { matched ≡ true → query.now.job.invert ≡ false
-        → OnOk result (0 < state.new.selected) }
     ensures placed { OnOk result (state.new.place ≡ after_line state.old.place line.now) }
-    ensures written { TellsWhere W.Sink query.now
-        state.old state.new output.old output.new (λ p line. IsMatched p query.now.job.fit line matched) line.now result }
-    ensures begun { BeginsWhere W.Sink query.now
-        state.old state.new output.old output.new (λ p line. IsMatched p query.now.job.fit line matched) line.now result }
+    ensures takes { TakesWhere query.now state.old state.new (IsSelectedBy query.now) line.now result }
 {
-    if query.job.selects(matched) {
-        return pass_selected(query, line, state, output);
-    }
-    state.place = behind_line(state.place, line);
-    Ok(())
-}
-
-/// Goes over a selected line. What is asked of it is put together first: where the output cannot be written to the end, what is
-/// there is a beginning of it. Where so many lines are selected already as are asked for nothing is written.
-fn pass_selected<W: Sink>(
-    query: &Query<'_>,
-    line: &[u8],
-    state: &mut State,
-    output: &mut W,
-) -> Result<(), Stop>
-    requires of { IsBuiltFromSome query.now.searcher.now }
-    ensures counted { OnOk result
-        (state.new.selected ≡ next_count query.now.job.most state.old.selected) }
-    ensures placed { OnOk result (state.new.place ≡ after_line state.old.place line.now) }
-    ensures shown { WritesNextBy query.now state.old
-        (W.taken output.old) (W.taken output.new) line.now result }
-    ensures begun { BeginsWhere W.Sink query.now
-        state.old state.new output.old output.new (λ p line. IsSelected p query.now.job.fit query.now.job.invert line) line.now result }
-{
+    let place = state.place;
+    state.place = behind_line(place, line);
     if query.job.is_full(state.selected) {
-        state.place = behind_line(state.place, line);
         return Ok(());
     }
-    state.page.clear();
-    put_shown(query, line, state.place, &mut state.page)?;
+    put_shown(query, line, place, &mut state.page)?;
     state.selected = state.selected.saturating_add(1);
-    write_whole(output, state.page.as_slice())?;
-    state.place = behind_line(state.place, line);
     Ok(())
 }
 
 /// Goes over lines without a match.
-fn pass_others<W: Sink>(
-    query: &Query<'_>,
-    text: &[u8],
-    state: &mut State,
-    output: &mut W,
-) -> Result<(), Stop>
+fn take_others(query: &Query<'_>, text: &[u8], state: &mut State) -> Result<(), Stop>
     requires of { IsBuiltFromSome query.now.searcher.now }
-    ensures selected { query.now.job.invert ≡ false
-        → OnOk result (state.new.selected ≡ state.old.selected) }
-    ensures placed { EndsBy query.now.job text.now → OnOk result
-        (SamePlace query.now.job state.new.place (after_lines state.old.place (lines_by query.now.job text.now))) }
-    ensures written { TellsOthersBy W.Sink query.now
-        state.old state.new output.old output.new text.now result }
-    ensures begun { BeginsOthersBy W.Sink query.now
-        state.old state.new output.old output.new text.now result }
+    ensures takes { TakesOthersBy query.now state.old state.new text.now result }
 {
-    if query.job.invert {
-        return pass_each(query, text, state, output);
+    state.page.clear();
+    if !query.job.invert {
+        let place = state.place;
+        state.place = Place {
+            lines: lines_behind(&query.job, text, place.lines),
+            bytes: place.bytes.wrapping_add(text.len() as u64),
+        };
+        return Ok(());
     }
-    skip(&query.job, text, state);
-    Ok(())
-}
-
-/// Goes over lines that are all selected.
-fn pass_each<W: Sink>(
-    query: &Query<'_>,
-    text: &[u8],
-    state: &mut State,
-    output: &mut W,
-) -> Result<(), Stop>
-    requires of { IsBuiltFromSome query.now.searcher.now }
-    requires inverted { query.now.job.invert ≡ true }
-    ensures placed { OnOk result (state.new.place ≡ after_lines state.old.place (lines_by query.now.job text.now)) }
-    ensures written { TellsOthersBy W.Sink query.now
-        state.old state.new output.old output.new text.now result }
-    ensures begun { BeginsOthersBy W.Sink query.now
-        state.old state.new output.old output.new text.now result }
-{
     let mut rest = text;
     while !rest.is_empty() {
         let end = line_end(rest, query.job.style.ending);
-        pass_selected(query, &rest[..end], state, output)?;
+        take_selected(query, &rest[..end], state)?;
         rest = behind(rest, end);
     }
     Ok(())
-}
-
-/// Goes over lines that are not selected.
-fn skip(job: &Job<'_>, text: &[u8], state: &mut State)
-    ensures selected { state.new.selected ≡ state.old.selected }
-    ensures placed { EndsBy job.now text.now
-        → SamePlace job.now state.new.place (after_lines state.old.place (lines_by job.now text.now)) }
-{
-    let place = state.place;
-    state.place = behind_text(job, text, place.lines, place.bytes);
-}
-
-/// The place behind a text, from how many lines and bytes stand before it.
-fn behind_text(job: &Job<'_>, text: &[u8], count: u64, offset: u64) -> Place
-    ensures placed { EndsBy job.now text.now
-        → SamePlace job.now result (after_lines (place_behind count offset) (lines_by job.now text.now)) }
-{
-    Place {
-        lines: lines_behind(job, text, count),
-        bytes: offset.wrapping_add(text.len() as u64),
-    }
 }
 
 /// How many lines stand before what follows a text. They are counted only where lines are numbered.

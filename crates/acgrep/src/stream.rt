@@ -1,15 +1,15 @@
-//! Searching what a reader gives, in memory that is bounded by its longest line and by what is written of one line.
+//! Searching what a reader gives, in memory that is bounded by its longest line and by what is written of the lines of one read.
 
 ghost use Rattle.std.specs.Prelude.{◌≡◌, ◌≤◌, ◌-◌, ◌<◌, [], IfOk, IfSome, OnErr, OnOk, length, take, true};
 ghost use Rattle.std.specs.Io.KnownBytes.{Keeps};
 ghost use Rattle.chromesquid.specs.Searcher.{IsBuiltFromSome};
 ghost use Rattle.acgrep.specs.Binary.{is_text};
 ghost use Rattle.acgrep.specs.Filled.{FillsBuffer, ReadsOn, bytes_buffered};
-ghost use Rattle.acgrep.specs.Guarded.{EndsFront, IsZeroLine, ReadsFront};
+ghost use Rattle.acgrep.specs.Guarded.{EndsFront, IsZeroLine};
 ghost use Rattle.acgrep.specs.Lines.{IsEnding};
 ghost use Rattle.acgrep.specs.Searched.{BeginsReadBy};
 ghost use Rattle.acgrep.specs.Searchers.{ForQuery};
-ghost use Rattle.acgrep.specs.Streamed.{BeginsWhole, SearchesWhole, TextIf, course_of};
+ghost use Rattle.acgrep.specs.Streamed.{BeginsWhole, SearchesWhole, TextIf};
 
 use crate::buffer::Buffer;
 use crate::context::search_text;
@@ -20,17 +20,6 @@ use chromesquid::Sink;
 use memchr::memchr;
 use std::io::Read;
 use tool_parts::reason::Reason;
-
-/// What a read gave.
-#[derive(Clone, Copy)]
-enum Came {
-    /// Bytes, and none of them is 0 where that is asked.
-    Text,
-    /// A line that holds a zero byte, with which the buffer begins.
-    Binary,
-    /// Nothing.
-    End,
-}
 
 /// Searches all that a reader gives, or the lines up to the first that holds a zero byte alone, and answers whether there is one. The
 /// buffer then begins with it. What is settled is handed on before each read.
@@ -44,7 +33,8 @@ pub fn search_front<R: Read, W: Sink>(
 ) -> Result<bool, Stop>
     requires of { IsBuiltFromSome query.now.searcher.now }
     ensures front { ForQuery query.now (λ p. IfOk result (EndsFront p query.now.job alone
-        (course_of W.Sink R.Read state.old state.new output.old output.new input.old input.new)
+        state.old state.new (W.taken output.old) (W.taken output.new)
+        (R.remaining input.old) (R.remaining input.new)
         [] (bytes_buffered buffer.new))) }
 
     // Where it fails a beginning of that is written.
@@ -70,67 +60,37 @@ pub fn search_behind<R: Read, W: Sink>(
     requires of { IsBuiltFromSome query.now.searcher.now }
     requires text { TextIf alone (bytes_buffered buffer.now) }
     ensures front { ForQuery query.now (λ p. IfOk result (EndsFront p query.now.job alone
-        (course_of W.Sink R.Read state.old state.new output.old output.new input.old input.new)
+        state.old state.new (W.taken output.old) (W.taken output.new)
+        (R.remaining input.old) (R.remaining input.new)
         (bytes_buffered buffer.old) (bytes_buffered buffer.new))) }
     ensures begun { BeginsReadBy R.Read W.Sink query.now alone
         state.old state.new input.old output.old output.new (bytes_buffered buffer.old) result }
     ensures reads { ReadsOn (R.remaining input.old) (R.remaining input.new) }
 {
-    let count = buffer.bytes().len();
-    search_whole(query, buffer, count, state, output)?;
+    let held = buffer.bytes().len();
+    search_whole(query, buffer, held, state, output)?;
     for _ in 0..u64::MAX {
         if query.job.is_done(state) {
             return Ok(false);
         }
-        match read_front(query, alone, buffer, input, state, output)? {
-            Came::Text => {}
-            Came::Binary => return Ok(true),
-            Came::End => {
-                search_text(query, buffer.bytes(), state, output)?;
-                return Ok(false);
+        let count = read_more(buffer, input, output)?;
+        if count == 0 {
+            search_text(query, buffer.bytes(), state, output)?;
+            return Ok(false);
+        }
+        match first_zero(alone, buffer.bytes(), count, query.job.style.ending) {
+            Some(start) => {
+                search_text(query, &buffer.bytes()[..start], state, output)?;
+                buffer.drop_front(start);
+                return Ok(true);
             }
+            None => search_whole(query, buffer, count, state, output)?,
         }
     }
     Err(Stop::Read(Reason::Fault))
 }
 
-/// Reads once and searches the whole lines that are there, or those up to the first that holds a zero byte alone.
-fn read_front<R: Read, W: Sink>(
-    query: &Query<'_>,
-    alone: bool,
-    buffer: &mut Buffer,
-    input: &mut R,
-    state: &mut State,
-    output: &mut W,
-) -> Result<Came, Stop>
-    requires of { IsBuiltFromSome query.now.searcher.now }
-    ensures read { ForQuery query.now (λ p. IfOk result (ReadsFront p query.now.job alone
-        (course_of W.Sink R.Read state.old state.new output.old output.new input.old input.new)
-        (bytes_buffered buffer.old) (bytes_buffered buffer.new))) }
-    ensures begun { TextIf alone (bytes_buffered buffer.old)
-        → BeginsReadBy R.Read W.Sink query.now alone
-        state.old state.new input.old output.old output.new (bytes_buffered buffer.old) result }
-    ensures reads { ReadsOn (R.remaining input.old) (R.remaining input.new) }
-{
-    let count = read_more(buffer, input, output)?;
-    if count == 0 {
-        return Ok(Came::End);
-    }
-    match first_zero(alone, buffer.bytes(), count, query.job.style.ending) {
-        Some(start) => {
-            let text = &buffer.bytes()[..start];
-            search_text(query, text, state, output)?;
-            buffer.drop_front(start);
-            Ok(Came::Binary)
-        }
-        None => {
-            search_whole(query, buffer, count, state, output)?;
-            Ok(Came::Text)
-        }
-    }
-}
-
-/// Where the first line begins that holds a zero byte, if that is asked.
+/// Where the first line begins that holds a zero byte, if that is asked, where the last `count` bytes alone can be one.
 fn first_zero(alone: bool, bytes: &[u8], count: usize, ending: u8) -> Option<usize>
     ensures asked { IfSome result (λ start. alone ≡ true) }
     ensures within { IfSome result (λ start. start ≤ length bytes.now) }
@@ -138,19 +98,9 @@ fn first_zero(alone: bool, bytes: &[u8], count: usize, ending: u8) -> Option<usi
     ensures zero { alone ≡ true → is_text (take (length bytes.now - count) bytes.now) ≡ true
         → IsZeroLine ending bytes.now result }
 {
-    if alone {
-        return zero_line(bytes, count, ending);
+    if !alone {
+        return None;
     }
-    None
-}
-
-/// Where the first line begins that holds a zero byte, where the last `count` bytes alone can be one.
-fn zero_line(bytes: &[u8], count: usize, ending: u8) -> Option<usize>
-    ensures within { IfSome result (λ start. start ≤ length bytes.now) }
-    ensures ends { IfSome result (λ start. 0 < start → IsEnding ending bytes.now (start - 1)) }
-    ensures zero { is_text (take (length bytes.now - count) bytes.now) ≡ true
-        → IsZeroLine ending bytes.now result }
-{
     let before = bytes.len().saturating_sub(count);
     match memchr(0, &bytes[before..]) {
         Some(zero) => Some(line_start(&bytes[..before + zero], ending)),

@@ -3,7 +3,7 @@
 ghost use Rattle.std.specs.Prelude.{◌≡◌, ◌∷◌, [], IfOk, OnOk, decimal};
 ghost use Rattle.aho_core.specs.Replacement.{pieces_of};
 ghost use Rattle.acgrep.specs.Lines.{lines};
-ghost use Rattle.acgrep.specs.Tallies.{CountsLines, CountsNumber, PutsBytes, row_of, rows_counted, zeros_of};
+ghost use Rattle.acgrep.specs.Tallies.{CountsLines, PutsBytes, row_of, rows_counted, zeros_of};
 
 use crate::arguments::number_in;
 use crate::lines::{behind, line_end};
@@ -35,22 +35,15 @@ pub fn tally(numbers: &[u8], ending: u8, counts: &mut [u64])
     }
 }
 
-/// Counts a line that writes a pattern's number.
+/// Counts a line that writes a pattern's number, where there is a count for it.
 fn tally_line(line: &[u8], counts: &mut [u64])
     ensures counted { CountsLines (line.now ∷ []) counts.old counts.new }
 {
     if let Some(number) = number_in(line) {
-        count_number(counts, number);
-    }
-}
-
-/// Counts a number, where there is a count for it.
-fn count_number(counts: &mut [u64], number: u64)
-    ensures counted { CountsNumber number counts.old counts.new }
-{
-    if number < counts.len() as u64 {
-        let at = number as usize;
-        counts[at] = counts[at].saturating_add(1);
+        if number < counts.len() as u64 {
+            let at = number as usize;
+            counts[at] = counts[at].saturating_add(1);
+        }
     }
 }
 
@@ -59,16 +52,15 @@ pub fn put_rows(text: &mut Vec<u8>, patterns: &[&[u8]], counts: &[u64]) -> Resul
     ensures put { OnOk result
         (PutsBytes text.old text.new (rows_counted 0 (pieces_of patterns.now) counts.now)) }
 {
-    let mut rest = patterns;
+    let mut number = 0;
     let mut left = counts;
-    while !rest.is_empty() {
-        if left.is_empty() {
+    for pattern in patterns {
+        let Some((count, others)) = left.split_first() else {
             return Ok(());
-        }
-        let number = patterns.len() - rest.len();
-        put_row(text, number as u64, left[0], rest[0])?;
-        rest = &rest[1..];
-        left = &left[1..];
+        };
+        put_row(text, number, *count, *pattern)?;
+        number += 1;
+        left = others;
     }
     Ok(())
 }

@@ -3,7 +3,7 @@
 ghost use Rattle.std.specs.Prelude.{◌≡◌, [], ◌∷◌, ◌++◌, IfErr, IfOk, IfSome, List, OnOk, false, map};
 ghost use Rattle.std.specs.List.Sorted.{IsPermutation};
 ghost use Rattle.tool_parts.specs.Names.{name_bytes};
-ghost use Rattle.acgrep.specs.Folders.{AreBelow, Begins, Enters, FindsFiles, IsKind, IsUnknown, Loses, PutsInside, between, folder_named, is_folder, is_followed, is_lost_left, is_searched, is_spot_left, is_standard, path_inside, missed_of, operand, reads_devices, spot_of, spots_of, tree_of};
+ghost use Rattle.acgrep.specs.Folders.{AreBelow, Begins, Enters, FindsFiles, IsKind, IsUnknown, PutsInside, between, folder_named, is_folder, is_followed, is_lost_left, is_searched, is_spot_left, is_standard, path_inside, missed_of, operand, reads_devices, spot_of, spots_of, tree_of};
 ghost use Rattle.acgrep.specs.Listed.{listed_bytes};
 ghost use Rattle.acgrep.specs.Rules.{RuleSaid, rules_said};
 
@@ -127,7 +127,30 @@ pub fn walk<F: Folders>(
         let Some(spot) = pending.pop_front() else {
             return Ok(found);
         };
-        pass(alloc, files, ways, rules, spot, &mut pending, &mut found)?;
+        if is_standard(&spot) {
+            found.add(spot.name)?;
+            continue;
+        }
+        let kind = match look_at(files, spot.name.as_slice(), is_followed(ways, &spot)) {
+            Ok(kind) => kind,
+            Err(error) => {
+                if is_lost_left(rules, &spot) {
+                    continue;
+                }
+                found.miss(spot.name, Obstacle::Closed(Reason::of(&error)))?;
+                continue;
+            }
+        };
+        take(
+            alloc,
+            files,
+            ways,
+            rules,
+            kind,
+            spot,
+            &mut pending,
+            &mut found,
+        )?;
     }
     Err(Stop::Read(Reason::Fault))
 }
@@ -198,43 +221,6 @@ fn put_given(
         })?;
     }
     Ok(())
-}
-
-/// Looks at a name.
-fn pass<F: Folders>(
-    alloc: Global,
-    files: &F,
-    ways: Ways,
-    rules: &[Rule<'_>],
-    spot: Pending,
-    pending: &mut VecDeque<Pending>,
-    found: &mut Found,
-) -> Result<(), AllocError>
-    ensures finds { OnOk result (FindsFiles (tree_of F.Folders files.now) (rules_said rules.now) ways
-        (spot_of spot ∷ spots_of pending.old.items) (spots_of pending.new.items) found.old found.new) }
-{
-    if is_standard(&spot) {
-        return found.add(spot.name);
-    }
-    match look_at(files, spot.name.as_slice(), is_followed(ways, &spot)) {
-        Ok(kind) => take(alloc, files, ways, rules, kind, spot, pending, found),
-        Err(error) => lose(rules, spot, Reason::of(&error), found),
-    }
-}
-
-/// Puts down what cannot be looked at, unless it is left out as a file would be.
-fn lose(
-    rules: &[Rule<'_>],
-    spot: Pending,
-    reason: Reason,
-    found: &mut Found,
-) -> Result<(), AllocError>
-    ensures loses { OnOk result (Loses (rules_said rules.now) (spot_of spot) found.old found.new) }
-{
-    if is_lost_left(rules, &spot) {
-        return Ok(());
-    }
-    found.miss(spot.name, Obstacle::Closed(reason))
 }
 
 /// Whether rules leave out what cannot be looked at, as they would a file: not where it is an operand, nor where its name alone keeps it
@@ -328,44 +314,29 @@ fn enter<F: Folders>(
     ensures entered { OnOk result (Enters (tree_of F.Folders files.now) spot.name.items
         (spots_of pending.old.items) (spots_of pending.new.items) found.old found.new) }
 {
-    if !ways.follow {
-        return open_folder(
-            alloc,
-            files,
-            spot.name,
-            spot.above.as_slice(),
-            pending,
-            found,
-        );
-    }
-    match identity_of(files, spot.name.as_slice()) {
-        Ok(identity) => {
-            if stands_in(identity, spot.above.as_slice()) {
-                return found.miss(spot.name, Obstacle::Loop);
+    let mut above = spot.above;
+    if ways.follow {
+        match identity_of(files, spot.name.as_slice()) {
+            Ok(identity) => {
+                if stands_in(identity, above.as_slice()) {
+                    return found.miss(spot.name, Obstacle::Loop);
+                }
+                above.push(identity)?;
             }
-            let mut above = Vec::from_slice(alloc, spot.above.as_slice())?;
-            above.push(identity)?;
-            open_folder(alloc, files, spot.name, above.as_slice(), pending, found)
+            Err(error) => {
+                return found.miss(spot.name, Obstacle::Closed(Reason::of(&error)));
+            }
         }
-        Err(error) => found.miss(spot.name, Obstacle::Closed(Reason::of(&error))),
     }
-}
-
-/// Puts down what a folder holds, which stands in these and itself.
-fn open_folder<F: Folders>(
-    alloc: Global,
-    files: &F,
-    name: Vec<u8>,
-    above: &[Identity],
-    pending: &mut VecDeque<Pending>,
-    found: &mut Found,
-) -> Result<(), AllocError>
-    ensures entered { OnOk result (Enters (tree_of F.Folders files.now) name.items
-        (spots_of pending.old.items) (spots_of pending.new.items) found.old found.new) }
-{
-    match list_named(alloc, files, name.as_slice()) {
-        Ok(names) => put_first(alloc, names, name.as_slice(), above, pending),
-        Err(error) => found.miss(name, Obstacle::Closed(Reason::of(&error))),
+    match list_named(alloc, files, spot.name.as_slice()) {
+        Ok(names) => put_first(
+            alloc,
+            names,
+            spot.name.as_slice(),
+            above.as_slice(),
+            pending,
+        ),
+        Err(error) => found.miss(spot.name, Obstacle::Closed(Reason::of(&error))),
     }
 }
 

@@ -2,7 +2,6 @@
 
 ghost use Rattle.std.specs.Prelude.{◌≡◌, IfOk, length};
 ghost use Rattle.aho_core.specs.Patterns.{Patterns};
-ghost use Rattle.aho_core.specs.declared.search.MatchKind.TheVariants.{LeftmostLongest};
 ghost use Rattle.chromesquid.specs.Searcher.{IsBuiltFrom, IsBuiltFromSome};
 ghost use Rattle.acgrep.specs.Alone.{IsWholeOrNone, whole_match};
 ghost use Rattle.acgrep.specs.Written.{IsMatched};
@@ -30,20 +29,11 @@ pub fn find_whole(searcher: &AhoCorasick, line: &[u8]) -> Result<Option<Match>, 
         → IfOk result (IsWholeOrNone p line.now) }
 {
     match searcher.match_kind() {
-        MatchKind::LeftmostLongest => longest_whole(searcher, line),
+        MatchKind::LeftmostLongest => match searcher.try_find(line)? {
+            Some(found) => Ok(whole_match(line, found)),
+            None => Ok(None),
+        },
         kind => Err(Stop::Search(MatchError::unsupported_overlapping(kind))),
-    }
-}
-
-/// The same where of those that occur the longest that begins first is found.
-fn longest_whole(searcher: &AhoCorasick, line: &[u8]) -> Result<Option<Match>, Stop>
-    requires of { IsBuiltFromSome searcher.now }
-    ensures whole { (p : Patterns) → IsBuiltFrom searcher.now p → p.kind ≡ LeftmostLongest
-        → IfOk result (IsWholeOrNone p line.now) }
-{
-    match searcher.try_find(line)? {
-        Some(found) => Ok(whole_match(line, found)),
-        None => Ok(None),
     }
 }
 

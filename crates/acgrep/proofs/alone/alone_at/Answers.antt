@@ -1,8 +1,6 @@
 -- The longest is tried first, and then the shorter ones, one after another.
-use Rattle.acgrep.proofs.Common.{IsBestOrNone, LeftmostLongest, Occurrence}
-use Rattle.std.proofs.Common.{◌<◌, ◌∙◌, ◌≡◌, ◌≤◌, Option, ap, arith, false, subst, sym}
-use Rattle.std.specs.Prelude.{IfSome}
-use Rattle.acgrep.specs.Alone.{IsShorter, begins_alone, ends_alone}
+use Rattle.std.proofs.Common.{◌∙◌, ◌≡◌, ap, arith, false, sym}
+use Rattle.acgrep.specs.Alone.{begins_alone, ends_alone}
 use Rattle.acgrep.proofs.AloneTried.{tried_alone, tried_next, tried_none}
 use Rattle.acgrep.proofs.alone.alone_at.Goals as goal
 
@@ -11,17 +9,14 @@ loop-found-preserved c =
     let line = c.args.line.now in
     let found = c.loop-found.found in
     let so_far = c.loop-found.invariant in
-    let start = subst (λ (o : Option Occurrence). IfSome o (λ (m : Occurrence). m.start ≡ found.start)) c.in-Some.is c.in_ok-other.ensures.start in
-    let ordered = subst (λ (o : Option Occurrence). IfSome o (λ (m : Occurrence). m.start ≤ m.end)) c.in-Some.is c.in_ok-other.ensures.ordered in
-    let shorter = subst (λ (o : Option Occurrence). IfSome o (λ (m : Occurrence). m.end < found.end)) c.in-Some.is c.in_ok-other.ensures.shorter in
     let refused : ends_alone line found.end ≡ false = sym (c.loop-found-test.ensures ∙ ap (ends_alone line) c.end.ensures.end) in
     record {
-      start = start ∙ so_far.start;
-      ordered = ordered;
-      within = omega (arith, shorter, so_far.within);
+      start = (rw c.in-Some.is at c.in_ok-other.ensures.start) ∙ so_far.start;
+      ordered = rw c.in-Some.is at c.in_ok-other.ensures.ordered;
+      within = omega (arith, (rw c.in-Some.is at c.in_ok-other.ensures.shorter), so_far.within);
       tried = λ p is kind longest.
           tried_next p line kind c.args.longest.start found _ (so_far.tried p is kind longest) refused
-          (subst (IsBestOrNone LeftmostLongest (IsShorter p line found)) c.in-Some.is (c.in_ok-other.ensures.longest p is kind));
+          (rw c.in-Some.is at c.in_ok-other.ensures.longest p is kind);
     }
 
 pub returns-in-None-clause-alone : goal.returns-in-None-clause-alone
@@ -30,7 +25,7 @@ returns-in-None-clause-alone c = λ p is kind longest.
     let found = c.loop-found.found in
     let refused : ends_alone line found.end ≡ false = sym (c.loop-found-test.ensures ∙ ap (ends_alone line) c.end.ensures.end) in
     tried_none p line kind c.args.longest.start found (c.loop-found.invariant.tried p is kind longest) refused
-    (subst (IsBestOrNone LeftmostLongest (IsShorter p line found)) c.in-None.is (c.in_ok-other.ensures.longest p is kind))
+    (rw c.in-None.is at c.in_ok-other.ensures.longest p is kind)
 
 pub returns-clause-alone : goal.returns-clause-alone
 returns-clause-alone c = λ p is kind longest.

@@ -1,42 +1,37 @@
--- One part more, or the last.
-use Rattle.acgrep.proofs.Common.{common_steps}
-use Rattle.std.proofs.Common.{◌+◌, ◌<◌, ◌∙◌, ◌∷◌, ◌≡◌, List, [], arith, drop, false, length, subst, sym, take, true, ℕ}
-use Rattle.std.proofs.lemmas.List.Elements.{All-from_get_or}
-use Rattle.std.proofs.lemmas.List.Splits.{slice_split_first, slice_split_none}
-use Rattle.std.proofs.lemmas.List.Sums.{fails_before_first}
-use Rattle.std.specs.List.{position_or_len, slice_split}
-use Rattle.acgrep.specs.Colors.{is_colon, is_right, with_part}
+-- One part more, up to a wrong one or the end.
+use Rattle.std.proofs.Common.{◌+◌, ◌<◌, ◌∙◌, ◌≡◌, List, ap, arith, drop, length, rules, sym, tests, ℕ}
+use Rattle.std.proofs.lemmas.Iterator.Consumers.{YieldsList-end, YieldsList-turn}
+use Rattle.std.proofs.lemmas.Iterator.Splits.{YieldsList-from_slice_split}
+use Rattle.std.proofs.lemmas.List.{at_drop_all, at_drop_more, length_push}
+use Rattle.std.specs.Prelude.{if◌then◌else◌, slice_index_or}
+use Rattle.acgrep.specs.Colors.{Palette, is_colon, is_right, palette_of, with_part, with_parts}
 use Rattle.acgrep.proofs.colors.read_parts.Goals as goal
 
--- the first part, and those behind its colon
-parts_first : (text : List ℕ) (end : ℕ) → end ≡ position_or_len is_colon text → end < length text
-    → slice_split is_colon text ≡ take end text ∷ slice_split is_colon (drop (end + 1) text)
-parts_first text end is inside =
-    subst (λ (n : ℕ). slice_split is_colon text ≡ take n text ∷ slice_split is_colon (drop (n + 1) text)) (sym is)
-    (slice_split_first is_colon text 0 (subst (λ (n : ℕ). n < length text) is inside))
+-- what the next part and those behind it say
+next_part : (parts : List (List ℕ)) (i : ℕ) (part : List ℕ) (colors : Palette) → (i < length parts) × (part ≡ slice_index_or parts i part)
+    → with_parts (drop i parts) colors ≡ (if is_right part then with_parts (drop (i + 1) parts) (with_part part colors) else colors)
+next_part parts i part colors turn = at_drop_more (λ (l : List (List ℕ)). with_parts l colors) parts i part turn.0
+    ∙ ap (λ (l : List ℕ). if is_right l then with_parts (drop (i + 1) parts) (with_part l colors) else colors) (sym turn.1)
 
--- where there is no colon it is the only one
-parts_last : (text : List ℕ) (end : ℕ) → end ≡ position_or_len is_colon text → (end < length text → ⊥) → slice_split is_colon text ≡ text ∷ []
-parts_last text end is behind =
-    slice_split_none is_colon text (All-from_get_or (λ (byte : ℕ). is_colon byte ≡ false) text 0
-    (λ k inside. fails_before_first is_colon text k 0 (omega (arith, is, behind, inside))))
+-- behind the last part nothing is said
+past_parts : (parts : List (List ℕ)) (n : ℕ) (colors : Palette) → n ≡ length parts → with_parts (drop n parts) colors ≡ colors
+past_parts parts n colors is = at_drop_all (λ (l : List (List ℕ)). with_parts l colors) parts n (omega (arith, is))
 
 pub returns-then-not-is_right : goal.returns-then-not-is_right
 returns-then-not-is_right c =
-    let inside : c.loop-end.end < length c.loop-end.rest.now = grind (arith, common_steps, c.loop-end-test.true) in
-    let wrong = sym c.is_right.ensures ∙ c.if-not-is_right.true in
-    record { read = rw (parts_first c.loop-end.rest.now c.loop-end.end c.loop-end.invariant.ends inside, wrong) at c.loop-end.invariant.says }
+    let parts = YieldsList-from_slice_split _ is_colon c.args.text.now (cc) (cc) (cc) (λ x b q k. search (rules, tests)) in
+    let turn = YieldsList-turn parts c.loop-part.yielded _ c.loop-part.yielded_by _ _ c.in-Some.part c.in-Some.is c.next.ensures.steps in
+    record { read = sym (rw (sym c.is_right.ensures ∙ c.if-not-is_right.true) at (next_part _ _ _ (palette_of c.loop-part.colors) turn)) ∙ c.loop-part.invariant }
 
-pub loop-end-preserved : goal.loop-end-preserved
-loop-end-preserved c =
-    let inside : c.loop-end.end < length c.loop-end.rest.now = grind (arith, common_steps, c.loop-end-test.true) in
-    let right = sym c.is_right.ensures ∙ c.if-not-is_right.false in
-    record {
-      ends = c.first_colon-end-in-loop-end.ensures.place;
-      says = rw (c.behind-rest.ensures.rest, c.with_part.ensures.with) (rw (parts_first c.loop-end.rest.now c.loop-end.end c.loop-end.invariant.ends inside, right) at c.loop-end.invariant.says);
-    }
+pub loop-part-preserved : goal.loop-part-preserved
+loop-part-preserved c =
+    let parts = YieldsList-from_slice_split _ is_colon c.args.text.now (cc) (cc) (cc) (λ x b q k. search (rules, tests)) in
+    let turn = YieldsList-turn parts c.loop-part.yielded _ c.loop-part.yielded_by _ _ c.in-Some.part c.in-Some.is c.next.ensures.steps in
+    rw (length_push c.loop-part.yielded c.in-Some.part, c.with_part.ensures.with)
+    (sym (rw (sym c.is_right.ensures ∙ c.if-not-is_right.false) at (next_part _ _ _ (palette_of c.loop-part.colors) turn)) ∙ c.loop-part.invariant)
 
 pub returns : goal.returns
 returns c =
-    let outside : (c.loop-end.end < length c.loop-end.rest.now → ⊥) = λ inside. grind (arith, common_steps, c.loop-end-test.false, inside) in
-    record { read = rw c.with_last.ensures.with (rw (parts_last c.loop-end.rest.now c.loop-end.end c.loop-end.invariant.ends outside) at c.loop-end.invariant.says) }
+    let parts = YieldsList-from_slice_split _ is_colon c.args.text.now (cc) (cc) (cc) (λ x b q k. search (rules, tests)) in
+    let all = YieldsList-end parts c.loop-part.yielded _ c.loop-part.yielded_by _ _ c.in-None.is c.next.ensures.steps in
+    record { read = sym (past_parts _ _ (palette_of c.loop-part.colors) all.1) ∙ c.loop-part.invariant }

@@ -1,14 +1,9 @@
--- What the parts so far and the rest say is what all say.
-use Rattle.std.proofs.Common.{◌≡◌, length}
-use Rattle.std.specs.List.{position_or_len, slice_split}
+-- What the parts so far and the others say is what all say.
+use Rattle.std.proofs.Common.{◌≡◌, drop, length}
+use Rattle.std.specs.List.{slice_split}
 use Rattle.acgrep.specs.Colors.{is_colon, palette_of, with_parts}
 use Rattle.acgrep.proofs.colors.read_parts.Given as goal
 
-abbrev pub invariant-loop-end : goal.invariant-loop-end
-invariant-loop-end l = record {
-  ends : l.end ≡ position_or_len is_colon l.rest;
-  says : with_parts (slice_split is_colon l.rest) (palette_of l.colors) ≡ with_parts (slice_split is_colon l.fn.text) (palette_of l.initial.colors);
-}
-
-abbrev pub decreases-loop-end : goal.decreases-loop-end
-decreases-loop-end l = length l.rest
+abbrev pub invariant-loop-part : goal.invariant-loop-part
+invariant-loop-part l =
+    with_parts (drop (length l.yielded) (slice_split is_colon l.fn.text)) (palette_of l.colors) ≡ with_parts (slice_split is_colon l.fn.text) (palette_of l.initial.colors)

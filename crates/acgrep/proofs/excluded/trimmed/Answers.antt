@@ -1,6 +1,5 @@
 -- The last byte is white space or ends the line.
-use Rattle.std.proofs.Common.{◌∙◌, false, sym, true}
-use Rattle.acgrep.specs.Rules.{is_space}
+use Rattle.std.proofs.Common.{◌∙◌, sym}
 use Rattle.acgrep.proofs.RuleTexts.{trimmed_end, trimmed_space}
 use Rattle.acgrep.proofs.excluded.trimmed.Goals as goal
 

@@ -16,14 +16,14 @@ known_text g c = ap (λ (b : Bool). b || takes_text c.args.query.now.job) (sym c
 pub returns-in-Ok-search_front-clause-searched : goal.returns-in-Ok-search_front-clause-searched
 returns-in-Ok-search_front-clause-searched g c = λ p is plain.
     if_searched c.end_file.result _ _
-    (ends_searched p _ _ (sym c.takes_text-alone.ensures.text) (sym c.is_guarded.ensures.guarded ∙ c.if-is_guarded.false) _ _ _ _ _ _ _ _ _ c.begin.ensures.begin (c.in-Ok-search_front.ensures.front p is plain))
+    (ends_searched p _ _ _ _ _ _ _ _ c.begin.ensures.begin (sym c.takes_text-alone.ensures.text) (sym c.is_guarded.ensures.guarded ∙ c.if-is_guarded.false) _ _ (c.in-Ok-search_front.ensures.front p is plain) _)
     c.end_file.ensures.ended
 
 pub returns-in-Ok-search_front-clause-begun : goal.returns-in-Ok-search_front-clause-begun
 returns-in-Ok-search_front-clause-begun g c = λ p is plain.
     if_broken c.end_file.result
     (file_begins p _ _ (known_text g (goal.at.returns-in-Ok-search_front-clause-begun g c).After-takes_text-alone) _ _ _ _ _ _ c.begin.ensures.begin
-    (ends_begun p _ _ (sym c.takes_text-alone.ensures.text) (sym c.is_guarded.ensures.guarded ∙ c.if-is_guarded.false) _ _ _ _ _ _ _ _ (c.in-Ok-search_front.ensures.front p is plain)))
+    (ends_begun p _ _ _ _ _ _ _ _ _ _ (c.in-Ok-search_front.ensures.front p is plain)))
     c.end_file.ensures.begun
 
 pub returns-in-Err-search_front-clause-begun : goal.returns-in-Err-search_front-clause-begun

@@ -3,8 +3,7 @@ use Rattle.acgrep.proofs.Common.{Piece, common_steps, take_rest}
 use Rattle.std.proofs.Common.{◌++◌, ◌-◌, ◌<◌, ◌∙◌, ◌∷◌, ◌≡◌, List, Option, Some, [], ap, arith, drop, length, sym, take, ℕ}
 use Rattle.std.specs.Prelude.{option_map}
 use Rattle.acgrep.specs.Formats.{format_pieces, format_text, front_by, unknown_in}
-use Rattle.acgrep.proofs.FormatTexts.{text_more}
-use Rattle.acgrep.proofs.Formatted.{piece_step, pieces_more}
+use Rattle.acgrep.proofs.Formatted.{piece_step, pieces_more, text_more}
 use Rattle.acgrep.proofs.format.read_format.Goals as goal
 
 pub loop-rest-preserved : goal.loop-rest-preserved
@@ -24,6 +23,6 @@ loop-rest-preserved c =
           ∙ ap (λ (l : List ℕ). option_map (λ pieces. (items ++ (front.piece ∷ [])) ++ pieces) (format_pieces l)) behind
           ∙ ap (λ (l : List Piece). option_map (λ pieces. l ++ pieces) (format_pieces left)) (sym c.in_ok-add_piece-in-Some.ensures.added);
       text = ap (λ (l : List Piece). format_text l ++ left) c.in_ok-add_piece-in-Some.ensures.added ∙ ap (λ (l : List ℕ). format_text (items ++ (front.piece ∷ [])) ++ l) (sym behind)
-          ∙ text_more items front rest some is ∙ c.loop-rest.invariant.text;
+          ∙ text_more items front rest c.in-Some.ensures.taken ∙ c.loop-rest.invariant.text;
       unknown = c.loop-rest.invariant.unknown ∙ step.1 ∙ ap unknown_in behind;
     }

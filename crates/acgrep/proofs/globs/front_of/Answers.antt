@@ -1,7 +1,6 @@
 -- A part more fits.
 use Rattle.acgrep.proofs.Common.{take_rest}
-use Rattle.std.proofs.Common.{◌-◌, ◌∙◌, ◌∷◌, ◌≡◌, rules, sym}
-use Rattle.acgrep.specs.Globs.{part_len, stands_for}
+use Rattle.std.proofs.Common.{◌∙◌, ◌∷◌, ◌≡◌, rules, sym}
 use Rattle.acgrep.proofs.Globbed.{read_more}
 use Rattle.acgrep.proofs.globs.front_of.Goals as goal
 

@@ -14,13 +14,10 @@ use Rattle.acgrep.proofs.marked_files.mark_each.Goals as goal
 
 -- a file of which a line is selected has one
 has_one : (job : Job) (covering : Covering) (known held held' : Option (List ℕ)) → MarksFile job covering known held held' true → HasMarkedLine job covering known
-has_one job covering known held held' (inl whole) = record {
-  lines = stream_lines whole.text;
-  runs = whole.runs;
-  has = record { text = whole.text; of = whole.of; first = ([], sym (append-nil (stream_lines whole.text))); are = whole.are };
-  selected = sym whole.any_is;
-}
-has_one job covering known held held' (inr told) = record { lines = told.lines; runs = told.runs; has = told.has; selected = told.selected }
+has_one job covering known held held' (inl whole) =
+    let lines = stream_lines whole.text in
+    (record { text = whole.text; of = whole.of; lines = lines; first = ([], sym (append-nil lines)); runs = whole.runs; are = whole.are }, sym whole.any_is)
+has_one job covering known held held' (inr told) = (told.has, told.selected)
 
 input_one : (job : Job) (covering : Covering) (again : Bool) (known held held' : Option (List ℕ)) → MarksInput job covering again known held held' true → HasMarkedLine job covering known
 input_one job covering true known held held' file = let clash : true ≡ false = file.is_any in absurd (cc)

@@ -3,7 +3,7 @@ use Rattle.acgrep.proofs.Common.{Keeps-refl, Unread, is_input}
 use Rattle.std.proofs.Common.{◌∙◌, Bool, ap, false, sym, true}
 use Rattle.std.proofs.Math.Bool.{and-false}
 use Rattle.std.specs.Prelude.{◌&&◌}
-use Rattle.acgrep.specs.Files.{known_of, shown_name}
+use Rattle.acgrep.specs.Files.{known_of}
 use Rattle.acgrep.proofs.FilesMarked.{name_comes, name_none}
 use Rattle.acgrep.proofs.MarksTold.{end-told, named-told, outcome-told}
 use Rattle.acgrep.proofs.marked_files.mark_name.Goals as goal

@@ -2,14 +2,14 @@
 use Rattle.acgrep.proofs.Common.{on_ok_weaker}
 use Rattle.std.proofs.Common.{rules}
 use Rattle.std.proofs.iter.SoFar.{exit_by}
-use Rattle.acgrep.proofs.Coloring.{put_end, put_start, put_step}
+use Rattle.acgrep.proofs.Coloring.{put_end, put_step}
 use Rattle.acgrep.proofs.matches.put_each.Goals as goal
 
 pub loop-found-init : goal.loop-found-init
 loop-found-init g c = record {
   can_next = search rules;
   is_finite = search rules;
-  put = put_start c.args.shape c.args.style.now c.args.place c.args.line.now (g.W.Write.contents c.args.output.now);
+  put = λ rest end is. is;
 }
 
 pub loop-found-preserved : goal.loop-found-preserved

@@ -1,22 +1,22 @@
 -- The searcher was built from the lines that were read.
-use Rattle.acgrep.proofs.Common.{AnyPart, Errors, Fit, Flags, IsBuiltFrom, IsSameWord, MatchKind, Patterns, and_parts, common_steps, eq-eqb, name_bytes, pattern_at, pieces_of}
-use Rattle.std.proofs.Common.{◌∙◌, ◌∷◌, ◌≡◌, Bool, List, [], ap, arith, drop, false, inl, inr, length, refl, subst, sym, true, ℕ}
+use Rattle.acgrep.proofs.Common.{AnyPart, Fit, Flags, IsBuiltFrom, IsSameWord, Keeps, MatchKind, Patterns, and_parts, common_steps, eq-eqb, name_bytes, pattern_at, pieces_of}
+use Rattle.std.proofs.Common.{◌∙◌, ◌∷◌, ◌≡◌, Bool, List, Option, Some, [], ap, arith, drop, false, inl, inr, length, refl, subst, sym, true, ℕ}
 use Rattle.std.specs.Prelude.{if◌then◌else◌, slice_index_or, slice_range}
 use Rattle.aho_core.specs.Bytes.{folded_by}
 use Rattle.tool_parts.specs.Building.{patterns_by_kind}
-use Rattle.acgrep.specs.Arguments.{ending_by, fit_by, said, shown_by}
+use Rattle.acgrep.specs.Arguments.{asks_counts, ending_by, fit_by, said, shown_by}
 use Rattle.acgrep.specs.Folders.{known_by}
 use Rattle.acgrep.specs.Lines.{AreFreeOf, lines}
-use Rattle.acgrep.specs.Runs.{AreSought, BeginsNoMatch, BeginsOrKeeps, SearchesReached, WritesNoMatch, inverts, kind_sought, knows_none, origins_of, selects_none, words_sought}
+use Rattle.acgrep.specs.Runs.{AreSought, BeginsNoMatch, WritesNoMatch, inverts, kind_sought, knows_none, origins_of, selects_none, words_sought}
 use Rattle.acgrep.specs.Selected.{HoldNoEnding}
-use Rattle.acgrep.specs.Told.{MaySay, TellsStatus, source_names}
+use Rattle.acgrep.specs.Told.{MaySay, TellsStatus, names_told, source_names}
 use Rattle.acgrep.specs.Written.{HasMatch, IsPassedOver}
 use Rattle.acgrep.specs.declared.options.Fit.TheVariants.{WholeLine, WholeWord}
+use Rattle.acgrep.proofs.Bools.{either_way}
 use Rattle.acgrep.proofs.LineLists.{take_zero}
-use Rattle.acgrep.proofs.OrCounted.{counts-of, no-match, no-match-begins, none-told}
-use Rattle.acgrep.proofs.Reaching.{may-behind, some-sources, sources-told}
+use Rattle.acgrep.proofs.Reaching.{may-behind, sources-told}
 use Rattle.acgrep.proofs.Tellings.{none_matches}
-use Rattle.acgrep.proofs.Told.{status-weaker}
+use Rattle.acgrep.proofs.Told.{finished, status-none, status-weaker, stays-bound, stays-low}
 use Rattle.acgrep.proofs.run.search.Goals as goal
 
 -- an empty pattern occurs in each line
@@ -62,46 +62,32 @@ free_plain flags kind ignore_case words free number place low within = λ same.
 pub returns-in-Ok-searcher_of : goal.returns-in-Ok-searcher_of
 returns-in-Ok-searcher_of g c =
     let known = known_by g.F.Open g.F.Folders c.args.files.now in
-    let screen = c.args.screen.now in
     let given = said c.args.given.now in
     let flags = c.args.given.now.flags in
-    let names = name_bytes c.args.names.now in
     let text = lines 10 c.in-Some.keys.text.items in
     let sought = words_sought flags text in
     let left = g.R.Read.remaining c.read_keys.new.input in
-    let left' = g.R.Read.remaining c.search_or_count.new.input in
-    let status = c.search_or_count.result in
     let all : pieces_of c.as_slice-all.result.now ≡ text = ap pieces_of c.as_slice-all.ensures.value ∙ c.in-Ok.ensures.lines ∙ ap (lines 10) c.as_slice.ensures.value in
     let same : pieces_of c.sought-words.result.now ≡ sought = c.sought-words.ensures.words ∙ ap (words_sought flags) all in
     let free = rw (c.ending.ensures.ending, same) at c.first_holding.ensures.none c.in_default-first_holding.is in
-    let asked = patterns_by_kind (kind_sought flags) flags.ignore_case sought in
-    let built : IsBuiltFrom c.in-Ok-searcher_of.searcher asked = rw (c.kind_sought.ensures, same) at c.in-Ok-searcher_of.ensures.of in
+    let built : IsBuiltFrom c.in-Ok-searcher_of.searcher (patterns_by_kind (kind_sought flags) flags.ignore_case sought) = rw (c.kind_sought.ensures, same) at c.in-Ok-searcher_of.ensures.of in
     let plain = free_plain flags (kind_sought flags) flags.ignore_case sought free in
     let some : knows_none flags sought ≡ false = ap (knows_none flags) (sym same) ∙ sym c.knows_none.ensures ∙ c.if-knows_none.false in
     record {
       bound = c.search_or_count.ensures.bound;
-      searches = λ low. record {
-        what = text;
-        between = left;
-        read = c.in-Some.ensures.words;
-        does = counts-of flags text (λ old new. SearchesReached known screen given asked names left left' old new status)
-            (λ old new. AreSought known screen given sought names left left' old new status) (λ old new found. rw some found) _ _ (rw all at c.search_or_count.ensures.searched _ built plain low);
-      };
-      begins = inr (record {
-        what = text;
-        between = left;
-        read = c.in-Some.ensures.words;
-        does = rw all at c.search_or_count.ensures.begun _ built plain;
-      });
-      told = status-weaker g.E.Sink _ _ flags.no_messages (shown_by flags) _ _ _ (may-behind known.tree given (origins_of c.args.sources.now) names)
+      searches = λ low.
+          let done = rw all at c.search_or_count.ensures.searched _ built plain low in
+          record { what = text; between = left; read = c.in-Some.ensures.words; does = either_way (asks_counts flags) (λ is. (is.0, rw some is.1, is.2)) (λ found. rw some found) done };
+      begins = inr (record { what = text; between = left; read = c.in-Some.ensures.words; does = rw all at c.search_or_count.ensures.begun _ built plain });
+      told = status-weaker g.E.Sink _ _ flags.no_messages (shown_by flags) _ _ _ (may-behind known.tree given (origins_of c.args.sources.now) (name_bytes c.args.names.now))
           (rw (c.in-Some.ensures.silent refl) at c.search_or_count.ensures.told);
+      flushed = c.search_or_count.ensures.flushed;
     }
 
 -- or it is known that no line is selected
 pub returns-then-knows_none : goal.returns-then-knows_none
 returns-then-knows_none g c =
     let known = known_by g.F.Open g.F.Folders c.args.files.now in
-    let screen = c.args.screen.now in
     let given = said c.args.given.now in
     let flags = c.args.given.now.flags in
     let names = name_bytes c.args.names.now in
@@ -115,32 +101,34 @@ returns-then-knows_none g c =
     let May = MaySay known.tree given sources names in
     let e = c.read_keys.new.errors in
     let e' = c.end_unsearched.new.errors in
+    let ends = c.end_unsearched.ensures.told in
     let all : pieces_of c.as_slice-all.result.now ≡ text = ap pieces_of c.as_slice-all.ensures.value ∙ c.in-Ok.ensures.lines ∙ ap (lines 10) c.as_slice.ensures.value in
     let same : pieces_of c.sought-words.result.now ≡ sought = c.sought-words.ensures.words ∙ ap (words_sought flags) all in
     let asked = patterns_by_kind (kind_sought flags) flags.ignore_case sought in
     let none : knows_none flags sought ≡ true = ap (knows_none flags) (sym same) ∙ sym c.knows_none.ensures ∙ c.if-knows_none.true in
+    let begun : BeginsNoMatch flags text held held' = rw all at c.end_unsearched.ensures.begun in
     record {
-      bound = elim c.end_unsearched.ensures.status [ inl one ↦ omega (arith, one) | inr two ↦ omega (arith, two) ];
+      bound = stays-bound g.E.Sink 1 status e e' ends (omega arith);
       searches = λ low.
-          let one : status ≡ 1 = elim c.end_unsearched.ensures.status [ inl one ↦ one | inr two ↦ absurd (omega (arith, low, two)) ] in
+          let passed = none_selected asked (fit_by flags) (inverts flags) sought refl (and_parts _ _ none).1 in
+          let found : (old new : Option (List ℕ)) → Keeps old new → AreSought known c.args.screen.now given sought names left left old new status =
+          λ old new keeps. rw none (record { passed = passed; unread = refl; unwritten = keeps; none = stays-low g.E.Sink 1 status e e' ends low }) in
+          let written : WritesNoMatch flags text held held' = rw all at c.end_unsearched.ensures.written low in
           record {
             what = text;
             between = left;
             read = c.in-Some.ensures.words;
-            does = no-match flags text (λ old new. AreSought known screen given sought names left left old new status) held held'
-                (λ old new keeps. rw none (record { passed = none_selected asked (fit_by flags) (inverts flags) sought refl (and_parts _ _ none).1; unread = refl; unwritten = keeps; none = one }))
-                (subst (λ (l : List (List ℕ)). WritesNoMatch flags l held held') all (c.end_unsearched.ensures.written low));
+            does = either_way (asks_counts flags) (λ written. ([], found (Some []) (Some []) refl, written)) (found held held') written;
           };
       begins = inr (record {
         what = text;
         between = left;
         read = c.in-Some.ensures.words;
-        does = no-match-begins flags text (λ old new. BeginsOrKeeps known screen given asked names left old new) held held' (λ old new keeps. inl keeps)
-            (subst (λ (l : List (List ℕ)). BeginsNoMatch flags l held held') all c.end_unsearched.ensures.begun);
+        does = either_way (asks_counts flags) (λ begun. ([], inl refl, begun)) (λ keeps. inl keeps) begun;
       });
-      told = subst (λ (old : Errors g.row.E.Denot). TellsStatus g.E.Sink May flags.no_messages (shown_by flags) status old e') (c.in-Some.ensures.silent refl)
-          (none-told g.E.Sink May flags.no_messages (shown_by flags) status e e' c.end_unsearched.ensures.status c.end_unsearched.ensures.silent
-          (λ two. some-sources g.E.Sink known.tree given sources names e e' (c.end_unsearched.ensures.told two (source_names sources))));
+      told = finished g.E.Sink (names_told flags.no_messages given.label sources names) May (λ line is. inl (inl is)) flags.no_messages (shown_by flags) 1 status c.args.errors.now e e'
+          (subst (λ x. TellsStatus g.E.Sink May flags.no_messages (shown_by flags) 1 x e) (c.in-Some.ensures.silent refl) (status-none g.E.Sink May flags.no_messages (shown_by flags) 1 e (omega arith))) ends;
+      flushed = c.end_unsearched.ensures.flushed;
     }
 
 -- or a pattern cannot be read or searched for

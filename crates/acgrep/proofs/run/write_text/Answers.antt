@@ -1,12 +1,10 @@
--- A text is written, or why not is told.
-use Rattle.acgrep.proofs.Common.{some-weaker}
-use Rattle.std.proofs.Common.{arith, inl}
-use Rattle.acgrep.specs.Told.{MayTell}
-use Rattle.acgrep.proofs.Told.{status-none, status-some}
+-- The whole is a beginning, and is kept.
+use Rattle.std.proofs.KnownBytes.{Appends-kept}
+use Rattle.tool_parts.proofs.Beginnings.{beginning-kept, beginning-whole}
 use Rattle.acgrep.proofs.run.write_text.Goals as goal
 
-pub returns-in-Ok-clause-told : goal.returns-in-Ok-clause-told
-returns-in-Ok-clause-told g c = λ hushed shown names. status-none g.E.Sink (MayTell names) hushed shown 0 c.args.errors.now (omega arith)
+pub returns-in-Ok-clause-written : goal.returns-in-Ok-clause-written
+returns-in-Ok-clause-written g c = λ none. Appends-kept _ _ _ _ c.in-Ok.ensures.whole c.finish.ensures.kept
 
-pub returns-in-Err-clause-told : goal.returns-in-Err-clause-told
-returns-in-Err-clause-told g c = λ hushed shown names. status-some g.E.Sink _ _ _ _ _ (some-weaker g.E.Sink _ _ _ _ (λ line is. inl is) (c.tell_write.ensures.told names))
+pub returns-in-Ok-clause-begun : goal.returns-in-Ok-clause-begun
+returns-in-Ok-clause-begun g c = beginning-kept _ _ _ _ (beginning-whole _ _ _ c.in-Ok.ensures.whole) c.finish.ensures.kept

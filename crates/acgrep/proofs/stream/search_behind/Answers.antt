@@ -1,13 +1,10 @@
 -- A read more, up to the end, a line with a zero byte, or lines behind which nothing more is told.
-use Rattle.acgrep.proofs.Common.{Consumes-nil}
-use Rattle.std.proofs.Common.{[], refl, subst}
-use Rattle.acgrep.specs.Written.{IsSettled}
+use Rattle.acgrep.proofs.Common.{Consumes-nil, true≢false}
+use Rattle.std.proofs.Common.{◌∙◌, ◌≡◌, Bool, [], append-nil, false, inl, inr, refl, sym, true}
 use Rattle.acgrep.proofs.Beginnings.{on_err}
-use Rattle.acgrep.proofs.Fronts.{front_last, front_start, front_step, front_stop}
-use Rattle.acgrep.proofs.Streams.{not_done, reads_both}
-use Rattle.acgrep.proofs.StreamsBegun.{behind_end, behind_reads, behind_stop}
-use Rattle.acgrep.proofs.stream.search_behind.Given.{Over}
-use Rattle.acgrep.proofs.stream.search_behind.Goals.{After-read_front}
+use Rattle.acgrep.proofs.Fronts.{end_text, filled_by, front_binary, front_last, front_start, front_stop, front_text}
+use Rattle.acgrep.proofs.Streams.{reads_both}
+use Rattle.acgrep.proofs.StreamsBegun.{behind_filled, behind_lines, behind_none, behind_reads, behind_searched, behind_whole}
 use Rattle.acgrep.proofs.stream.search_behind.Goals as goal
 
 pub loop-init : goal.loop-init
@@ -25,62 +22,92 @@ returns-then-is_done-clause-front g c = λ p is plain.
     front_stop p _ _ _ _ _ _ _ _ _ _ (c.is_done.ensures.settled.0 c.if-is_done.true) (c.loop.invariant.searched p is plain).0
 
 -- more is told of the lines behind those that were searched
-goes : (g : Over) (c : After-read_front g) → IsSettled c.args.query.now.job c.loop.state → ⊥
-goes g c = not_done c.is_done.result (IsSettled c.args.query.now.job c.loop.state) c.is_done.ensures.settled.1 c.if-is_done.false
+goes : {P : Type 0} {done : Bool} → (P → done ≡ true) → done ≡ false → P → ⊥
+goes tells not holds = true≢false (sym (tells holds) ∙ not)
 
-pub returns-in_err-read_front-clause-begun : goal.returns-in_err-read_front-clause-begun
-returns-in_err-read_front-clause-begun g c = λ p is plain.
+pub returns-in_err-count-clause-begun : goal.returns-in_err-count-clause-begun
+returns-in_err-count-clause-begun g c = λ p is plain.
     let (so_far, text) = c.loop.invariant.searched p is plain in
-    on_err c.from_residual-in_err-read_front.result
-    (behind_reads p _ _ _ _ _ _ _ _ _ _ _ _ _ so_far.some (goes g (goal.at.returns-in_err-read_front-clause-begun g c).After-read_front) so_far.text (c.in_err-read_front.ensures.begun text p is plain))
+    on_err c.from_residual-in_err-count.result
+    (behind_reads p _ _ _ _ _ _ _ _ _ _ _ _ so_far (goes c.is_done.ensures.settled.1 c.if-is_done.false)
+    (behind_none p _ _ _ _ _ _ _ c.read_more.ensures.kept))
 
-pub returns-in_err-read_front-clause-reads : goal.returns-in_err-read_front-clause-reads
-returns-in_err-read_front-clause-reads g c = reads_both _ _ _ c.loop.invariant.reads c.read_front.ensures.reads
+pub returns-in_err-count-clause-reads : goal.returns-in_err-count-clause-reads
+returns-in_err-count-clause-reads g c = reads_both _ _ _ c.loop.invariant.reads c.read_more.ensures.reads
 
-pub returns-in-Binary-clause-front : goal.returns-in-Binary-clause-front
-returns-in-Binary-clause-front g c = λ p is plain.
+-- nothing came
+pub returns-then-count-eq0-clause-front : goal.returns-then-count-eq0-clause-front
+returns-then-count-eq0-clause-front g c = λ p is plain.
     let (so_far, text) = c.loop.invariant.searched p is plain in
-    let front = rw c.in-Binary.is at c.in_ok-read_front.ensures.read p is plain in
-    let (asked, begins) = front.left text in
-    (asked, front_step p _ _ _ _ _ _ _ _ _ _ _ _ _ _ _ (goes g (goal.at.returns-in-Binary-clause-front g c).After-read_front) text so_far front, begins)
+    front_last p _ _ _ _ _ _ _ _ _ _ _ _ _ _ _ _ (goes c.is_done.ensures.settled.1 c.if-is_done.false) c.read_more.ensures.kept c.in_ok-count.ensures.filled text so_far
+    c.if-count-eq0.true (rw c.bytes.ensures.bytes at c.in_ok-search_text.ensures.written p is plain)
 
-pub returns-in-Binary-clause-reads : goal.returns-in-Binary-clause-reads
-returns-in-Binary-clause-reads g c = reads_both _ _ _ c.loop.invariant.reads c.read_front.ensures.reads
+pub returns-then-count-eq0-clause-reads : goal.returns-then-count-eq0-clause-reads
+returns-then-count-eq0-clause-reads g c = reads_both _ _ _ c.loop.invariant.reads c.read_more.ensures.reads
 
-pub returns-in-End-clause-front : goal.returns-in-End-clause-front
-returns-in-End-clause-front g c = λ p is plain.
+pub returns-in_err-search_text-clause-begun : goal.returns-in_err-search_text-clause-begun
+returns-in_err-search_text-clause-begun g c = λ p is plain.
     let (so_far, text) = c.loop.invariant.searched p is plain in
-    front_last p _ _ _ _ _ _ _ _ _ _ _ _ _ _ _ _ (goes g (goal.at.returns-in-End-clause-front g c).After-read_front) text so_far
-    (rw c.in-End.is at c.in_ok-read_front.ensures.read p is plain)
-    (rw c.bytes.ensures.bytes at c.in_ok-search_text-in-End.ensures.written p is plain)
+    let fills = c.in_ok-count.ensures.filled in
+    on_err c.from_residual-in_err-search_text.result
+    (behind_reads p _ _ _ _ _ _ _ _ _ _ _ _ so_far (goes c.is_done.ensures.settled.1 c.if-is_done.false)
+    (behind_filled p _ _ _ _ _ _ _ _ _ _ _ _ c.read_more.ensures.kept fills
+    (behind_lines p _ _ _ _ _ _ _ _ _ [] (sym (append-nil _)) (inl (refl, fills.ended c.if-count-eq0.true)) (end_text _ _ _ _ _ _ fills text c.if-count-eq0.true)
+    (rw c.bytes.ensures.bytes at c.in_err-search_text.ensures.begun p is plain))))
 
-pub returns-in-End-clause-reads : goal.returns-in-End-clause-reads
-returns-in-End-clause-reads g c = reads_both _ _ _ c.loop.invariant.reads c.read_front.ensures.reads
+pub returns-in_err-search_text-clause-reads : goal.returns-in_err-search_text-clause-reads
+returns-in_err-search_text-clause-reads g c = reads_both _ _ _ c.loop.invariant.reads c.read_more.ensures.reads
 
-pub returns-in_err-search_text-in-End-clause-begun : goal.returns-in_err-search_text-in-End-clause-begun
-returns-in_err-search_text-in-End-clause-begun g c = λ p is plain.
+-- a line with a zero byte did
+pub returns-in-Some-clause-front : goal.returns-in-Some-clause-front
+returns-in-Some-clause-front g c = λ p is plain.
     let (so_far, text) = c.loop.invariant.searched p is plain in
-    let more = goes g (goal.at.returns-in_err-search_text-in-End-clause-begun g c).After-read_front in
-    let front = rw c.in-End.is at c.in_ok-read_front.ensures.read p is plain in
-    let (end, same) = front.some.ends refl in
-    on_err c.from_residual-in_err-search_text-in-End.result
-    (behind_reads p _ _ _ _ _ _ _ _ _ _ _ _ _ so_far.some more so_far.text
-    (behind_reads p _ _ _ _ _ _ _ _ _ _ _ _ _ front.some (λ settled. more (subst (IsSettled c.args.query.now.job) same settled)) (front.text text)
-    (behind_end p _ _ _ _ _ _ _ _ end (front.left text) (rw c.bytes.ensures.bytes at c.in_err-search_text-in-End.ensures.begun p is plain))))
+    front_binary p _ _ _ _ _ _ _ _ _ _ _ _ _ _ _ _ (goes c.is_done.ensures.settled.1 c.if-is_done.false) c.read_more.ensures.kept c.in_ok-count.ensures.filled text so_far
+    c.in-Some.ensures.asked _ c.in-Some.start (rw c.bytes-in-loop.ensures.bytes at c.in-Some.ensures.within) (rw c.bytes-in-loop.ensures.bytes at c.in-Some.ensures.ends)
+    (λ asked. rw c.bytes-in-loop.ensures.bytes at c.in-Some.ensures.zero asked) c.drop_front.ensures.rest
+    (rw c.bytes-in-Some.ensures.bytes at c.in_ok-search_text-in-Some.ensures.written p is plain)
 
-pub returns-in_err-search_text-in-End-clause-reads : goal.returns-in_err-search_text-in-End-clause-reads
-returns-in_err-search_text-in-End-clause-reads g c = reads_both _ _ _ c.loop.invariant.reads c.read_front.ensures.reads
+pub returns-in-Some-clause-reads : goal.returns-in-Some-clause-reads
+returns-in-Some-clause-reads g c = reads_both _ _ _ c.loop.invariant.reads c.read_more.ensures.reads
 
+pub returns-in_err-search_text-in-Some-clause-begun : goal.returns-in_err-search_text-in-Some-clause-begun
+returns-in_err-search_text-in-Some-clause-begun g c = λ p is plain.
+    let (so_far, text) = c.loop.invariant.searched p is plain in
+    let fills = c.in_ok-count.ensures.filled in
+    on_err c.from_residual-in_err-search_text-in-Some.result
+    (behind_reads p _ _ _ _ _ _ _ _ _ _ _ _ so_far (goes c.is_done.ensures.settled.1 c.if-is_done.false)
+    (behind_filled p _ _ _ _ _ _ _ _ _ _ _ _ c.read_more.ensures.kept fills
+    (behind_whole p _ _ _ _ _ _ _ _ c.in-Some.start (rw c.bytes-in-loop.ensures.bytes at c.in-Some.ensures.within) (rw c.bytes-in-loop.ensures.bytes at c.in-Some.ensures.ends)
+    (λ asked. (filled_by _ _ _ _ _ _ fills text (λ is. rw c.bytes-in-loop.ensures.bytes at c.in-Some.ensures.zero is) asked).0)
+    (rw c.bytes-in-Some.ensures.bytes at c.in_err-search_text-in-Some.ensures.begun p is plain))))
+
+pub returns-in_err-search_text-in-Some-clause-reads : goal.returns-in_err-search_text-in-Some-clause-reads
+returns-in_err-search_text-in-Some-clause-reads g c = reads_both _ _ _ c.loop.invariant.reads c.read_more.ensures.reads
+
+-- or none
 pub loop-preserved : goal.loop-preserved
 loop-preserved g c = record {
   searched = λ p is plain.
       let (so_far, text) = c.loop.invariant.searched p is plain in
-      let front = rw c.in-Text.is at c.in_ok-read_front.ensures.read p is plain in
-      (front_step p _ _ _ _ _ _ _ _ _ _ _ _ _ _ _ (goes g (goal.at.loop-preserved g c).After-read_front) text so_far front, front.left text);
-  reads = reads_both _ _ _ c.loop.invariant.reads c.read_front.ensures.reads;
+      front_text p _ _ _ _ _ _ _ _ _ _ _ _ _ _ _ _ (goes c.is_done.ensures.settled.1 c.if-is_done.false) c.read_more.ensures.kept c.in_ok-count.ensures.filled text so_far
+      _ (λ asked. rw c.bytes-in-loop.ensures.bytes at c.in-None.ensures.zero asked) (c.in_ok-search_whole-in-None.ensures.searched p is plain);
+  reads = reads_both _ _ _ c.loop.invariant.reads c.read_more.ensures.reads;
 }
+
+pub returns-in_err-search_whole-in-None-clause-begun : goal.returns-in_err-search_whole-in-None-clause-begun
+returns-in_err-search_whole-in-None-clause-begun g c = λ p is plain.
+    let (so_far, text) = c.loop.invariant.searched p is plain in
+    let fills = c.in_ok-count.ensures.filled in
+    on_err c.from_residual-in_err-search_whole-in-None.result
+    (behind_reads p _ _ _ _ _ _ _ _ _ _ _ _ so_far (goes c.is_done.ensures.settled.1 c.if-is_done.false)
+    (behind_filled p _ _ _ _ _ _ _ _ _ _ _ _ c.read_more.ensures.kept fills
+    (c.in_err-search_whole-in-None.ensures.begun p is plain c.args.alone
+    (filled_by _ _ _ _ _ _ fills text (λ asked. rw c.bytes-in-loop.ensures.bytes at c.in-None.ensures.zero asked)) (g.R.Read.remaining c.read_more.new.input))))
+
+pub returns-in_err-search_whole-in-None-clause-reads : goal.returns-in_err-search_whole-in-None-clause-reads
+returns-in_err-search_whole-in-None-clause-reads g c = reads_both _ _ _ c.loop.invariant.reads c.read_more.ensures.reads
 
 pub returns-clause-begun : goal.returns-clause-begun
 returns-clause-begun g c = λ p is plain.
     let (so_far, text) = c.loop.invariant.searched p is plain in
-    behind_stop p _ _ _ _ _ _ _ _ _ _ _ so_far.some so_far.text
+    behind_searched p _ _ _ _ _ _ _ _ _ _ so_far.some (inr so_far.whole)
