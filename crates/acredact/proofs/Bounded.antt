@@ -1,5 +1,5 @@
 -- No number grows by more than was read.
-use Rattle.acredact.proofs.Common.{Bor, CanBegin, Consumes, Consumes-nil, CountsRunsWith, CountsThese, Ghosts, Keeps, Memory, MutBor, Occurrence, Patterns, PieceRule, SinkGhosts, SourceGhosts, StreamError, Volume, all-covers, all-made, all_runs, counted, finds-exist, is_input, length-replicate, plain_search, runs_named}
+use Rattle.acredact.proofs.Common.{Bor, CanBegin, Consumes, Consumes-nil, CountsRunsWith, CountsThese, Ghosts, Memory, MutBor, Occurrence, Patterns, PieceRule, SinkGhosts, SourceGhosts, StreamError, Volume, all-covers, all-made, all_runs, counted, finds-exist, is_input, length-replicate, plain_search, runs_named}
 use Rattle.std.proofs.Common.{◌≡◌, inl, inr, ℕ, ◌+◌, ◌<◌, ◌≤◌, Bool, List, [], ◌∷◌, ◌++◌, Option, true, false, length, map, refl, sym, ap, subst, ◌∙◌, arith, length-append, le_refl}
 use Rattle.std.specs.Prelude.{None, Some, Ok, Err, Result, MatchBool, nat_eq, not, replicate}
 use Rattle.std.proofs.lemmas.List.Filters.{length-filter_both}
@@ -9,7 +9,7 @@ use Rattle.aho_laws.specs.CoverLaws.{AreInOrder}
 use Rattle.aho_laws.proofs.SettledRuns.{few-open}
 use Rattle.aho_cover.specs.Covers.{CountsWrittenWith, LeavesCountedWith}
 use Rattle.aho_stream.specs.StreamRun.{RefusesAllUntouched, RunsAndLeaves, RunsLent}
-use Rattle.acredact.specs.Bounds.{Bounded, GrowAtMost, NumbersGiven, NumbersOfAll, NumbersOfName, NumbersRead, ReadInAll, ReadsSome}
+use Rattle.acredact.specs.Bounds.{Bounded, GrowAtMost, NumbersOfAll, NumbersOfName, NumbersRead, ReadsSome}
 use Rattle.acredact.specs.Metering.{IsMetered, settled_left}
 use Rattle.acredact.specs.Secrets.{Redactor}
 use Rattle.acredact.specs.Streams.{StartsStream}
@@ -17,7 +17,7 @@ use Rattle.acredact.specs.Volumes.{files_with}
 use Rattle.acredact.proofs.Counted.{has_counted, no_more}
 use Rattle.acredact.proofs.Covered.{few_from}
 use Rattle.acredact.proofs.Metering.{consumes_settled, metered_added}
-use Rattle.acredact.proofs.OneFile.{known_read, name_unread, of_folder}
+use Rattle.acredact.proofs.OneFile.{IsFileRead, known_read, name_unread}
 use Rattle.acredact.proofs.Redactions.{some_of}
 use Rattle.acredact.proofs.Runs.{sums_few}
 
@@ -112,32 +112,24 @@ module _ {A R W F : Type 0} (G : Ghosts A) (S : SourceGhosts R) (K : SinkGhosts 
       ]
 
 -- a number of bytes grows by no more than was given, where that is known; and else anything may have been
-longer_of : (settled : Bool) (whole left left' : Option (List ℕ)) (start bytes bytes' : ℕ) (given : List ℕ) → whole ≡ left → start ≡ bytes → Consumes left (settled_left settled left') given
-    → (settled ≡ true → IsMetered whole left' start bytes') → (longer : List ℕ) × (length given ≤ length longer) × Consumes left left' longer × (bytes' ≤ bytes + length longer)
-longer_of settled whole None left' start bytes bytes' given same is read metered =
+pub numbers_of : (settled : Bool) (whole left left' : Option (List ℕ)) (counts counts' : List ℕ) (start bytes bytes' : ℕ) (given : List ℕ) → whole ≡ left → start ≡ bytes → Consumes left (settled_left settled left') given
+    → (settled ≡ true → IsMetered whole left' start bytes') → GrowAtMost (length given) counts counts' → NumbersRead counts counts' bytes bytes' left left'
+numbers_of settled whole None left' counts counts' start bytes bytes' given same is read metered grow =
     let sized : length (given ++ replicate bytes' 0) ≡ length given + bytes' = length-append given (replicate bytes' 0) ∙ ap (λ (n : ℕ). length given + n) (length-replicate bytes' 0) in
-    (given ++ replicate bytes' 0, omega (arith, sized), tt, omega (arith, sized))
-longer_of settled whole (Some xs) left' start bytes bytes' given same is read metered =
-    (given, le_refl (length given), consumes_settled settled (Some xs) left' given read, omega (arith, metered_added settled whole (Some xs) left' start bytes bytes' given same is read metered refl))
+    record {
+      given = given ++ replicate bytes' 0;
+      read = tt;
+      counted = record { as_many = grow.as_many; each = λ number within. omega (arith, sized, grow.each number within); together = omega (arith, sized, grow.together) };
+      added = omega (arith, sized);
+    }
+numbers_of settled whole (Some xs) left' counts counts' start bytes bytes' given same is read metered grow =
+    record { given = given; read = consumes_settled settled (Some xs) left' given read; counted = grow; added = omega (arith, metered_added settled whole (Some xs) left' start bytes bytes' given same is read metered refl) }
 
-grow_more : (few most : ℕ) (counts counts' : List ℕ) → few ≤ most → GrowAtMost few counts counts' → GrowAtMost most counts counts'
-grow_more few most counts counts' less grow = record { as_many = grow.as_many; each = λ number within. omega (arith, grow.each number within, less); together = omega (arith, grow.together, less) }
-
-pub numbers_of : {R : Type 0} (S : SourceGhosts R) (source source' : R) (counts counts' : List ℕ) (settled : Bool) (whole : Option (List ℕ)) (start bytes bytes' : ℕ) (given : List ℕ) (ended : Bool)
-    → whole ≡ S.remaining source → start ≡ bytes → Consumes (S.remaining source) (settled_left settled (S.remaining source')) given → S.empty_reads source' ≡ counted ended (S.empty_reads source)
-    → (settled ≡ true → IsMetered whole (S.remaining source') start bytes') → GrowAtMost (length given) counts counts' → NumbersGiven S source source' counts counts' bytes bytes'
-numbers_of S source source' counts counts' settled whole start bytes bytes' given ended same is read end metered grow =
-    let longer = longer_of settled whole (S.remaining source) (S.remaining source') start bytes bytes' given same is read metered in
-    record { given = longer.0; ended = ended; gives = record { bytes = longer.2; end = end }; counted = grow_more (length given) (length longer.0) counts counts' longer.1 grow; added = longer.3 }
-
-pub numbers_there : {R : Type 0} (S : SourceGhosts R) (source there there' : R) (counts counts' : List ℕ) (bytes bytes' : ℕ) → there ≡ there' → NumbersGiven S source there counts counts' bytes bytes' → NumbersGiven S source there' counts counts' bytes bytes'
-numbers_there S source there there' counts counts' bytes bytes' same numbers = subst (λ s. NumbersGiven S source s counts counts' bytes bytes') same numbers
-
--- the numbers of a file that the folder opened
-pub opened_numbers : (holds : List ℕ → Option (List ℕ)) (name : List ℕ) (left left' : Option (List ℕ)) (counts counts' : List ℕ) (bytes bytes' : ℕ) → is_input name ≡ false → left' ≡ left → (opened rest : Option (List ℕ)) → Keeps (holds name) opened
-    → NumbersRead counts counts' bytes bytes' opened rest → NumbersOfName counts counts' bytes bytes' holds name left left'
-opened_numbers holds name left left' counts counts' bytes bytes' is same opened rest kept numbers = of_folder holds name (NumbersRead counts counts' bytes bytes') left left' is same rest
-    (record { given = numbers.given; read = known_read (holds name) opened rest numbers.given kept numbers.read; counted = numbers.counted; added = numbers.added })
+-- the numbers of the file of a name that was read
+pub file_numbers : {holds : List ℕ → Option (List ℕ)} {name : List ℕ} {given rest left left' : Option (List ℕ)} {counts counts' : List ℕ} {bytes bytes' : ℕ} → IsFileRead holds name given rest left left'
+    → NumbersRead counts counts' bytes bytes' given rest → NumbersOfName counts counts' bytes bytes' holds name left left'
+file_numbers {given = given} {rest = rest} {counts = counts} {counts' = counts'} {bytes = bytes} {bytes' = bytes'} file numbers = file.of (NumbersRead counts counts' bytes bytes')
+    (record { given = numbers.given; read = known_read file.known given rest numbers.given file.kept numbers.read; counted = numbers.counted; added = numbers.added })
 
 -- nothing was read and nothing has grown
 read_nothing : (counts : List ℕ) (bytes : ℕ) (left : Option (List ℕ)) → NumbersRead counts counts bytes bytes left left
@@ -157,38 +149,21 @@ size_of holds name left left' counts counts' bytes bytes' = by_test (is_input na
     by_test true numbers = (length numbers.given, (numbers.given, numbers.read, refl), numbers.counted, numbers.added)
     by_test false (same, rest, numbers) = (length numbers.given, (same, rest, (numbers.given, numbers.read, refl)), numbers.counted, numbers.added)
 
--- of some first files
-pub record NumbersSoFar (holds : List ℕ → Option (List ℕ)) (names rest : List (List ℕ)) (counts counts' : List ℕ) (volume volume' : Volume) (old new : Option (List ℕ)) : Type 0 where
-  pub size : ℕ
-  pub read : (more : ℕ) (left : Option (List ℕ)) → ReadInAll holds rest more new left → ReadInAll holds names (size + more) old left
-  pub counted : GrowAtMost size counts counts'
-  pub bytes : volume'.bytes ≤ volume.bytes + size
-  pub files : volume'.files + length rest ≤ volume.files + length names
-
-module _ (holds : List ℕ → Option (List ℕ)) (names : List (List ℕ)) (counts : List ℕ) (volume : Volume) (old : Option (List ℕ)) where
-  pub none_numbered : NumbersSoFar holds names names counts counts volume volume old old
-  none_numbered = record { size = 0; read = λ more left rest. let same : more ≡ 0 + more = omega arith in subst (λ (n : ℕ). ReadInAll holds names n old left) same rest; counted = grow_none counts 0; bytes = omega arith; files = omega arith }
-
-  pub more_numbered : (name : List ℕ) (rest : List (List ℕ)) (before after : Volume) (mid_counts counts' : List ℕ) (bytes : ℕ) (mid new : Option (List ℕ)) → NumbersSoFar holds names (name ∷ rest) counts mid_counts volume before old mid
-      → NumbersOfName mid_counts counts' before.bytes bytes holds name mid new → after.bytes ≡ bytes → after.files ≤ before.files + 1 → NumbersSoFar holds names rest counts counts' volume after old new
-  more_numbered name rest before after mid_counts counts' bytes mid new far numbers same files =
-      let one = size_of holds name mid new mid_counts counts' before.bytes bytes numbers in
-      record {
-        size = far.size + one.0;
-        read = λ more left rests.
-            let both : (far.size + one.0) + more ≡ far.size + (one.0 + more) = omega arith in
-            subst (λ (n : ℕ). ReadInAll holds names n old left) (sym both) (far.read (one.0 + more) left (one.0, more, refl, new, one.1, rests));
-        counted = record { as_many = one.2.as_many ∙ far.counted.as_many; each = λ number within. omega (arith, one.2.each number (subst (λ (n : ℕ). number < n) (sym far.counted.as_many) within), far.counted.each number within); together = omega (arith, one.2.together, far.counted.together) };
-        bytes = omega (arith, far.bytes, one.3, same);
-        files = let size : length (name ∷ rest) ≡ length rest + 1 = omega arith in omega (arith, far.files, size, files);
-      }
-
-  pub all_numbered : (counts' : List ℕ) (after : Volume) (new : Option (List ℕ)) → NumbersSoFar holds names [] counts counts' volume after old new → NumbersOfAll holds names counts counts' volume after old new
-  all_numbered counts' after new far =
-      let same : far.size + 0 ≡ far.size = omega arith in
-      record { size = far.size; read = subst (λ (n : ℕ). ReadInAll holds names n old new) same (far.read 0 new (refl, refl)); counted = far.counted; bytes = far.bytes; files = omega (arith, far.files) }
-
 -- one file more at most
-pub one_file : (whole : Bool) (files : ℕ) → files_with whole files ≤ files + 1
+one_file : (whole : Bool) (files : ℕ) → files_with whole files ≤ files + 1
 one_file true files = omega arith
 one_file false files = omega arith
+
+-- the numbers of a file, and then of others
+pub numbers_more : (holds : List ℕ → Option (List ℕ)) (name : List ℕ) (names : List (List ℕ)) (counts half counts' : List ℕ) (volume mid volume' : Volume) (left between left' : Option (List ℕ)) (whole : Bool)
+    → NumbersOfName counts half volume.bytes mid.bytes holds name left between → mid.files ≡ files_with whole volume.files → NumbersOfAll holds names half counts' mid volume' between left'
+    → NumbersOfAll holds (name ∷ names) counts counts' volume volume' left left'
+numbers_more holds name names counts half counts' volume mid volume' left between left' whole numbers files more =
+    let one = size_of holds name left between counts half volume.bytes mid.bytes numbers in
+    record {
+      size = one.0 + more.size;
+      read = (one.0, more.size, refl, between, one.1, more.read);
+      counted = record { as_many = more.counted.as_many ∙ one.2.as_many; each = λ number within. omega (arith, one.2.each number within, more.counted.each number (subst (λ (n : ℕ). number < n) (sym one.2.as_many) within)); together = omega (arith, one.2.together, more.counted.together) };
+      bytes = omega (arith, more.bytes, one.3);
+      files = let size : length (name ∷ names) ≡ length names + 1 = omega arith in omega (arith, more.files, size, files, one_file whole volume.files);
+    }

@@ -1,7 +1,7 @@
 -- What is seen of files, one after another.
-use Rattle.acredact.proofs.Common.{Consumes-nil, Errors, Failure, Keeps, Look, Reason, SinkGhosts, Strict, TellsBytes, Verdict, concat, is_input, tells-later, tells-nothing}
+use Rattle.acredact.proofs.Common.{Consumes-nil, Errors, Failure, Keeps, Look, Reason, SinkGhosts, Strict, Tells, TellsBytes, Verdict, concat, is_input, tells-later, tells-nothing}
 use Rattle.std.proofs.Common.{◌≡◌, inl, inr, ℕ, List, [], ◌∷◌, ◌++◌, Option, true, false, refl, sym, subst, ◌∙◌, arith}
-use Rattle.std.specs.Prelude.{Bool, ◌⊎◌, ◌<◌, ◌||◌, ◌&&◌, Result, Ok, Err, IfErr}
+use Rattle.std.specs.Prelude.{Bool, ◌⊎◌, ◌<◌, ◌&&◌, Result, Ok, Err}
 use Rattle.acredact.specs.Builds.{patterns_by_given}
 use Rattle.acredact.specs.Arguments.{has}
 use Rattle.acredact.specs.Calls.{Call, IsUnreadLine, TellsOfFiles, gives_pattern, names_asked, reading_by}
@@ -11,8 +11,7 @@ use Rattle.acredact.specs.Failures.{IsFailureLine}
 use Rattle.acredact.specs.Faults.{IsReadReason}
 use Rattle.acredact.specs.Files.{are_none}
 use Rattle.acredact.specs.Loading.{AreGiven, CannotLoadAll}
-use Rattle.acredact.specs.Looks.{IsLook, HoldsNoMatch, is_found, verdict_of}
-use Rattle.acredact.specs.Reads.{OfName}
+use Rattle.acredact.specs.Looks.{IsLook, verdict_of}
 use Rattle.acredact.specs.Secrets.{Redactor}
 use Rattle.acredact.specs.Statuses.{check_status}
 use Rattle.acredact.specs.Tables.{Secret, patterns_in}
@@ -20,8 +19,8 @@ use Rattle.acredact.specs.declared.look.Look.TheVariants.{Clean, Found, Unread}
 use Rattle.acredact.proofs.Calls.{none_are, tells_both, tells_same, tells_weaker}
 use Rattle.acredact.proofs.Done.{both_so, concat_both, none_both}
 use Rattle.acredact.proofs.LookedFiles.{verdicts_joined}
-use Rattle.acredact.proofs.OneFile.{known_read, of_folder}
-use Rattle.acredact.proofs.RuledFiles.{IsFileRead, told_as, told_more}
+use Rattle.acredact.proofs.OneFile.{IsFileRead, known_read, of_folder}
+use Rattle.acredact.proofs.RuledFiles.{told_as, told_more}
 use Rattle.acredact.proofs.Turns.{also}
 use Rattle.acredact.proofs.Warned.{doubts_tell}
 
@@ -83,29 +82,15 @@ module _ {E X : Type 0} (K : SinkGhosts E) (quest : Quest) where
   looks_failed {names} {error} {old} = record { seen = tt; quiet = tt; told = tells_same K (IsUnreadLine names) old.1 old.1 refl }
 
 -- where nothing was found and nothing told, each file was read to its end and has no match
-none_found : (a b : Bool) → false ≡ (a || b) → (a ≡ false) × (b ≡ false)
-none_found true b is = absurd (cc)
-none_found false true is = absurd (cc)
-none_found false false is = (refl, refl)
-
-none_told : (xs ys : List (List ℕ)) → [] ≡ xs ++ ys → (xs ≡ []) × (ys ≡ [])
-none_told [] ys is = (refl, sym is)
-none_told (x ∷ xs) ys is = absurd (cc)
-
-is_clean : (quest : Quest) (name : List ℕ) (look : Look) (left left' : Option (List ℕ)) → is_found look ≡ false → look_lines name look ≡ [] → IsLookOf quest name look left left' → OfName quest.holds name (HoldsNoMatch quest.redactor) left left'
-is_clean quest name Clean left left' found told looks = looks
-is_clean quest name Found left left' found told looks = absurd (cc)
-is_clean quest name (Unread reason) left left' found told looks = absurd (cc)
-
 unmatched_all : (quest : Quest) (names : List (List ℕ)) (left left' : Option (List ℕ)) → AreSeen quest names false [] left left' → AreUnmatched quest names left left'
 unmatched_all quest [] left left' seen = seen.2
-unmatched_all quest (name ∷ names) left left' (look, others, rest, found, told, between, looks, seen) =
-    let none = none_found (is_found look) others found in
-    let quiet = none_told (look_lines name look) rest told in (
-      between,
-      is_clean quest name look left between none.0 quiet.0 looks,
-      unmatched_all quest names between left' (subst (λ (l : List (List ℕ)). AreSeen quest names false l between left') quiet.1 (subst (λ (b : Bool). AreSeen quest names b rest between left') none.1 seen)),
-    )
+unmatched_all quest (name ∷ names) left left' (Clean, others, rest, found, told, between, looks, seen) = (
+  between,
+  looks,
+  unmatched_all quest names between left' (subst (λ (l : List (List ℕ)). AreSeen quest names false l between left') (sym told) (subst (λ (b : Bool). AreSeen quest names b rest between left') (sym found) seen)),
+)
+unmatched_all quest (name ∷ names) left left' (Found, others, rest, found, told, between, looks, seen) = absurd (cc)
+unmatched_all quest (name ∷ names) left left' (Unread reason, others, rest, found, told, between, looks, seen) = absurd (cc)
 
 pub unmatched_call : (call : Call) (left left' : Option (List ℕ)) → SeesCall call false [] left left' → IsUnmatchedCall call left left'
 unmatched_call call left left' sees = record {
@@ -154,27 +139,30 @@ module _ (Unmatched Matched Quiet Told : Type 0) where
 
 module _ {E : Type 0} (K : SinkGhosts E) (call : Call) (left left' : Option (List ℕ)) (old : Errors E) where
   -- what comes of a check whose patterns were loaded
-  pub check_seen : (secrets : List Secret) (between : Option (List ℕ)) (mid new : Errors E) (result : Result Verdict Failure) → gives_pattern call.given ≡ true → AreGiven (reading_by call) call.given secrets left between
-      → TellsDoubts K (has Strict call.given) call.given secrets old mid → SeesFiles K (quest_by call secrets) (names_asked call.given) result between left' mid new
-      → IfErr result (IsBuildFailure (patterns_by_given call.given (patterns_in secrets))) → CheckOutcome K call result left left' old new
-  check_seen secrets between mid new (Ok verdict) some loaded doubts sees fails =
-      let (lines, is_all, seen, told) = sees.seen in
-      record {
-        seen = (lines, is_all, record { sees = record { some = some; secrets = secrets; between = between; loaded = loaded; seen = seen }; between = mid; doubts = doubts; told = told });
-        quiet = λ all. record { secrets = secrets; between = between; loaded = loaded; doubts = subst (λ (e : Errors E). TellsDoubts K (has Strict call.given) call.given secrets old e) (sym (sees.quiet all)) doubts };
-        told = tt;
-        fails = tt;
-      }
-  check_seen secrets between mid new (Err failure) some loaded doubts sees fails = record {
-    seen = tt;
-    quiet = tt;
-    told = tells_both K (IsCheckLine call) old mid new (doubts_tell K (IsCheckLine call) (has Strict call.given) call.given secrets old mid (λ lax line member. inr (lax, secrets, left, between, loaded, member)) doubts)
-        (tells_weaker K (IsUnreadLine (names_asked call.given)) (IsCheckLine call) mid new (λ line is. inl is) sees.told);
-    fails = inr (inr (elim fails [
-      | inl refused ↦ inl (secrets, left, between, loaded, refused)
-      | inr memory ↦ inr (inl memory)
-    ]));
-  }
+  module _ (secrets : List Secret) (between : Option (List ℕ)) (mid new : Errors E) (loaded : AreGiven (reading_by call) call.given secrets left between) (doubts : TellsDoubts K (has Strict call.given) call.given secrets old mid) where
+    pub check_seen : {X : Type 0} (verdict : Verdict) → gives_pattern call.given ≡ true → SeesFiles K {X = X} (quest_by call secrets) (names_asked call.given) (Ok verdict) between left' mid new
+        → CheckOutcome K call (Ok verdict) left left' old new
+    check_seen verdict some sees =
+        let (lines, is_all, seen, told) = sees.seen in
+        record {
+          seen = (lines, is_all, record { sees = record { some = some; secrets = secrets; between = between; loaded = loaded; seen = seen }; between = mid; doubts = doubts; told = told });
+          quiet = λ all. record { secrets = secrets; between = between; loaded = loaded; doubts = subst (λ (e : Errors E). TellsDoubts K (has Strict call.given) call.given secrets old e) (sym (sees.quiet all)) doubts };
+          told = tt;
+          fails = tt;
+        }
+
+    -- or whose files were not all looked at
+    pub check_unseen : (failure : Failure) → Tells K (IsUnreadLine (names_asked call.given)) mid new → IsBuildFailure (patterns_by_given call.given (patterns_in secrets)) failure → CheckOutcome K call (Err failure) left left' old new
+    check_unseen failure told fails = record {
+      seen = tt;
+      quiet = tt;
+      told = tells_both K (IsCheckLine call) old mid new (doubts_tell K (IsCheckLine call) (has Strict call.given) call.given secrets old mid (λ lax line member. inr (lax, secrets, left, between, loaded, member)) doubts)
+          (tells_weaker K (IsUnreadLine (names_asked call.given)) (IsCheckLine call) mid new (λ line is. inl is) told);
+      fails = inr (inr (elim fails [
+        | inl refused ↦ inl (secrets, left, between, loaded, refused)
+        | inr memory ↦ inr (inl memory)
+      ]));
+    }
 
   -- and of one that ends before
   pub check_refused : (failure : Failure) → CheckFails call failure → CheckOutcome K call (Err failure) left left' old old

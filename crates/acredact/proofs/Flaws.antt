@@ -1,57 +1,63 @@
 -- Why a piece is not clean, and that it is clean where nothing is found.
-use Rattle.acredact.proofs.Common.{ArePatterns, Bor, IsCleanPiece, IsMember, NoneHolds, Patterns, Rule, folded_by, get_or-map, length-map, pattern_at, pieces_of}
-use Rattle.std.proofs.Common.{◌≡◌, inl, inr, ℕ, zero, suc, ◌+◌, ◌-◌, ◌<◌, ◌≤◌, List, [], ◌∷◌, ◌++◌, true, false, length, get_or, set, refl, sym, ap, subst, ◌∙◌, arith, length-append, map}
-use Rattle.std.specs.Prelude.{Bool}
+use Rattle.acredact.proofs.Common.{All, All-cons, All-head, All-nil, All-tail, ArePatterns, Bor, IsCleanPiece, IsMember, NoneHolds, Patterns, Rule, eq-eqb, folded_by, get_or-map, length-map, ne_eqb, pattern_at, pieces_of}
+use Rattle.std.proofs.Common.{◌≡◌, inl, inr, ℕ, suc, ◌+◌, ◌-◌, ◌<◌, ◌≤◌, List, [], ◌∷◌, ◌++◌, Option, true, false, length, get_or, refl, sym, ap, subst, ◌∙◌, arith, length-append, map}
+use Rattle.std.specs.Prelude.{Bool, None, Some, if◌then◌else◌, nat_eq}
 use Rattle.std.proofs.Math.Seq.{get_or-append_seam}
-use Rattle.std.proofs.lemmas.Bool.{cases_eq}
-use Rattle.std.proofs.lemmas.List.{get_or-set_other, get_or-set_same}
+use Rattle.std.proofs.lemmas.Bool.{eqb-true, or_parts}
+use Rattle.std.proofs.lemmas.List.Elements.{All-weaker}
+use Rattle.std.proofs.lemmas.List.Folds.{Any-from_list_any, list_any_none}
 use Rattle.aho_laws.specs.CoverLaws.{AreClean}
-use Rattle.acredact.specs.Pieces.{HoldNone, IsFlaw, IsHolder, IsMarked, IsUnclean, WordsAreMarked}
+use Rattle.secret_rules.proofs.Owners.{member-get_or}
+use Rattle.acredact.specs.Pieces.{IsFlaw, IsMarked, IsUnclean, WordsAreMarked}
 use Rattle.acredact.specs.Secrets.{NoneOccurs}
-use Rattle.acredact.specs.Spelling.{HoldsByte}
+use Rattle.acredact.specs.Spelling.{first_number, holder_in, holds_byte}
 use Rattle.acredact.specs.Tables.{piece_by, secret_of, secrets_of}
 use Rattle.acredact.specs.declared.clean.Flaw.{Flaw}
 use Rattle.acredact.specs.declared.clean.Flaw.TheVariants.{Empty, Pseudonym, Spells}
 
--- what stands at a place is a member, and each member stands at one
-pub member_at : (xs : List ℕ) (place : ℕ) → place < length xs → IsMember xs (get_or xs place 0)
-member_at [] place below = absurd (omega (arith, below))
-member_at (x ∷ xs) zero below = inl refl
-member_at (x ∷ xs) (suc place) below = inr (member_at xs place (omega (arith, below)))
+-- a byte that a word holds is a member of it, but for the case rule
+held_member : (ignore_case : Bool) (word : List ℕ) (byte : ℕ) → holds_byte ignore_case word byte ≡ true → (other : ℕ) × IsMember word other × (folded_by ignore_case other ≡ folded_by ignore_case byte)
+held_member ignore_case word byte held =
+    let (at, other, below, is, same) = Any-from_list_any (λ other. nat_eq (folded_by ignore_case other) (folded_by ignore_case byte)) word held in
+    (other, subst (IsMember word) is (member-get_or word at other below), eqb-true (folded_by ignore_case other) (folded_by ignore_case byte) same)
 
-pub place_of : (xs : List ℕ) (x : ℕ) → IsMember xs x → (place : ℕ) × (place < length xs) × (get_or xs place 0 ≡ x)
-place_of [] x member = absurd member
-place_of (y ∷ ys) x (inl is) = (0, omega arith, sym is)
-place_of (y ∷ ys) x (inr member) = let (place, below, is) = place_of ys x member in (suc place, omega (arith, below), is)
+pub not_held : (ignore_case : Bool) (word : List ℕ) (other byte : ℕ) → holds_byte ignore_case word byte ≡ false → IsMember word other → folded_by ignore_case other ≡ folded_by ignore_case byte → ⊥
+not_held ignore_case [] other byte none member same = absurd member
+not_held ignore_case (x ∷ word) other byte none member same =
+    let (first, later) = or_parts (nat_eq (folded_by ignore_case x) (folded_by ignore_case byte)) (holds_byte ignore_case word byte) none in
+    elim member [
+      | inl is ↦ (let clash : true ≡ false = sym (eq-eqb _ _ (ap (folded_by ignore_case) (sym is) ∙ same)) ∙ first in cc)
+      | inr there ↦ not_held ignore_case word other byte later there same
+    ]
 
--- the bytes of a word, one by one
-pub word_holds : (ignore_case : Bool) (word : List ℕ) (byte place : ℕ) → place < length word → folded_by ignore_case (get_or word place 0) ≡ folded_by ignore_case byte → HoldsByte ignore_case word byte
-word_holds ignore_case word byte place below same = (get_or word place 0, member_at word place below, same)
+-- what the first of some words is, and what they are where there is none
+abbrev pub IsFirst : (List ℕ → Bool) → ℕ → List (List ℕ) → Option ℕ → Type 0
+IsFirst test number words None = All (λ word. test word ≡ false) words
+IsFirst test number words (Some told) = (at : ℕ) × (told ≡ at + number) × (at < length words) × (test (get_or words at []) ≡ true)
 
-pub word_holds_none : (ignore_case : Bool) (word : List ℕ) (byte : ℕ) → ((place : ℕ) → place < length word → folded_by ignore_case (get_or word place 0) ≡ folded_by ignore_case byte → ⊥) → HoldsByte ignore_case word byte → ⊥
-word_holds_none ignore_case word byte none (other, member, same) =
-    let (place, below, is) = place_of word other member in
-    none place below (ap (folded_by ignore_case) is ∙ same)
-
-pub word_marked : (ignore_case : Bool) (word : List ℕ) (marks : List Bool) → ((place : ℕ) → place < length word → get_or marks (folded_by ignore_case (get_or word place 0)) false ≡ true) → IsMarked ignore_case word marks
-word_marked ignore_case word marks are byte member =
-    let (place, below, is) = place_of word byte member in
-    ap (λ (b : ℕ). get_or marks (folded_by ignore_case b) false) (sym is) ∙ are place below
-
--- a mark more, and those before stay
-pub marked_here : (marks : List Bool) (at place : ℕ) → at < length marks → place ≡ at → get_or (set marks at true) place false ≡ true
-marked_here marks at place below is = ap (λ (n : ℕ). get_or (set marks at true) n false) is ∙ get_or-set_same marks at true false below
-
-pub marked_still : (marks : List Bool) (at place : ℕ) → at < length marks → get_or marks place false ≡ true → get_or (set marks at true) place false ≡ true
-marked_still marks at place below is = elim (cases_eq place at) [
-  | inl same ↦ marked_here marks at place below same
-  | inr other ↦ get_or-set_other marks at place true false other ∙ is
-]
+pub first_so : (test : List ℕ → Bool) (number : ℕ) (words : List (List ℕ)) → IsFirst test number words (first_number test number words)
+first_so test number [] = All-nil (λ word. test word ≡ false)
+first_so test number (word ∷ words) = by (test word) refl (first_number test (number + 1) words) (first_so test (number + 1) words)
+  where
+    by : (b : Bool) → test word ≡ b → (later : Option ℕ) → IsFirst test (number + 1) words later → IsFirst test number (word ∷ words) (if b then Some number else later)
+    by true is later rest = (0, omega arith, omega arith, is)
+    by false is None none = All-cons (λ w. test w ≡ false) word words is none
+    by false is (Some told) (at, told_is, below, so) = (suc at, omega arith, omega arith, so)
 
 -- a byte that is not marked is held by no word
-pub unmarked : (ignore_case : Bool) (words : List (List ℕ)) (marks : List Bool) (byte place : ℕ) → WordsAreMarked ignore_case words marks → place ≡ folded_by ignore_case byte → get_or marks place false ≡ false → HoldNone ignore_case words byte
-unmarked ignore_case words marks byte place marked is not number numbered (other, member, same) =
-    let clash : true ≡ false = sym (marked number numbered other member) ∙ ap (λ (n : ℕ). get_or marks n false) (same ∙ sym is) ∙ not in cc
+module _ (ignore_case : Bool) (byte place : ℕ) (marks : List Bool) (is : place ≡ folded_by ignore_case byte) (not : get_or marks place false ≡ false) where
+  not_marked : (word : List ℕ) → IsMarked ignore_case word marks → holds_byte ignore_case word byte ≡ false
+  not_marked word marked =
+      list_any_none (λ other. nat_eq (folded_by ignore_case other) (folded_by ignore_case byte)) word
+      (All-weaker (λ other. get_or marks (folded_by ignore_case other) false ≡ true) (λ other. nat_eq (folded_by ignore_case other) (folded_by ignore_case byte) ≡ false) (λ other held.
+      ne_eqb _ _ (λ (same : folded_by ignore_case other ≡ folded_by ignore_case byte).
+      let clash : true ≡ false = sym held ∙ ap (λ (n : ℕ). get_or marks n false) (same ∙ sym is) ∙ not in cc)) word marked)
+
+  pub unmarked : (number : ℕ) (words : List (List ℕ)) → WordsAreMarked ignore_case words marks → first_number (λ word. holds_byte ignore_case word byte) number words ≡ None
+  unmarked number [] marked = refl
+  unmarked number (word ∷ words) marked =
+      ap (λ (b : Bool). if b then Some number else first_number (λ w. holds_byte ignore_case w byte) (number + 1) words) (not_marked word (All-head (λ w. IsMarked ignore_case w marks) word words marked))
+      ∙ unmarked (number + 1) words (All-tail (λ w. IsMarked ignore_case w marks) word words marked)
 
 -- the first and the last byte of a piece
 pub first_is : (piece rest : List ℕ) (byte : ℕ) → piece ≡ byte ∷ rest → get_or piece 0 0 ≡ byte
@@ -62,7 +68,7 @@ last_is piece front byte is =
     let count : length piece - 1 ≡ length front = omega (arith, ap length is ∙ length-append front (byte ∷ [])) in
     ap (λ (n : ℕ). get_or piece n 0) count ∙ ap (λ (l : List ℕ). get_or l (length front) 0) is ∙ get_or-append_seam front byte [] 0
 
-pub first_of : (piece : List ℕ) → 0 < length piece → (rest : List ℕ) × (piece ≡ get_or piece 0 0 ∷ rest)
+first_of : (piece : List ℕ) → 0 < length piece → (rest : List ℕ) × (piece ≡ get_or piece 0 0 ∷ rest)
 first_of [] some = absurd (omega (arith, some))
 first_of (x ∷ xs) some = (xs, refl)
 
@@ -78,31 +84,31 @@ last_of piece some =
 
 module _ (p : Patterns) (ignore_case : Bool) (words : List (List ℕ)) (are : ArePatterns p ignore_case words) where
   -- what is said of words holds of the patterns
-  holds_of : (number byte : ℕ) → HoldsByte ignore_case (get_or words number []) byte → HoldsByte p.ignore_case (pattern_at p number) byte
-  holds_of number byte holds = rw (are.rule, are.words_are) holds
+  holder_is : (byte told : ℕ) → Some told ≡ holder_in ignore_case words byte → (number : ℕ) × (told ≡ number + 1) × (number < length p.words) × (holds_byte p.ignore_case (pattern_at p number) byte ≡ true)
+  holder_is byte told is = rw (are.rule, are.words_are) (subst (IsFirst (λ word. holds_byte ignore_case word byte) 1 words) (sym is) (first_so (λ word. holds_byte ignore_case word byte) 1 words))
 
-  numbered_of : (number : ℕ) → number < length words → number < length p.words
-  numbered_of number numbered = subst (λ (l : List (List ℕ)). number < length l) (sym are.words_are) numbered
-
-  none_holds : (byte : ℕ) → HoldNone ignore_case words byte → NoneHolds p byte
+  none_holds : (byte : ℕ) → None ≡ holder_in ignore_case words byte → NoneHolds p byte
   none_holds byte none number other numbered member same =
-      none number (subst (λ (l : List (List ℕ)). number < length l) are.words_are numbered)
-      (other, subst (λ (l : List (List ℕ)). IsMember (get_or l number []) other) are.words_are member, subst (λ (b : Bool). folded_by b other ≡ folded_by b byte) are.rule same)
+      let free : All (λ word. holds_byte p.ignore_case word byte ≡ false) p.words =
+      rw (are.rule, are.words_are) (subst (IsFirst (λ word. holds_byte ignore_case word byte) 1 words) (sym none) (first_so (λ word. holds_byte ignore_case word byte) 1 words)) in
+      not_held p.ignore_case (pattern_at p number) other byte (free number [] numbered) member same
 
   -- a pattern holds the first byte, or the last
-  pub spells_first : (piece : List ℕ) (byte told : ℕ) → 0 < length piece → byte ≡ get_or piece 0 0 → IsHolder ignore_case words byte told → IsFlaw p piece (Spells told)
-  spells_first piece byte told some is (number, is_told, numbered, holds) =
+  pub spells_first : (piece : List ℕ) (byte told : ℕ) → 0 < length piece → byte ≡ get_or piece 0 0 → Some told ≡ holder_in ignore_case words byte → IsFlaw p piece (Spells told)
+  spells_first piece byte told some is holder =
       let first = first_of piece some in
-      (number, is_told, numbered_of number numbered, inl (byte, first.0, first.1 ∙ ap (λ (b : ℕ). b ∷ first.0) (sym is), holds_of number byte holds))
+      let (number, is_told, numbered, held) = holder_is byte told holder in
+      (number, is_told, numbered, inl (byte, first.0, first.1 ∙ ap (λ (b : ℕ). b ∷ first.0) (sym is), held))
 
-  pub spells_last : (piece : List ℕ) (byte told : ℕ) → 0 < length piece → byte ≡ get_or piece (length piece - 1) 0 → IsHolder ignore_case words byte told → IsFlaw p piece (Spells told)
-  spells_last piece byte told some is (number, is_told, numbered, holds) =
+  pub spells_last : (piece : List ℕ) (byte told : ℕ) → 0 < length piece → byte ≡ get_or piece (length piece - 1) 0 → Some told ≡ holder_in ignore_case words byte → IsFlaw p piece (Spells told)
+  spells_last piece byte told some is holder =
       let last = last_of piece some in
-      (number, is_told, numbered_of number numbered, inr (inl (byte, last.0, last.1 ∙ ap (λ (b : ℕ). last.0 ++ b ∷ []) (sym is), holds_of number byte holds)))
+      let (number, is_told, numbered, held) = holder_is byte told holder in
+      (number, is_told, numbered, inr (inl (byte, last.0, last.1 ∙ ap (λ (b : ℕ). last.0 ++ b ∷ []) (sym is), held)))
 
   -- none holds either, and nothing occurs
   pub clean_by : (piece : List ℕ) (first last : ℕ) → 0 < length piece → first ≡ get_or piece 0 0 → last ≡ get_or piece (length piece - 1) 0
-      → HoldNone ignore_case words first → HoldNone ignore_case words last → NoneOccurs p piece → IsCleanPiece p piece
+      → None ≡ holder_in ignore_case words first → None ≡ holder_in ignore_case words last → NoneOccurs p piece → IsCleanPiece p piece
   clean_by piece first last some is_first is_last none_first none_last none = record {
     some = some;
     first = λ byte rest is. subst (NoneHolds p) (is_first ∙ first_is piece rest byte is) (none_holds first none_first);
@@ -114,14 +120,13 @@ module _ (p : Patterns) (ignore_case : Bool) (words : List (List ℕ)) (are : Ar
 pub flawed : (p : Patterns) (piece : List ℕ) (flaw : Flaw) → IsFlaw p piece flaw → IsCleanPiece p piece → ⊥
 flawed p piece Empty is clean = absurd (omega (arith, clean.some, ap length is))
 flawed p piece Pseudonym is clean = absurd is
-flawed p piece (Spells told) (number, is, numbered, inl (byte, rest, split, (other, member, same))) clean = clean.first byte rest split number other numbered member same
-flawed p piece (Spells told) (number, is, numbered, inr (inl (byte, front, split, (other, member, same)))) clean = clean.last byte front split number other numbered member same
+flawed p piece (Spells told) (number, is, numbered, inl (byte, rest, split, held)) clean =
+    let (other, member, same) = held_member p.ignore_case (pattern_at p number) byte held in clean.first byte rest split number other numbered member same
+flawed p piece (Spells told) (number, is, numbered, inr (inl (byte, front, split, held))) clean =
+    let (other, member, same) = held_member p.ignore_case (pattern_at p number) byte held in clean.last byte front split number other numbered member same
 flawed p piece (Spells told) (number, is, numbered, inr (inr (m, occurs, named))) clean = clean.none m occurs
 
--- the piece at a place
-pub piece_is : (pieces : List (Bor (List ℕ))) (at : ℕ) (d : Bor (List ℕ)) → at < length pieces → get_or (pieces_of pieces) at [] ≡ (get_or pieces at d).now
-piece_is pieces at d below = get_or-map (λ piece. piece.now) pieces at d [] below
-
+-- as many pieces are lent as there are
 pub pieces_count : (pieces : List (Bor (List ℕ))) → length (pieces_of pieces) ≡ length pieces
 pieces_count pieces = length-map pieces (λ piece. piece.now)
 

@@ -1,7 +1,8 @@
 -- No pattern of a form is empty.
-use Rattle.acredact.proofs.Common.{All-append, All-cons, All-nil, ltb-true}
-use Rattle.std.proofs.Common.{◌≡◌, ℕ, ◌+◌, ◌≤◌, Bool, true, false, cond, List, [], ◌∷◌, length, map, refl, arith}
+use Rattle.acredact.proofs.Common.{All-append, All-nil, ltb-true}
+use Rattle.std.proofs.Common.{◌≡◌, ℕ, ◌+◌, ◌≤◌, Bool, true, false, List, [], ◌∷◌, length, map, arith}
 use Rattle.std.specs.Prelude.{nat_lt, if◌then◌else◌}
+use Rattle.std.proofs.lemmas.List.Elements.{All-map, All-weaker, filter_passes}
 use Rattle.acredact.specs.Forms.{AskedForms, filled, form_secret, forms_from, forms_of, asked_form_patterns}
 use Rattle.acredact.specs.Tables.{HaveNoEmpty, Secret}
 
@@ -9,13 +10,9 @@ abbrev IsSome : Secret → Type 0
 IsSome secret = 1 ≤ length secret.pattern
 
 filled_some : (number : ℕ) (secret : Secret) (patterns : List (List ℕ)) → HaveNoEmpty (map (form_secret number secret) (filled patterns))
-filled_some number secret [] = All-nil IsSome
-filled_some number secret (p ∷ patterns) = by (nat_lt 0 (length p)) refl (filled_some number secret patterns)
-  where
-    by : (b : Bool) → nat_lt 0 (length p) ≡ b → HaveNoEmpty (map (form_secret number secret) (filled patterns))
-        → HaveNoEmpty (map (form_secret number secret) (cond b (p ∷ filled patterns) (filled patterns)))
-    by true is rest = All-cons IsSome (form_secret number secret p) (map (form_secret number secret) (filled patterns)) (omega (arith, ltb-true _ _ is)) rest
-    by false is rest = rest
+filled_some number secret patterns =
+    All-map IsSome (form_secret number secret) (filled patterns)
+    (All-weaker (λ p. nat_lt 0 (length p) ≡ true) (λ p. 1 ≤ length p) (λ p is. omega (arith, ltb-true 0 (length p) is)) (filled patterns) (filter_passes (λ p. nat_lt 0 (length p)) patterns))
 
 forms_some : (asked : AskedForms) (number : ℕ) (secret : Secret) → HaveNoEmpty (forms_of asked number secret)
 forms_some asked number secret = by_length (nat_lt (length secret.pattern) 4)

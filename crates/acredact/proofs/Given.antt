@@ -1,8 +1,10 @@
 -- Right arguments have nothing wrong.
-use Rattle.acredact.proofs.Common.{AsWord, Forms, Strict, same_Some}
+use Rattle.acredact.proofs.Common.{AsWord, Forms, Strict, and-true, same_Some}
 use Rattle.std.proofs.Common.{◌≡◌, inl, inr, ℕ, List, [], ◌∷◌, Option, refl, sym, ap, ◌∙◌}
 use Rattle.std.specs.Prelude.{◌&&◌, not, Bool, true, false, Some, None, if◌then◌else◌, option_and_then}
-use Rattle.acredact.specs.Arguments.{Given, ItemsSoFar, all_asked, by_argument, covers_asked, fitting_by, given_by, given_from, gives_rules, has, mixture_of, words_asked}
+use Rattle.std.proofs.Math.Bool.{and-false}
+use Rattle.std.proofs.lemmas.Bool.{not-false}
+use Rattle.acredact.specs.Arguments.{Given, ItemsSoFar, all_asked, by_argument, covers_asked, fitting_by, given_by, given_from, gives_rules, has, mixture_of, words_asked, words_mixture_of}
 use Rattle.acredact.specs.Mistakes.{IsMistakeOfCall, first_mistake_line, line_from, line_of_argument, line_or}
 use Rattle.acredact.specs.declared.arguments.Expects.{Expects}
 use Rattle.acredact.specs.declared.arguments.Expects.TheVariants.{Any, Name, Value}
@@ -44,38 +46,27 @@ read_fits (Some read) given is =
     let (none, same) = fits (mixture_of read) read given is in
     (ap Some same, sym (ap mixture_of same) ∙ none)
 
+-- where the first of some options go together the others do too
+none_of : (b : Bool) (mixture : Mixture) (rest : Option Mixture) → (if b then Some mixture else rest) ≡ None → (b ≡ false) × (rest ≡ None)
+none_of true mixture rest none = absurd (cc)
+none_of false mixture rest none = (refl, none)
+
 -- forms are those of covers
-cover_by : (strict named with rows covers forms : Bool) (rest : Option Mixture)
-    → (if strict && not covers then Some StrictKind else if named && not covers then Some PseudonymKind else if named && with then Some PseudonymWith else if named && rows then Some PseudonymTable
-    else if forms && not covers then Some FormsKind else rest) ≡ None → forms ≡ true → covers ≡ true
-cover_by strict named with rows true forms rest none asked = refl
-cover_by true named with rows false forms rest none asked = absurd (cc)
-cover_by false true with rows false forms rest none asked = absurd (cc)
-cover_by false false with rows false true rest none asked = absurd (cc)
-cover_by false false with rows false false rest none asked = absurd (cc)
+forms_fit : (given : List Given) → mixture_of given ≡ None → ((has Forms given && not (covers_asked given)) ≡ false) × (words_mixture_of given ≡ None)
+forms_fit given none =
+    let tables = (none_of (has Pseudonym given && has Table given) PseudonymTable _ (none_of (has Pseudonym given && has With given) PseudonymWith _ (none_of (has Pseudonym given && not (covers_asked given)) PseudonymKind _ (none_of (has Strict given && not (covers_asked given)) StrictKind _ none).1).1).1).1 in
+    let (forms, rest) = none_of (has Forms given && not (covers_asked given)) FormsKind _ tables in
+    (forms, (none_of (has Output given && has Check given) OutputCheck _ (none_of (has Summary given && has Check given && not (gives_rules given)) SummaryCheck _ (none_of (has Count given && has Check given) CountCheck _ rest).1).1).1)
 
 pub forms_cover : (arguments : List (List ℕ)) (given : List Given) → all_asked arguments ≡ Some given → has Forms given ≡ true → covers_asked given ≡ true
-forms_cover arguments given asked forms =
-    let (same, none) = read_fits (given_by arguments) given asked in
-    cover_by (has Strict given) (has Pseudonym given) (has With given) (has Table given) (covers_asked given) (has Forms given) _ none forms
+forms_cover arguments given asked forms = not-false (covers_asked given) (rw forms at (forms_fit given (read_fits (given_by arguments) given asked).1).0)
 
 -- nor do forms go with words
-rest_of : (b : Bool) (mixture : Mixture) (rest : Option Mixture) → (if b then Some mixture else rest) ≡ None → rest ≡ None
-rest_of true mixture rest none = absurd (cc)
-rest_of false mixture rest none = none
-
-no_words : (covers words forms : Bool) (rest : Option Mixture)
-    → (if words && not covers then Some WordsKind else if words && forms then Some WordsForms else rest) ≡ None
-    → forms ≡ true → (covers && words) ≡ false
-no_words false words forms rest none asked = refl
-no_words true false forms rest none asked = refl
-no_words true true true rest none asked = absurd (cc)
-no_words true true false rest none asked = absurd (cc)
-
 pub forms_unworded : (arguments : List (List ℕ)) (given : List Given) → all_asked arguments ≡ Some given → has Forms given ≡ true → words_asked given ≡ false
 forms_unworded arguments given asked forms =
-    let none = (read_fits (given_by arguments) given asked).1 in
-    no_words (covers_asked given) (has AsWord given) (has Forms given) _ (rest_of (has Output given && has Check given) OutputCheck _ (rest_of (has Summary given && has Check given && not (gives_rules given)) SummaryCheck _ (rest_of (has Count given && has Check given) CountCheck _ (rest_of (has Forms given && not (covers_asked given)) FormsKind _ (rest_of (has Pseudonym given && has Table given) PseudonymTable _ (rest_of (has Pseudonym given && has With given) PseudonymWith _ (rest_of (has Pseudonym given && not (covers_asked given)) PseudonymKind _ (rest_of (has Strict given && not (covers_asked given)) StrictKind _ none)))))))) forms
+    let rest = (none_of (has AsWord given && not (covers_asked given)) WordsKind _ (forms_fit given (read_fits (given_by arguments) given asked).1).1).1 in
+    let none : (has AsWord given && true) ≡ false = rw forms at (none_of (has AsWord given && has Forms given) WordsForms _ rest).0 in
+    ap (λ (b : Bool). covers_asked given && b) (sym (and-true (has AsWord given)) ∙ none) ∙ and-false (covers_asked given)
 
 -- nothing is wrong with right arguments but that memory runs out
 pub memory_alone : (arguments : List (List ℕ)) (given : List Given) (mistake : Mistake) → all_asked arguments ≡ Some given → IsMistakeOfCall arguments mistake → mistake ≡ OutOfMemory

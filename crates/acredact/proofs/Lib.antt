@@ -10,7 +10,6 @@ mod FormsSome
 mod Summing
 mod Runs
 mod PartLines
-mod Valued
 -- what is told of doubtful patterns
 mod Doubting
 -- what is written is a redaction, or begins one
@@ -30,6 +29,8 @@ mod Loaded
 -- how many bytes a source gives
 mod Metering
 mod Bounded
+-- what comes of the files of a job
+mod Jobs
 mod Limits
 -- which pieces are clean, and what follows
 mod Flaws
@@ -38,6 +39,8 @@ mod Free
 mod Hiding
 mod Calls
 mod Warned
+-- what comes of files that are redacted
+mod RedactedCalls
 mod Given
 -- files that are replaced in place
 mod PlacedCalls
@@ -47,7 +50,6 @@ mod Statuses
 -- what is seen of files
 mod Looks
 mod Checks
-mod LongNames
 -- files whose names are not UTF-8
 mod SetApart
 mod Readings

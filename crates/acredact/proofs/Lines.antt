@@ -1,48 +1,18 @@
 -- Lines of a text that are added one after another.
-use Rattle.acredact.proofs.Common.{Form, eq-eqb, ne_eqb, slice_split}
-use Rattle.std.proofs.Common.{◌≡◌, ◌≢◌, ℕ, ◌+◌, ◌-◌, ◌^◌, ◌≤◌, List, [], ◌∷◌, ◌++◌, length, refl, ap, ◌∙◌, append_assoc, arith}
-use Rattle.std.specs.Prelude.{drop, min, nat_eq, slice_index}
-use Rattle.std.specs.List.{AllZip}
-use Rattle.std.proofs.lemmas.List.Splits.{slice_split_at, slice_split_none}
-use Rattle.std.proofs.lemmas.Slice.Zip.{AllZip-long}
+use Rattle.acredact.proofs.Common.{Form, ne_eqb}
+use Rattle.std.proofs.Common.{◌++◌, ◌+◌, ◌-◌, ◌^◌, ◌∙◌, ◌∷◌, ◌≡◌, ◌≢◌, ◌≤◌, List, [], ap, arith, length, refl, ℕ}
+use Rattle.std.specs.Prelude.{drop, min, slice_index}
 use Rattle.acredact.specs.LineFaults.{IsLineFaultBy, IsListFault, NamesNone}
-use Rattle.acredact.specs.Tables.{HaveLines, HoldsBy, IsAdded, IsAddedList, IsWithout, Secret}
+use Rattle.acredact.specs.Parts.{IsAddedSome}
+use Rattle.acredact.specs.Tables.{GivesLine, HoldsBy, IsAdded, Secret}
 use Rattle.acredact.specs.declared.patterns.BadLine.{BadLine}
 use Rattle.acredact.specs.declared.patterns.Place.{Place}
 
--- what holds of two pairs of lists, place by place, holds of both together
-zip_append : {A B : Type 0} (R : A → B → Type 0) (xs ys : List A) (us bs : List B) → AllZip R xs us → AllZip R ys bs → AllZip R (xs ++ ys) (us ++ bs)
-zip_append R [] ys [] bs h k = k
-zip_append R (x ∷ xs) ys (a ∷ us) bs h k = (h.0, zip_append R xs ys us bs h.1 k)
-zip_append R xs ys us bs h k = absurd h
-
--- a secret more is numbered behind the others
-numbered_more : (before : ℕ) (more : List Secret) (secret : Secret) → HaveLines before more → secret.line ≡ min (before + length more + 1) (2 ^ 64 - 1) → HaveLines before (more ++ (secret ∷ []))
-numbered_more before [] secret are at =
-    let e : before + length {A = Secret} [] + 1 ≡ before + 1 = omega arith in
-    (at ∙ ap (λ (n : ℕ). min n (2 ^ 64 - 1)) e, tt)
-numbered_more before (first ∷ more) secret are at =
-    let e : before + length (first ∷ more) + 1 ≡ before + 1 + length more + 1 = omega arith in
-    (are.0, numbered_more (before + 1) more secret are.1 (at ∙ ap (λ (n : ℕ). min n (2 ^ 64 - 1)) e))
-
--- what some lines hold is added, and then what one more does
-pub added_line : (form : Form) (place : Place) (old mid new : List Secret) (front : List (List ℕ)) (line : List ℕ) → place.line ≡ min (length front + 1) (2 ^ 64 - 1)
-    → IsAddedList form old mid front → IsAdded (HoldsBy form line) place mid new → IsAddedList form old new (front ++ (line ∷ []))
-added_line form place old mid new front line at first second =
-    let e : length front + 1 ≡ 0 + length first.more + 1 = omega (arith, AllZip-long _ front first.more first.held) in
-    record {
-      more = first.more ++ (second.secret ∷ []);
-      grown = second.grown ∙ ap (λ l. l ++ (second.secret ∷ [])) first.grown ∙ append_assoc old first.more (second.secret ∷ []);
-      held = zip_append _ front (line ∷ []) first.more (second.secret ∷ []) first.held (second.held, tt);
-      numbered = numbered_more 0 first.more second.secret first.numbered (second.stands.line_is ∙ at ∙ ap (λ (n : ℕ). min n (2 ^ 64 - 1)) e);
-    }
-
--- the first part of what is left, up to the first of the bytes that part a text, and the last one
-pub line_at : (byte : ℕ) (rest line more : List ℕ) → rest ≡ line ++ (byte ∷ more) → IsWithout byte line → slice_split (λ b. nat_eq b byte) rest ≡ line ∷ slice_split (λ b. nat_eq b byte) more
-line_at byte rest line more is without = ap (slice_split (λ b. nat_eq b byte)) is ∙ slice_split_at (λ b. nat_eq b byte) line byte more without (eq-eqb byte byte refl)
-
-pub line_end : (byte : ℕ) (rest : List ℕ) → IsWithout byte rest → slice_split (λ b. nat_eq b byte) rest ≡ rest ∷ []
-line_end byte rest without = slice_split_none (λ b. nat_eq b byte) rest without
+-- one line more gives a secret
+pub line_given : (form : Form) (line : List ℕ) (place : Place) (before : ℕ) (old new : List Secret) → place.line ≡ min (before + 1) (2 ^ 64 - 1) → IsAdded (HoldsBy form line) place old new
+    → IsAddedSome (λ more. GivesLine form line more before (before + 1)) old new
+line_given form line place before old new at added =
+    record { more = added.secret ∷ []; grown = added.grown; of = record { secret = added.secret; are = refl; held = added.held; numbered = added.stands.line_is ∙ at; counted = refl } }
 
 -- the line behind some others is at fault
 pub fault_at : (form : Form) (lines front rest : List (List ℕ)) (line : List ℕ) (number : ℕ) (bad : BadLine) → lines ≡ front ++ (line ∷ rest) → number ≡ min (length front + 1) (2 ^ 64 - 1)

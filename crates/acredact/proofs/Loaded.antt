@@ -1,47 +1,54 @@
 -- The patterns that options give, one after another.
-use Rattle.acredact.proofs.Common.{Failure, Keeps, is_input}
-use Rattle.std.proofs.Common.{◌≡◌, inl, inr, ℕ, ◌-◌, List, [], ◌∷◌, ◌++◌, Option, refl, sym, ap, subst, ◌∙◌, append-nil, append_assoc}
+use Rattle.acredact.proofs.Common.{Failure, Keeps, get_or-map, is_input, length-map, nil_from_length}
+use Rattle.std.proofs.Common.{◌≡◌, inr, ℕ, ◌<◌, List, [], ◌∷◌, ◌++◌, Option, refl, sym, ap, subst, ◌∙◌, append-nil, append_assoc, arith, get_or, length, map}
 use Rattle.std.specs.Prelude.{Bool, MatchBool, IfSome, false}
 use Rattle.std.proofs.KnownBytes.{Consumes-all}
 use Rattle.acredact.specs.declared.options.Item.{Item}
-use Rattle.acredact.specs.Arguments.{Given, all_given, given_of}
-use Rattle.acredact.specs.Loading.{CannotLoad, CannotLoadOne, EachGives, IsFileFailure, IsListedFailure, Reading}
-use Rattle.acredact.specs.Parts.{IsAddedSome}
+use Rattle.acredact.specs.declared.options.Word.TheVariants.{IgnoreCase}
+use Rattle.acredact.specs.Arguments.{all_given, given_of}
+use Rattle.acredact.specs.Loading.{CannotLoad, CannotLoadOne, IsFileFailure, IsListedFailure, Reading}
 use Rattle.acredact.specs.declared.load.Listed.{Listed}
-use Rattle.acredact.specs.Reads.{OfName, ReadsText}
+use Rattle.acredact.specs.Parts.{IsAddedSome}
+use Rattle.acredact.specs.Reads.{EachGives, OfName, ReadsText}
 use Rattle.acredact.proofs.OneFile.{known_read, of_folder}
 
-module _ {X : Type 0} (Gives : Given → List X → (left left' : Option (List ℕ)) → Type 0) (all : List Given) (before : Option (List ℕ)) where
-  -- what the options so far gave, and what the others are to give, is what all give
-  pub record GivenSoFar (rest : List Given) (some : List X) (between : Option (List ℕ)) : Type 0 where
-    pub given : (more : List X) (left : Option (List ℕ)) → EachGives Gives rest more between left → EachGives Gives all (some ++ more) before left
+module _ {I X S : Type 0} (Gives : I → List X → (left left' : S) → Type 0) (all : List I) (before : S) where
+  -- what those so far gave, and what the others are to give, is what all give
+  pub record GivenSoFar (rest : List I) (between : S) (old new : List X) : Type 0 where
+    pub so : List X
+    pub grown : new ≡ old ++ so
+    pub given : (more : List X) (left : S) → EachGives Gives rest more between left → EachGives Gives all (so ++ more) before left
 
   -- the first of what is left gives some more
-  pub given_next : (rest items : List Item) (item : Item) (old new : List X) (between left : Option (List ℕ)) → rest ≡ item ∷ items → GivenSoFar (all_given rest) old between
-      → IsAddedSome (λ more. Gives (given_of item) more between left) old new → GivenSoFar (all_given items) new left
-  given_next rest items item old new between left cut so added = record {
-    given = λ more last given.
-        let rests = subst (λ (l : List Item). EachGives Gives (all_given l) (added.more ++ more) between last) (sym cut) (added.more, more, refl, left, added.of, given) in
-        subst (λ (l : List X). EachGives Gives all l before last) (sym (append_assoc old added.more more) ∙ ap (λ l. l ++ more) (sym added.grown)) (so.given (added.more ++ more) last rests);
+  pub given_next : (one : I) (rest : List I) (between left : S) (old mid new : List X) → GivenSoFar (one ∷ rest) between old mid → IsAddedSome (λ more. Gives one more between left) mid new → GivenSoFar rest left old new
+  given_next one rest between left old mid new far added = record {
+    so = far.so ++ added.more;
+    grown = added.grown ∙ ap (λ (l : List X). l ++ added.more) far.grown ∙ append_assoc old far.so added.more;
+    given = λ more last given. subst (λ (l : List X). EachGives Gives all l before last) (sym (append_assoc far.so added.more more)) (far.given (added.more ++ more) last (added.more, more, refl, left, added.of, given));
   }
 
-  pub given_end : (rest : List Item) (some : List X) (left : Option (List ℕ)) → rest ≡ [] → GivenSoFar (all_given rest) some left → EachGives Gives all some before left
-  given_end rest some left none so =
-      subst (λ (l : List X). EachGives Gives all l before left) (append-nil some) (so.given [] left (subst (λ (l : List Item). EachGives Gives (all_given l) [] left left) (sym none) (refl, refl)))
+  pub given_end : (rest : List I) (left : S) (old new : List X) → rest ≡ [] → GivenSoFar rest left old new → IsAddedSome (λ more. EachGives Gives all more before left) old new
+  given_end rest left old new none far = record {
+    more = far.so;
+    grown = far.grown;
+    of = subst (λ (l : List X). EachGives Gives all l before left) (append-nil far.so) (far.given [] left (subst (λ (l : List I). EachGives Gives l [] left left) (sym none) (refl, refl)));
+  }
 
-  pub given_none : GivenSoFar all [] before
-  given_none = record { given = λ more left given. given }
+  pub given_all : {Y : Type 0} (f : Y → I) (ys : List Y) (left : S) (old new : List X) → length ys ≡ 0 → GivenSoFar (map f ys) left old new → IsAddedSome (λ more. EachGives Gives all more before left) old new
+  given_all f ys left old new none far = given_end (map f ys) left old new (ap (map f) (nil_from_length ys none)) far
 
--- one that cannot be loaded among those that are left is one of all
-abbrev pub FailsAmong : Reading → (all rest : List Given) → Type 0
-FailsAmong reading all rest = (failure : Failure) → CannotLoadOne reading rest failure → CannotLoadOne reading all failure
+  pub given_none : (old : List X) → GivenSoFar all before old old
+  given_none old = record { so = []; grown = sym (append-nil old); given = λ more left given. given }
 
-module _ (reading : Reading) (all : List Given) where
-  pub fails_next : (rest items : List Item) (item : Item) → rest ≡ item ∷ items → FailsAmong reading all (all_given rest) → FailsAmong reading all (all_given items)
-  fails_next rest items item cut so = λ failure one. so failure (subst (λ (l : List Item). CannotLoadOne reading (all_given l) failure) (sym cut) (inr one))
+-- any item
+abbrev pub other : Item
+other = record { word = IgnoreCase; value = record { ref_ptr = (0, 0); now = [] } }
 
-  pub fails_here : (rest items : List Item) (item : Item) (failure : Failure) → rest ≡ item ∷ items → FailsAmong reading all (all_given rest) → CannotLoad reading (given_of item) failure → CannotLoadOne reading all failure
-  fails_here rest items item failure cut so fails = so failure (subst (λ (l : List Item). CannotLoadOne reading (all_given l) failure) (sym cut) (inl fails))
+-- one of the items cannot be loaded
+pub fails_at : (reading : Reading) (items : List Item) (at : ℕ) (failure : Failure) → at < length items → CannotLoad reading (given_of (get_or items at other)) failure → CannotLoadOne reading (all_given items) failure
+fails_at reading items at failure below fails =
+    let it = given_of (get_or items at other) in
+    (at, it, omega (arith, below, length-map items given_of), get_or-map given_of items at other it below, fails)
 
 -- a text that is read of an opened file is that of the file
 known_text : (told left left' : Option (List ℕ)) (text : List ℕ) → Keeps told left → ReadsText text left left' → ReadsText text told left'

@@ -1,5 +1,5 @@
 -- A line that is too long is one run of a number of its own.
-use Rattle.acredact.proofs.Common.{Covering, IsMember, Line, Occurrence, Patterns, eq-eqb, ltb-true, ne_eqb, runs_named, stream_lines}
+use Rattle.acredact.proofs.Common.{Covering, IsMember, Line, Occurrence, Patterns, common_steps, ltb-true, runs_named, stream_lines}
 use Rattle.std.proofs.Common.{◌≡◌, inl, inr, ℕ, ◌+◌, ◌<◌, ◌≤◌, List, [], ◌∷◌, ◌++◌, Option, true, false, length, refl, sym, ap, ◌∙◌, arith, length-append}
 use Rattle.std.specs.Prelude.{Bool, filter, nat_eq, nat_lt, if◌then◌else◌}
 use Rattle.std.proofs.lemmas.Bool.{ltb-false}
@@ -30,14 +30,10 @@ covered_below covering before line m short (inr (fits, inr marked)) =
 
 none_numbered : (number : ℕ) (runs : List Occurrence) → ((run : Occurrence) → IsMember runs run → run.pattern < number) → runs_named number runs ≡ 0
 none_numbered number [] below = refl
-none_numbered number (run ∷ runs) below =
-    let not : nat_eq run.pattern number ≡ false = ne_eqb run.pattern number (λ (is : run.pattern ≡ number). omega (arith, is, below run (inl refl))) in
-    ap (λ (b : Bool). length (if b then run ∷ filter (λ (o : Occurrence). nat_eq o.pattern number) runs else filter (λ (o : Occurrence). nat_eq o.pattern number) runs)) not
-    ∙ none_numbered number runs (λ other there. below other (inr there))
+none_numbered number (run ∷ runs) below = grind (arith, common_steps, below run (inl refl), none_numbered number runs (λ other there. below other (inr there)))
 
 named_one : (number : ℕ) (run : Occurrence) → run.pattern ≡ number → runs_named number (run ∷ []) ≡ 1
-named_one number run is =
-    ap (λ (b : Bool). length (if b then run ∷ [] else [])) (eq-eqb run.pattern number is)
+named_one number run is = grind (arith, common_steps, is)
 
 -- so the runs of that number are those of lines that are too long
 long_one : (covering : Covering) (before : List (List ℕ)) (line : List ℕ) (own : List Occurrence) → AreRunsOf (CoveredIn covering before line) own
@@ -58,22 +54,14 @@ named_append : (number : ℕ) (xs ys : List Occurrence) → runs_named number (x
 named_append number xs ys =
     ap length (filter-append (λ (o : Occurrence). nat_eq o.pattern number) xs ys) ∙ length-append (filter (λ (o : Occurrence). nat_eq o.pattern number) xs) (filter (λ (o : Occurrence). nat_eq o.pattern number) ys)
 
-long_more : (b : Bool) (line : Line) (lines : List Line) → length (if b then line ∷ lines else lines) ≡ (if b then 1 else 0) + length lines
-long_more true line lines = omega arith
-long_more false line lines = omega arith
-
 long_named : (covering : Covering) (before : List (List ℕ)) (lines : List Line) (runs : List (List Occurrence)) → AreLineRuns covering before lines runs
     → runs_named (whole_number covering) (all_of runs) ≡ long_among covering.most lines
 long_named covering before [] [] are = refl
 long_named covering before [] (own ∷ runs) are = absurd are
 long_named covering before (line ∷ lines) [] are = absurd are
 long_named covering before (line ∷ lines) (own ∷ runs) are =
-    let long = λ (l : Line). nat_lt covering.most (length l.bytes) in
     let rest = long_named covering (before ++ seen_line covering.most line.bytes ∷ []) lines runs are.1 in
-    named_append (whole_number covering) own (all_of runs)
-    ∙ ap (λ n. n + runs_named (whole_number covering) (all_of runs)) (long_one covering before line.bytes own are.0)
-    ∙ ap (λ n. (if nat_lt covering.most (length line.bytes) then 1 else 0) + n) rest
-    ∙ sym (long_more (nat_lt covering.most (length line.bytes)) line (filter long lines))
+    grind (arith, common_steps, named_append (whole_number covering) own (all_of runs), long_one covering before line.bytes own are.0, rest)
 
 -- so it is of a text, of the file of a name, and of all files
 module _ (covering : Covering) where

@@ -11,13 +11,13 @@ use Rattle.acredact.specs.Calls.{IsUnreadLine, TellsOfFiles}
 use Rattle.acredact.specs.Checks.{look_lines}
 use Rattle.acredact.specs.Files.{unread_line}
 use Rattle.acredact.specs.Looks.{both_seen, is_unread_look, verdict_of}
-use Rattle.acredact.specs.RuledChecks.{BeginsFindings, BeginsNamedTelling, BeginsTelling, IsCoveredBy, Labels, LineQuest, LookedNamed, LookedText, SeenFile, SeenFiles, SeesAllLines, SeesNamed, SeesText, files_findings, is_some_line, lines_findings}
+use Rattle.acredact.specs.RuledChecks.{BeginsFindings, BeginsNamedTelling, BeginsTelling, IsCoveredBy, LineQuest, LookedNamed, LookedText, SeenFile, SeenFiles, SeesNamed, SeesText, files_findings, is_some_line, lines_findings}
 use Rattle.acredact.specs.RunCounts.{HasLineRuns}
 use Rattle.acredact.specs.declared.look.Look.TheVariants.{Unread}
 use Rattle.acredact.proofs.Calls.{tells_same}
 use Rattle.acredact.proofs.Done.{both_so}
-use Rattle.acredact.proofs.OneFile.{begun_nothing, each_none, known_begun, name_unread}
-use Rattle.acredact.proofs.RuledFiles.{IsFileRead, of_first, told_any, told_more}
+use Rattle.acredact.proofs.OneFile.{IsFileRead, begun_nothing, each_none, known_begun, name_unread}
+use Rattle.acredact.proofs.RuledFiles.{of_first, told_any, told_more}
 use Rattle.acredact.proofs.RuledText.{known_line_runs}
 use Rattle.acredact.proofs.Turns.{Joins, also}
 
@@ -38,11 +38,6 @@ covered_by G cover words rules most p can searched is_words is_rules is_most = r
   is = rw (is_words, is_rules, is_most) refl;
 }
 
--- where nothing was read nothing was told
-begun_none : (covering : Covering) (labels : Labels) (name : List ℕ) (left held : Option (List ℕ)) → BeginsTelling covering labels name left left held held
-begun_none covering labels name left held =
-    begun_nothing (BeginsFindings covering labels name) (record { lines = []; runs = []; are = tt; first = λ bytes may. (stream_lines bytes, refl); begins = refl }) left held
-
 -- what is told of a text is told of its file
 pub looked_file : (quest : LineQuest) (name : List ℕ) (result : Result Look LineError) (given rest left left' held held' : Option (List ℕ)) → IsFileRead quest.holds name given rest left left'
     → LookedText quest.covering quest.labels name result given rest held held' → LookedNamed quest name result left left' held held'
@@ -61,7 +56,8 @@ looked_file quest name result given rest left left' held held' file text = recor
 
 -- nothing was told of a file, or of any
 pub named_none : (quest : LineQuest) (name : List ℕ) (left held : Option (List ℕ)) → BeginsNamedTelling quest name left left held held
-named_none quest name left held = name_unread quest.holds name (λ l l'. BeginsTelling quest.covering quest.labels name l l' held held) left (λ l. begun_none quest.covering quest.labels name l held)
+named_none quest name left held = name_unread quest.holds name (λ l l'. BeginsTelling quest.covering quest.labels name l l' held held) left
+    (λ l. begun_nothing (BeginsFindings quest.covering quest.labels name) (record { lines = []; runs = []; are = tt; first = λ bytes may. (stream_lines bytes, refl); begins = refl }) l held)
 
 -- what a look tells of its file
 pub look_told : {E : Type 0} (X : Type 0) (K : SinkGhosts E) (name : List ℕ) (look : Look) (errors errors' : Errors E) → TellsBytes K errors errors' (concat (look_lines name look)) → (is_unread_look look ≡ false → errors' ≡ errors)
@@ -74,16 +70,6 @@ look_told X K name (Unread reason) errors errors' told quiet = record {
   written = told;
 }
 look_told X K name look errors errors' told quiet = quiet refl
-
--- one file, and then others
-one_more : (quest : LineQuest) (name : List ℕ) (rest : List (List ℕ)) (first more : Bool) (left mid left' held half held' : Option (List ℕ)) → SeesNamed quest name first left mid held half
-    → SeesAllLines quest rest more mid left' half held' → SeesAllLines quest (name ∷ rest) (first || more) left left' held held'
-one_more quest name rest first more left mid left' held half held' one others = record {
-  runs = one.runs ∷ others.runs;
-  have = (mid, one.has, others.have);
-  found_is = ap (λ (b : Bool). b || more) one.found_is ∙ ap (λ (b : Bool). is_some_line one.runs || b) others.found_is;
-  told = Appends-trans held half held' (lines_findings quest.labels name 1 one.runs) (files_findings quest.labels rest others.runs) one.told others.told;
-}
 
 -- what is seen of some and of others
 abbrev pub verdict_as : (found all : Bool) → Verdict
@@ -113,7 +99,14 @@ module _ {E : Type 0} (K : SinkGhosts E) (quest : LineQuest) where
     seen_more {seen} one (Ok verdict) end more = record {
       whole = λ is.
           let both = both_so seen.all verdict.all (seen.all && verdict.all) refl is in
-          one_more quest name names seen.found verdict.found old.0 mid.0 end.0 old.1 mid.1 end.1 (one.whole both.0) (more.whole both.1);
+          let first = one.whole both.0 in
+          let others = more.whole both.1 in
+          record {
+            runs = first.runs ∷ others.runs;
+            have = (mid.0, first.has, others.have);
+            found_is = ap (λ (b : Bool). b || verdict.found) first.found_is ∙ ap (λ (b : Bool). is_some_line first.runs || b) others.found_is;
+            told = Appends-trans old.1 mid.1 end.1 (lines_findings quest.labels name 1 first.runs) (files_findings quest.labels names others.runs) first.told others.told;
+          };
       begun = (mid.0, mid.1, one.begun, more.begun);
       told = told_more K name names {X = LineError} seen.all (Ok verdict.all) old.2 mid.2 end.2 one.told more.told;
     }

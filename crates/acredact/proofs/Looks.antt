@@ -1,30 +1,25 @@
 -- What a look at a stream says, by what the first call of an iterator over its matches answers, or by what a cover of its words counts.
-use Rattle.acredact.proofs.Common.{Consumes, Consumes-nil, CountsRunsWith, CountsThese, Ghosts, IsAtEnd, IsMember, Memory, Occurrence, Patterns, PieceRule, PositionLimit, Read, Refused, SinkGhosts, SourceGhosts, StreamError, Write, WriteZero, all-covers, all-made, all_runs, counted, eq-eqb, is_read_fault, is_write_fault, is_write_of_nothing, plain_search, runs_named, shortest}
-use Rattle.std.proofs.Common.{◌≡◌, ◌≢◌, inl, ℕ, ◌<◌, ◌≤◌, List, [], ◌∷◌, Option, true, false, length, map, refl, sym, ap, subst, ◌∙◌, arith, le_refl}
-use Rattle.std.specs.Prelude.{Bool, None, Some, Result, Ok, Err, IfOk, filter, nat_eq, slice_index}
+use Rattle.acredact.proofs.Common.{Consumes-nil, CountsRunsWith, CountsThese, Ghosts, IsAtEnd, IsMember, Memory, Occurrence, Patterns, PieceRule, PositionLimit, Read, Refused, SinkGhosts, SourceGhosts, StreamError, Write, WriteZero, all-covers, all-made, all_runs, common_steps, counted, is_read_fault, is_write_fault, is_write_of_nothing, plain_search, runs_named, shortest}
+use Rattle.std.proofs.Common.{◌≡◌, ◌≢◌, inl, inr, ℕ, ◌<◌, ◌≤◌, List, [], ◌∷◌, Option, true, false, length, map, refl, sym, ap, subst, ◌∙◌, arith, le_refl}
+use Rattle.std.specs.Prelude.{Bool, MatchBool, None, Some, Result, Ok, Err, IfOk, slice_index}
 use Rattle.aho_core.specs.Answer.{IsAnswer}
 use Rattle.aho_core.specs.Iteration.{IsNextFind}
 use Rattle.aho_cover.specs.Covers.{CountsWrittenWith}
-use Rattle.aho_cover.specs.Words.{AreRunsWith, IsWordIn}
+use Rattle.aho_cover.specs.Words.{AreRunsWith}
 use Rattle.aho_devices.specs.Errors.{CountsErrors}
 use Rattle.aho_stream.specs.FindRuns.{FindsAll, FindsAlong, FindsSoFar}
 use Rattle.aho_stream.specs.Finds.{FindsError, FindsNextInStream}
 use Rattle.aho_stream.specs.Iterators.{CanGoOn}
-use Rattle.aho_stream.specs.Replacing.{IsStreamFault}
+use Rattle.aho_stream.specs.Replacing.{IsStreamFault, MayBe}
 use Rattle.aho_stream.specs.declared.finds.StreamFindIter.{StreamFindIter}
 use Rattle.aho_stream.specs.declared.progress.StreamProgress.{StreamProgress}
-use Rattle.aho_laws.proofs.Members.{member-filter}
 use Rattle.aho_stream.proofs.FindRuns.{find_steps}
 use Rattle.acredact.specs.Faults.{IsReadReason}
-use Rattle.acredact.specs.Looks.{IsLook, IsLookEnd, LooksAt, SomeCounts, is_failed_look, look_of, sought}
+use Rattle.acredact.specs.Looks.{IsLook, IsLookEnd, LooksAt, NoneCounts, SomeCounts, is_failed_look, look_of, sought}
 use Rattle.acredact.specs.Secrets.{Redactor}
 use Rattle.acredact.proofs.Covered.{occurs_some}
+use Rattle.acredact.proofs.OneFile.{ended_text, ends_by}
 use Rattle.acredact.proofs.Redactions.{all_of}
-
--- what is answered
-abbrev answered : Result Bool StreamError → Bool
-answered (Ok found) = found
-answered (Err error) = false
 
 -- the first find is the answer of the search
 first_answer : (p : Patterns) (bytes : List ℕ) (found : Option Occurrence) → IsNextFind p (plain_search bytes) None found → IsAnswer p (plain_search bytes) found
@@ -50,8 +45,7 @@ module _ {A R : Type 0} (G : Ghosts A) (S : SourceGhosts R) (p : Patterns) (it r
         given = all.given;
         ended = true;
         gives = all.gives;
-        unmatched = λ is. (refl, first_answer p all.given None all.all);
-        matched = λ (is : Ok false ≡ Ok true). absurd (cc);
+        seen = (refl, first_answer p all.given None all.all);
         read_failed = step.call.read_failed;
         only = tt;
       }
@@ -64,11 +58,7 @@ module _ {A R : Type 0} (G : Ghosts A) (S : SourceGhosts R) (p : Patterns) (it r
         given = so.given;
         ended = so.ended;
         gives = so.gives;
-        unmatched = λ (is : Ok true ≡ Ok false). absurd (cc);
-        matched = λ is bytes may. (
-          m,
-          (first_answer p bytes (Some m) (subst (λ (l : List ℕ). IsNextFind p (plain_search l) None (Some m)) (sym may.1) (so.first may.0 may.2).0)).0,
-        );
+        seen = λ bytes may. (m, (first_answer p bytes (Some m) (subst (λ (l : List ℕ). IsNextFind p (plain_search l) None (Some m)) (sym may.1) (so.first may.0 may.2).0)).0);
         read_failed = step.call.read_failed;
         only = tt;
       }
@@ -81,8 +71,7 @@ module _ {A R : Type 0} (G : Ghosts A) (S : SourceGhosts R) (p : Patterns) (it r
         given = so.given;
         ended = so.ended;
         gives = so.gives;
-        unmatched = λ (is : Err error ≡ Ok false). absurd (cc);
-        matched = λ (is : Err error ≡ Ok true). absurd (cc);
+        seen = tt;
         read_failed = step.call.read_failed ∙ ap (λ (b : Bool). counted b (S.failures it.chunks.source.now)) (fault_same Occurrence Bool error);
         only = error_ends can.0 it.chunks.progress rest.chunks.progress _ error (step.finds can.0 can.1 can.2 can.3);
       }
@@ -93,8 +82,7 @@ looks_memory S r source = record {
   given = [];
   ended = false;
   gives = record { bytes = Consumes-nil (S.remaining source); end = refl };
-  unmatched = λ (is : Err Memory ≡ Ok false). absurd (cc);
-  matched = λ (is : Err Memory ≡ Ok true). absurd (cc);
+  seen = tt;
   read_failed = refl;
   only = tt;
 }
@@ -105,14 +93,10 @@ run_of number [] some = let none : runs_named number [] ≡ 0 = refl in absurd (
 run_of number (run ∷ runs) some = (run, inl refl)
 
 -- and one is counted
-some_listed : (xs : List Occurrence) (x : Occurrence) → IsMember xs x → 1 ≤ length xs
-some_listed [] x member = absurd member
-some_listed (y ∷ xs) x member = omega arith
-
 named_some : (run : Occurrence) (runs : List Occurrence) → IsMember runs run → 1 ≤ runs_named run.pattern runs
-named_some run runs member =
-    let test = λ (other : Occurrence). nat_eq other.pattern run.pattern in
-    some_listed (filter test runs) run (member-filter test runs run (eq-eqb run.pattern run.pattern refl) member)
+named_some run [] member = absurd member
+named_some run (other ∷ runs) (inl same) = grind (arith, common_steps, ap (λ (o : Occurrence). o.pattern) same)
+named_some run (other ∷ runs) (inr there) = grind (arith, common_steps, named_some run runs there)
 
 module _ {R : Type 0} (S : SourceGhosts R) (p : Patterns) (AreSearched : Patterns → Type 0) (of : AreSearched p) (some : 1 ≤ shortest (map length p.words)) (source source' : R) (zeros counts : List ℕ)
     (sized : length zeros ≡ length p.words) (zero : (number : ℕ) → number < length zeros → slice_index zeros number ≡ 0) (whole : CountsRunsWith S AreSearched true source source' zeros counts) where
@@ -129,37 +113,27 @@ module _ {R : Type 0} (S : SourceGhosts R) (p : Patterns) (AreSearched : Pattern
   run_numbered : (run : Occurrence) → IsMember Runs run → run.pattern < length zeros
   run_numbered run member = let is_run = (runs_are.members run).0 member in omega (arith, is_run.named, is_run.longest_is.0.0.occurs.numbered, sized)
 
-  -- where all counts stay zero no word stands in what was given
-  none_stands : ((number : ℕ) → number < length counts → slice_index counts number ≡ 0) → (m : Occurrence) → IsWordIn p whole.given m → ⊥
-  none_stands none m word =
-      let full = occurs_some p some whole.given 0 m word.occurs in
-      let covered = (all-covers p whole.given true).has m.start (record { found = m; member = word; after_start = le_refl m.start; before_end = full }) in
-      let run = covered.found in
-      let within = run_numbered run covered.member in
-      omega (arith, named_some run Runs covered.member, counted_so.grown run.pattern within, zero run.pattern within, none run.pattern (omega (arith, within, counted_so.as_many)))
-
-  -- and where one does not some word does
-  one_stands : (number : ℕ) → number < length counts → 1 ≤ slice_index counts number → SomeCounts (sought p true) whole.given
-  one_stands number within one =
-      let below : number < length zeros = omega (arith, within, counted_so.as_many) in
-      let (run, member) = run_of number Runs (omega (arith, one, counted_so.grown number below, zero number below)) in
-      let is_run = (runs_are.members run).0 member in
-      (is_run.longest, is_run.longest_is.0.0)
-
   -- so a look for words says what the counts do
-  pub looks_counted : (found : Bool) → (found ≡ true → (number : ℕ) × (number < length counts) × (1 ≤ slice_index counts number)) → (found ≡ false → (number : ℕ) → number < length counts → slice_index counts number ≡ 0)
+  pub looks_counted : (found : Bool) → MatchBool found ((number : ℕ) × (number < length counts) × (1 ≤ slice_index counts number)) ((number : ℕ) → number < length counts → slice_index counts number ≡ 0)
       → S.failures source' ≡ S.failures source → LooksAt S (sought p true) (Ok found) source source'
-  looks_counted found one none failed = record {
-    given = whole.given;
-    ended = true;
-    gives = whole.gives;
-    unmatched = λ is. (refl, none_stands (none (ap answered is)));
-    matched = λ is bytes may.
-        let (number, within, more) = one (ap answered is) in
-        subst (λ (l : List ℕ). SomeCounts (sought p true) l) (sym (all_of whole.given bytes may)) (one_stands number within more);
-    read_failed = failed;
-    only = tt;
-  }
+  looks_counted found counted failed = record { given = whole.given; ended = true; gives = whole.gives; seen = by found counted; read_failed = failed; only = tt }
+    where
+      by : (found : Bool) → MatchBool found ((number : ℕ) × (number < length counts) × (1 ≤ slice_index counts number)) ((number : ℕ) → number < length counts → slice_index counts number ≡ 0)
+          → MatchBool found ((bytes : List ℕ) → MayBe whole.given true bytes → SomeCounts (sought p true) bytes) ((true ≡ true) × NoneCounts (sought p true) whole.given)
+      by true (number, within, one) = λ bytes may.
+          let below : number < length zeros = omega (arith, within, counted_so.as_many) in
+          let (run, member) = run_of number Runs (omega (arith, one, counted_so.grown number below, zero number below)) in
+          let is_run = (runs_are.members run).0 member in
+          subst (λ (l : List ℕ). SomeCounts (sought p true) l) (sym (all_of whole.given bytes may)) (is_run.longest, is_run.longest_is.0.0)
+      by false none = (
+        refl,
+        λ m word.
+            let full = occurs_some p some whole.given 0 m word.occurs in
+            let covered = (all-covers p whole.given true).has m.start (record { found = m; member = word; after_start = le_refl m.start; before_end = full }) in
+            let run = covered.found in
+            let within = run_numbered run covered.member in
+            omega (arith, named_some run Runs covered.member, counted_so.grown run.pattern within, zero run.pattern within, none run.pattern (omega (arith, within, counted_so.as_many))),
+      )
 
 -- why a cover that writes to nowhere ends early
 fault_looks : (error : StreamError) → IsStreamFault error → 0 ≡ counted (is_write_fault {A = Unit {0}} (Err error)) 0 → 0 ≡ counted (is_write_of_nothing {A = Unit {0}} (Err error)) 0 → IsLookEnd error
@@ -175,8 +149,7 @@ looks_cut S K p AreSearched rule source source' sink sink' counts counts' error 
   given = written.given;
   ended = written.ended;
   gives = written.gives;
-  unmatched = λ (is : Err error ≡ Ok false). absurd (cc);
-  matched = λ (is : Err error ≡ Ok true). absurd (cc);
+  seen = tt;
   read_failed = errors.read_failed ∙ ap (λ (b : Bool). counted b (S.failures source)) (fault_same (Unit {0}) Bool error);
   only = fault_looks error is
       (sym (unfailed sink') ∙ errors.write_failed ∙ ap (counted (is_write_fault {A = Unit {0}} (Err error))) (unfailed sink))
@@ -186,26 +159,17 @@ looks_cut S K p AreSearched rule source source' sink sink' counts counts' error 
 -- what a look at a stream means for its file
 module _ {R : Type 0} (S : SourceGhosts R) (r : Redactor) (source source' : R) (before : Option (List ℕ)) (left : S.remaining source ≡ before) (none : S.empty_reads source ≡ 0)
     (ends : S.empty_reads source' ≢ 0 → IsAtEnd (S.remaining source')) where
-  at_end_by : (ended : Bool) → ended ≡ true → S.empty_reads source' ≡ counted ended (S.empty_reads source) → IsAtEnd (S.remaining source')
-  at_end_by ended is count =
-      ends (λ zero. let one : S.empty_reads source' ≡ 1 = count ∙ ap (λ (b : Bool). counted b (S.empty_reads source)) is ∙ ap (counted true) none in omega (arith, one, zero))
-
-  read_by : (given : List ℕ) → Consumes (S.remaining source) (S.remaining source') given → Consumes before (S.remaining source') given
-  read_by given consumes = subst (λ bytes. Consumes bytes (S.remaining source') given) left consumes
-
   pub look_is : (occurs : Result Bool StreamError) → LooksAt S r occurs source source' → IfOk (look_of occurs) (λ look. IsLook r IsReadReason look before (S.remaining source'))
   look_is (Ok true) looks = record {
     given = looks.given;
     ended = looks.ended;
-    read = read_by looks.given looks.gives.bytes;
-    at_end = λ is. at_end_by looks.ended is looks.gives.end;
-    some = looks.matched refl;
+    read = rw left at looks.gives.bytes;
+    at_end = ends_by (S.empty_reads source) (S.empty_reads source') looks.ended none ends looks.gives.end;
+    some = looks.seen;
   }
-  look_is (Ok false) looks =
-      let clean = looks.unmatched refl in
-      (looks.given, record { read = read_by looks.given looks.gives.bytes; ended = at_end_by looks.ended clean.0 looks.gives.end }, clean.1)
-  look_is (Err (Read fault)) looks = (tt, (looks.given, read_by looks.given looks.gives.bytes))
-  look_is (Err PositionLimit) looks = (tt, (looks.given, read_by looks.given looks.gives.bytes))
+  look_is (Ok false) looks = (looks.given, ended_text S source source' before left none ends looks.given (rw looks.seen.0 at looks.gives), looks.seen.1)
+  look_is (Err (Read fault)) looks = (tt, (looks.given, rw left at looks.gives.bytes))
+  look_is (Err PositionLimit) looks = (tt, (looks.given, rw left at looks.gives.bytes))
   look_is (Err error) looks = tt
 
 pub look_failed : (occurs : Result Bool StreamError) → is_read_fault occurs ≡ is_failed_look (look_of occurs)

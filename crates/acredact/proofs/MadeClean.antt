@@ -1,103 +1,63 @@
 -- Clean pieces that are made of runs: nothing occurs in a text whose runs are replaced by them.
-use Rattle.acredact.proofs.Common.{IsCleanPiece, IsMember, NoneHolds, Occurrence, Patterns, PieceRule, cases_lt, folded_word, nil_from_length, pattern_at, take_rest}
-use Rattle.std.proofs.Common.{◌≡◌, inl, inr, ℕ, ◌+◌, ◌-◌, ◌<◌, ◌≤◌, List, [], ◌∷◌, ◌++◌, length, refl, sym, ap, subst, arith}
-use Rattle.std.specs.Prelude.{slice_range}
-use Rattle.aho_core.specs.Cover.{AreRuns, IsCovered}
-use Rattle.aho_core.specs.Replacement.{replaced_by, replaced_from}
+use Rattle.acredact.proofs.Common.{IsCleanPiece, IsMember, Occurrence, Patterns, PieceRule, get_or-replicate}
+use Rattle.std.proofs.Common.{◌≡◌, inl, inr, ℕ, ◌<◌, List, [], ◌∷◌, ◌++◌, length, refl, sym, ap, subst, ◌∙◌, append_assoc, arith}
+use Rattle.std.specs.Prelude.{replicate, slice_index_or, slice_range}
+use Rattle.aho_core.specs.Cover.{AreRuns}
+use Rattle.aho_core.specs.Replacement.{replaced, replaced_by, replaced_from}
 use Rattle.aho_cover.specs.Pieces.{piece_in}
-use Rattle.aho_laws.specs.CoverLaws.{AreInOrder}
-use Rattle.aho_laws.specs.CutLaws.{IsClear, NoneIsEmpty, moved}
-use Rattle.aho_laws.proofs.ClearCuts.{Occurs-full}
-use Rattle.aho_laws.proofs.CoverClean.{bare_byte}
-use Rattle.aho_laws.proofs.CoverKept.{OccursHere, runs-cover}
-use Rattle.aho_laws.proofs.CoverRuns.{in_order-rest}
+use Rattle.aho_laws.specs.CoverLaws.{AreClean}
+use Rattle.aho_laws.specs.CutLaws.{moved}
+use Rattle.aho_laws.proofs.CoverClean.{cover-free}
 use Rattle.aho_laws.proofs.JoinedPieces.{clear_joined}
-use Rattle.aho_laws.proofs.SpanTexts.{Occurs-left, Occurs-moved, Occurs-right, length_part, moved_back}
+use Rattle.aho_laws.proofs.SpanTexts.{Occurs-left, Occurs-of_left, Occurs-of_right, Occurs-right, moved_back}
 use Rattle.acredact.specs.Secrets.{NoneOccurs}
-use Rattle.acredact.proofs.Flaws.{first_of, last_of}
+use Rattle.acredact.proofs.Flaws.{last_of}
 
 module _ (p : Patterns) where
-  -- none lies across the place before a byte that no pattern holds
-  clear_before : (byte : ℕ) (front rest : List ℕ) → NoneHolds p byte → IsClear p (front ++ byte ∷ rest) 0 (length (front ++ byte ∷ rest)) (length front)
-  clear_before byte front rest none m occurs =
-      elim (cases_lt (length front) m.end) [
-        | inr upto ↦ inl upto
-        | inl past ↦
-            elim (cases_lt m.start (length front)) [
-              | inr behind ↦ inr behind
-              | inl low ↦ absurd (bare_byte p byte front rest none (record { found = m; member = occurs; after_start = omega arith; before_end = past }))
-            ]
-      ]
+  -- what occurs in a part of a text occurs in it
+  free_left : (left right : List ℕ) → NoneOccurs p (left ++ right) → NoneOccurs p left
+  free_left left right free m occurs = free m (Occurs-of_left p left right m occurs)
 
-  free-joined : (left right : List ℕ) → IsClear p (left ++ right) 0 (length (left ++ right)) (length left) → NoneOccurs p left → NoneOccurs p right → NoneOccurs p (left ++ right)
-  free-joined left right clear free other m occurs =
-      elim (clear m occurs) [
-        | inl before ↦ free m (Occurs-left p left right m before occurs)
-        | inr behind ↦ other (moved_back (length left) m) (Occurs-right p left right m behind occurs)
-      ]
+  free_right : (left right : List ℕ) → NoneOccurs p (left ++ right) → NoneOccurs p right
+  free_right left right free m occurs = free (moved (length left) m) (Occurs-of_right p left right m occurs)
 
-  module _ (rule : PieceRule) (clean : (number : ℕ) (bytes : List ℕ) → number < length p.words → IsCleanPiece p (rule number bytes)) where
-    -- an empty pattern would occur in each piece
-    clean-full : NoneIsEmpty p
-    clean-full number numbered =
-        elim (cases_lt 0 (length (pattern_at p number))) [
-          | inl some ↦ some
-          | inr none ↦
-              (let empty : pattern_at p number ≡ [] = nil_from_length (pattern_at p number) (omega arith) in
-              absurd ((clean number [] numbered).none (record { pattern = number; start = 0; end = 0 })
-              (record { numbered = numbered; after_start = omega arith; before_end = omega arith; sized = omega arith; same = ap (folded_word p) empty; admitted = λ e. cc })))
-        ]
+  -- one clean piece for all patterns
+  abbrev alike : List ℕ → List (List ℕ)
+  alike piece = replicate (length p.words) piece
 
-    module _ (haystack : List ℕ) where
-      free-part : (at end : ℕ) → at ≤ end → end ≤ length haystack → ((k : ℕ) → at ≤ k → k < end → IsCovered (OccursHere p haystack) k → ⊥) → NoneOccurs p (slice_range haystack at end)
-      free-part at end le within bare m occurs =
-          let part = slice_range haystack at end in
-          let long : length part ≡ end - at = length_part haystack at end within in
-          let there = Occurs-moved p haystack at end 0 (length part) m (omega arith) occurs in
-          let here : OccursHere p haystack (moved at m) =
-          record { numbered = there.numbered; after_start = omega arith; before_end = omega (arith, there.before_end); sized = there.sized; same = there.same; admitted = λ e. cc } in
-          let some = Occurs-full p clean-full haystack 0 (length haystack) (moved at m) here in
-          bare (at + m.start) (omega arith) (omega (arith, there.before_end)) (record { found = moved at m; member = here; after_start = omega arith; before_end = some })
+  alike_clean : (piece : List ℕ) → IsCleanPiece p piece → AreClean p (alike piece)
+  alike_clean piece is number numbered = subst (IsCleanPiece p) (sym (get_or-replicate (length p.words) number piece [] numbered)) is
 
-      free-from : (runs : List Occurrence) (at : ℕ) → AreInOrder runs (length haystack) → at ≤ length haystack → ((x : Occurrence) → IsMember runs x → at ≤ x.start) → ((x : Occurrence) → IsMember runs x → x.pattern < length p.words)
-          → ((k : ℕ) → at ≤ k → IsCovered (OccursHere p haystack) k → IsCovered (IsMember runs) k) → NoneOccurs p (replaced_from haystack at runs (piece_in rule haystack))
-      free-from [] at ordered within behind numbered has =
-          subst (NoneOccurs p) (take_rest haystack at) (free-part at (length haystack) within (omega arith) (λ k low high c. (has k low c).member))
-      free-from (run ∷ runs) at ordered within behind numbered has =
-          let front = slice_range haystack at run.start in
-          let piece = piece_in rule haystack run in
-          let rest = replaced_from haystack run.end runs (piece_in rule haystack) in
-          let here = clean run.pattern (slice_range haystack run.start run.end) (numbered run (inl refl)) in
-          let head = first_of piece here.some in
-          let end = last_of piece here.some in
-          let low = behind run (inl refl) in
-          let some = ordered.full run (inl refl) in
-          let high = ordered.within run (inl refl) in
-          let before : NoneOccurs p front =
-          free-part at run.start low (omega arith) (λ k after upto c.
-          let d = has k after c in
-          elim d.member [
-            | inl e ↦ omega (arith, d.after_start, ap (λ (o : Occurrence). o.start) e)
-            | inr later ↦ omega (arith, d.after_start, ordered.in_order.0 d.found later)
-          ]) in
-          let later : NoneOccurs p rest =
-          free-from runs run.end (in_order-rest run runs (length haystack) ordered) high (λ x there. omega (arith, ordered.in_order.0 x there)) (λ x there. numbered x (inr there))
-          (λ k after c.
-          let d = has k (omega arith) c in
-          elim d.member [
-            | inl e ↦ absurd (omega (arith, d.before_end, ap (λ (o : Occurrence). o.end) e))
-            | inr there ↦ record { found = d.found; member = there; after_start = d.after_start; before_end = d.before_end }
-          ]) in
-          let opens : IsClear p (front ++ (piece ++ rest)) 0 (length (front ++ (piece ++ rest))) (length front) =
-          subst (λ (text : List ℕ). IsClear p (front ++ (text ++ rest)) 0 (length (front ++ (text ++ rest))) (length front)) (sym head.1)
-          (clear_before _ front (head.0 ++ rest) (here.first _ head.0 head.1)) in
-          let closes : IsClear p (piece ++ rest) 0 (length (piece ++ rest)) (length piece) = clear_joined p _ piece rest (here.last _ end.0 end.1) end in
-          free-joined front (piece ++ rest) opens before (free-joined piece rest closes here.none later)
+  abbrev alike_in : List ℕ → Occurrence → List ℕ
+  alike_in piece run = slice_index_or (alike piece) run.pattern []
 
-      -- nothing occurs in the cover
-      pub made-free : (runs : List Occurrence) → AreRuns p haystack runs → NoneOccurs p (replaced_by haystack runs (piece_in rule haystack))
-      made-free runs are =
-          let covers = runs-cover p haystack runs are in
-          free-from runs 0 covers.ordered (omega arith) (λ x there. omega arith)
-          (λ x there. let is_run = (are.members x).0 there in omega (arith, is_run.named, is_run.longest_is.0.0.numbered))
-          (λ k low c. covers.has k c)
+  module _ (rule : PieceRule) (clean : (number : ℕ) (bytes : List ℕ) → number < length p.words → IsCleanPiece p (rule number bytes)) (haystack some : List ℕ) (some_clean : IsCleanPiece p some) where
+    -- where nothing occurs by one piece, whichever it is, nothing does by those of the runs
+    free-from : (runs : List Occurrence) (at : ℕ) → ((run : Occurrence) → IsMember runs run → run.pattern < length p.words)
+        → ((piece : List ℕ) → IsCleanPiece p piece → NoneOccurs p (replaced_from haystack at runs (alike_in piece))) → NoneOccurs p (replaced_from haystack at runs (piece_in rule haystack))
+    free-from [] at numbered free = free some some_clean
+    free-from (run ∷ runs) at numbered free =
+        let front = slice_range haystack at run.start in
+        let piece = piece_in rule haystack run in
+        let rest = replaced_from haystack run.end runs (piece_in rule haystack) in
+        let alone = replaced_from haystack run.end runs (alike_in piece) in
+        let here = clean run.pattern (slice_range haystack run.start run.end) (numbered run (inl refl)) in
+        let same : alike_in piece run ≡ piece = get_or-replicate (length p.words) run.pattern piece [] (numbered run (inl refl)) in
+        let whole : NoneOccurs p (front ++ (piece ++ alone)) = subst (λ (l : List ℕ). NoneOccurs p (front ++ (l ++ alone))) same (free piece here) in
+        let before = free_left (front ++ piece) alone (subst (NoneOccurs p) (sym (append_assoc front piece alone)) whole) in
+        let later = free-from runs run.end (λ x there. numbered x (inr there)) (λ other is. free_right (alike_in other run) _ (free_right front _ (free other is))) in
+        let end = last_of piece here.some in
+        let seam = clear_joined p _ (front ++ piece) rest (here.last _ end.0 end.1) (front ++ end.0, ap (λ (l : List ℕ). front ++ l) end.1 ∙ sym (append_assoc front end.0 _)) in
+        subst (NoneOccurs p) (append_assoc front piece rest) (λ m occurs.
+        elim (seam m occurs) [
+          | inl first ↦ before m (Occurs-left p (front ++ piece) rest m first occurs)
+          | inr behind ↦ later (moved_back (length (front ++ piece)) m) (Occurs-right p (front ++ piece) rest m behind occurs)
+        ])
+
+  -- nothing occurs in the cover
+  pub made-free : (rule : PieceRule) → ((number : ℕ) (bytes : List ℕ) → number < length p.words → IsCleanPiece p (rule number bytes)) → (haystack : List ℕ) (runs : List Occurrence) → AreRuns p haystack runs
+      → NoneOccurs p (replaced_by haystack runs (piece_in rule haystack))
+  made-free rule clean haystack runs are m occurs =
+      free-from rule clean haystack (rule m.pattern []) (clean m.pattern [] occurs.numbered) runs 0
+      (λ x there. let is_run = (are.members x).0 there in omega (arith, is_run.named, is_run.longest_is.0.0.numbered))
+      (λ piece is n there. cover-free p (alike piece) (alike_clean piece is) haystack (replaced haystack runs (alike piece)) (runs, are, refl) n there) m occurs

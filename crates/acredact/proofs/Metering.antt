@@ -1,5 +1,5 @@
 -- How a count of bytes goes on.
-use Rattle.acredact.proofs.Common.{Consumes, IfErr-weaker, IsAtEnd, Keeps, SinkGhosts, SourceGave, SourceGhosts, StreamError, Volume, counted, is_input, is_read_fault, on_ok_weaker, same_Some}
+use Rattle.acredact.proofs.Common.{Consumes, IfErr-weaker, IsAtEnd, Keeps, SinkGhosts, SourceGave, SourceGhosts, StreamError, Volume, counted, is_read_fault, on_ok_weaker, same_Some}
 use Rattle.std.proofs.Common.{◌≡◌, ◌≢◌, ℕ, ◌+◌, ◌≤◌, Bool, true, false, List, [], ◌∷◌, Option, length, refl, sym, ap, subst, ◌∙◌, arith, length-append}
 use Rattle.std.specs.Prelude.{◌^◌, ◌-◌, min, None, Some, Result, is_some}
 use Rattle.aho_cover.specs.Counting.{grown_count}
@@ -7,8 +7,8 @@ use Rattle.acredact.specs.Metering.{IsMetered, settled_left}
 use Rattle.acredact.specs.Secrets.{Redactor}
 use Rattle.acredact.specs.Streams.{ReachesStream, RedactsStream, StreamOutcome}
 use Rattle.acredact.specs.Totals.{CountsOfStream, DoesStream}
-use Rattle.acredact.specs.Volumes.{AddsBytes, AddsName, AddsNames, AddsStream, ReadsVolume}
-use Rattle.acredact.proofs.OneFile.{ended_text, known_read, of_folder, of_input}
+use Rattle.acredact.specs.Volumes.{AddsBytes, AddsName, AddsStream, ReadsVolume}
+use Rattle.acredact.proofs.OneFile.{IsFileRead, ended_text, known_read}
 
 -- more was given
 pub metered_more : (whole left left' : Option (List ℕ)) (start bytes : ℕ) (given : List ℕ) → Consumes left left' given → IsMetered whole left start bytes → IsMetered whole left' start (min (bytes + length given) (2 ^ 64 - 1))
@@ -49,11 +49,6 @@ metered_added true whole (Some xs) (Some ys) start bytes bytes' text same is rea
     let here = (metered refl xs same).1 ys refl in
     let sizes : length xs ≡ length text + length ys = ap length read ∙ length-append text ys in
     omega (arith, here.1, sizes, is)
-
--- a source is as it was left
-pub does_there : {R W : Type 0} (S : SourceGhosts R) (K : SinkGhosts W) (r : Redactor) (result : Result (Unit {0}) StreamError) (source there there' : R) (sink sink' : W) (counts counts' : List ℕ) → there ≡ there'
-    → DoesStream S K result source there sink sink' counts counts' r → DoesStream S K result source there' sink sink' counts counts' r
-does_there S K r result source there there' sink sink' counts counts' same does = subst (λ s. DoesStream S K result source s sink sink' counts counts' r) same does
 
 -- what one source gave another did, of which no less is known
 pub gave_by : {Q R : Type 0} (P : SourceGhosts Q) (S : SourceGhosts R) (other other' : Q) (source source' : R)
@@ -122,38 +117,21 @@ known_bytes bytes bytes' told left left' kept adds =
     is_known (Some xs) None kept known = absurd kept
     is_known (Some xs) (Some ys) kept known = refl
 
-module _ (holds : List ℕ → Option (List ℕ)) (name : List ℕ) (left left' : Option (List ℕ)) (bytes bytes' : ℕ) where
-  pub input_bytes : is_input name ≡ true → AddsBytes bytes bytes' left left' → AddsName holds name bytes bytes' left left'
-  input_bytes is adds = of_input holds name (AddsBytes bytes bytes') left left' is adds
+-- so did the file of a name that was read
+pub file_bytes : {holds : List ℕ → Option (List ℕ)} {name : List ℕ} {given rest left left' : Option (List ℕ)} {bytes bytes' : ℕ} → IsFileRead holds name given rest left left' → AddsBytes bytes bytes' given rest → AddsName holds name bytes bytes' left left'
+file_bytes {given = given} {rest = rest} {bytes = bytes} {bytes' = bytes'} file adds = file.of (AddsBytes bytes bytes') (known_bytes bytes bytes' file.known given rest file.kept adds)
 
-  pub opened_bytes : is_input name ≡ false → left' ≡ left → (opened rest : Option (List ℕ)) → Keeps (holds name) opened → AddsBytes bytes bytes' opened rest → AddsName holds name bytes bytes' left left'
-  opened_bytes is same opened rest kept adds = of_folder holds name (AddsBytes bytes bytes') left left' is same rest (known_bytes bytes bytes' (holds name) opened rest kept adds)
+-- one file was read and counted, and then others
+pub volume_more : (holds : List ℕ → Option (List ℕ)) (name : List ℕ) (names : List (List ℕ)) (volume mid volume' : Volume) (left between left' : Option (List ℕ)) → AddsName holds name volume.bytes mid.bytes left between
+    → mid.files ≡ grown_count volume.files 1 → ReadsVolume holds names mid volume' between left' → ReadsVolume holds (name ∷ names) volume volume' left left'
+volume_more holds name names volume mid volume' left between left' adds one more = record {
+  bytes = (mid.bytes, between, adds, more.bytes);
+  files =
+      let size : length (name ∷ names) ≡ length names + 1 = omega arith in
+      let so = more.files in
+      omega (arith, so, size, one);
+}
 
--- some first files were read, and counted
-pub record VolumeSoFar (holds : List ℕ → Option (List ℕ)) (names rest : List (List ℕ)) (volume volume' : Volume) (old new : Option (List ℕ)) : Type 0 where
-  pub bytes : (last : ℕ) (left : Option (List ℕ)) → AddsNames holds rest volume'.bytes last new left → AddsNames holds names volume.bytes last old left
-  pub files : grown_count volume'.files (length rest) ≡ grown_count volume.files (length names)
-
-module _ (holds : List ℕ → Option (List ℕ)) (names : List (List ℕ)) (volume : Volume) (old : Option (List ℕ)) where
-  pub far_unread : VolumeSoFar holds names names volume volume old old
-  far_unread = record { bytes = λ last left rest. rest; files = refl }
-
-  pub far_read : (name : List ℕ) (rest : List (List ℕ)) (before after : Volume) (bytes : ℕ) (mid new : Option (List ℕ)) → VolumeSoFar holds names (name ∷ rest) volume before old mid
-      → AddsName holds name before.bytes bytes mid new → after.bytes ≡ bytes → after.files ≡ grown_count before.files 1 → VolumeSoFar holds names rest volume after old new
-  far_read name rest before after bytes mid new far adds same files = record {
-    bytes = λ last left rests. far.bytes last left (bytes, new, adds, subst (λ (n : ℕ). AddsNames holds rest n last new left) same rests);
-    files =
-        let size : length (name ∷ rest) ≡ length rest + 1 = omega arith in
-        let so = far.files in
-        omega (arith, so, size, files);
-  }
-
-  -- or one more by itself
-  pub far_volume : (name : List ℕ) (rest : List (List ℕ)) (before after : Volume) (mid new : Option (List ℕ)) → VolumeSoFar holds names (name ∷ rest) volume before old mid
-      → ReadsVolume holds (name ∷ []) before after mid new → VolumeSoFar holds names rest volume after old new
-  far_volume name rest before after mid new far reads =
-      let (bytes, between, adds, (same, left)) = reads.bytes in
-      far_read name rest before after bytes mid new far (subst (λ (l : Option (List ℕ)). AddsName holds name before.bytes bytes mid l) (sym left) adds) same reads.files
-
-  pub all_read : (after : Volume) (new : Option (List ℕ)) → VolumeSoFar holds names [] volume after old new → ReadsVolume holds names volume after old new
-  all_read after new far = record { bytes = far.bytes after.bytes new (refl, refl); files = let so = far.files in omega (arith, so) }
+-- what was read of one file alone
+pub one_added : (holds : List ℕ → Option (List ℕ)) (name : List ℕ) (volume volume' : Volume) (left left' : Option (List ℕ)) → ReadsVolume holds (name ∷ []) volume volume' left left' → AddsName holds name volume.bytes volume'.bytes left left'
+one_added holds name volume volume' left left' reads = let (bytes, between, adds, (same, there)) = reads.bytes in rw (same, there) adds

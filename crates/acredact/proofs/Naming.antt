@@ -1,6 +1,6 @@
 -- What is loaded where a key names the secrets.
 use Rattle.acredact.proofs.Common.{Forms, PieceRule}
-use Rattle.std.proofs.Common.{◌≡◌, ℕ, Bool, true, false, List, Option, refl, sym, ap, subst, ◌∙◌}
+use Rattle.std.proofs.Common.{◌≡◌, ℕ, Bool, true, false, List, Option, refl, sym, ap, subst}
 use Rattle.std.specs.Prelude.{Some, None, if◌then◌else◌}
 use Rattle.std.proofs.lemmas.List.Elements.{All-map}
 use Rattle.acredact.specs.Pseudonyms.{pseudonym_rule}
@@ -16,26 +16,12 @@ use Rattle.acredact.proofs.Ready.{IsSomeSecret, given_some}
 pub named_some : (rule : PieceRule) (secrets named : List Secret) → named ≡ all_named rule secrets → HaveNoEmpty secrets → HaveNoEmpty named
 named_some rule secrets named is are = subst HaveNoEmpty (sym is) (All-map IsSomeSecret (named_secret rule secrets) secrets are)
 
-module _ (given : List Given) (secrets : List Secret) (key : List ℕ) where
-  abbrev by_forms : Bool → List Secret
-  by_forms forms = if forms then all_named (pseudonym_rule (has IgnoreCase given) key) secrets else secrets
-
-  -- without forms a key names runs
-  pub unnamed : has Forms given ≡ false → secrets ≡ secrets_by given (Some key) secrets
-  unnamed none = sym (ap by_forms none)
-
-  -- with forms it names secrets
-  pub named_by : (named : List Secret) (ignore_case : Bool) (bytes : List ℕ) → has Forms given ≡ true → ignore_case ≡ has IgnoreCase given → bytes ≡ key
-      → named ≡ all_named (pseudonym_rule ignore_case bytes) secrets → named ≡ secrets_by given (Some key) secrets
-  named_by named ignore_case bytes asked case same is =
-      is ∙ ap (λ (b : Bool). all_named (pseudonym_rule b bytes) secrets) case ∙ ap (λ (l : List ℕ). all_named (pseudonym_rule (has IgnoreCase given) l) secrets) same ∙ sym (ap by_forms asked)
-
 -- what is so of secrets, named or not, is so of those that are loaded
 pub either_way : (P : List Secret → Type 0) (given : List Given) (secrets : List Secret) (key : Option (List ℕ)) → P secrets → ((rule : PieceRule) → P (all_named rule secrets)) → P (secrets_by given key secrets)
 either_way P given secrets None plain named = plain
 either_way P given secrets (Some key) plain named = by (has Forms given)
   where
-    by : (forms : Bool) → P (by_forms given secrets key forms)
+    by : (forms : Bool) → P (if forms then all_named (pseudonym_rule (has IgnoreCase given) key) secrets else secrets)
     by true = named (pseudonym_rule (has IgnoreCase given) key)
     by false = plain
 

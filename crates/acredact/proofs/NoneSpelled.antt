@@ -1,22 +1,24 @@
 -- What a pseudonym can spell, and that nothing occurs in a cover where no pattern is like one.
-use Rattle.acredact.proofs.Common.{All, All-append, All-cons, All-nil, ArePatterns, IsCleanPiece, IsMember, NoneHolds, Patterns, cases_lt, folded_by, folded_word, pattern_at}
+use Rattle.acredact.proofs.Common.{All, All-append, All-cons, All-head, All-nil, All-tail, ArePatterns, IsCleanPiece, IsMember, NoneHolds, Patterns, cases_lt, flat_map, folded_by, folded_word, pattern_at}
 use Rattle.std.proofs.Common.{◌≡◌, inl, inr, ℕ, zero, suc, ◌-◌, ◌<◌, ◌/◌, ◌%◌, List, [], ◌∷◌, ◌++◌, Option, true, false, length, drop, get_or, refl, sym, ap, subst, ◌∙◌, arith}
-use Rattle.std.specs.Prelude.{Bool, None, Some, ◌⊎◌, slice_range}
+use Rattle.std.specs.Prelude.{Bool, None, Some, ◌⊎◌, ◌&&◌, ◌||◌, codes, slice_range}
 use Rattle.std.specs.Int.{bytes_high_first, byte_at}
 use Rattle.std.proofs.Math.Nat.{mod-lt}
+use Rattle.std.proofs.lemmas.Bool.{and_parts, or_parts}
 use Rattle.std.proofs.lemmas.List.{get_or_past}
-use Rattle.std.proofs.lemmas.List.Elements.{All-get_or}
+use Rattle.std.proofs.lemmas.List.Elements.{All-drop, All-get_or, All-take, All-weaker}
+use Rattle.std.proofs.lemmas.List.Sums.{AllPass-from_list_all, list_all-from_AllPass}
 use Rattle.aho_core.specs.Bytes.{folded}
 use Rattle.aho_laws.proofs.Members.{member-map, member-of_map}
-use Rattle.secret_rules.proofs.Members.{member-take}
+use Rattle.secret_rules.proofs.Owners.{member-get_or}
 use Rattle.sha2.specs.Sha256.{digest_bytes, sha256}
 use Rattle.acredact.specs.Hmac.{hmac_sha256}
 use Rattle.acredact.specs.Pseudonyms.{as_compared, hex_at, hex_digit, piece_of_digest, pseudonym_rule}
 use Rattle.acredact.specs.Pieces.{IsJudgedBy}
 use Rattle.acredact.specs.Secrets.{NoneOccurs}
-use Rattle.acredact.specs.Spelling.{IsFirstSpelled, NoneAreSpelled, is_inside}
+use Rattle.acredact.specs.Spelling.{IsFirstSpelled, NoneAreSpelled, holds_byte, is_inside, lies_inside, may_be_spelled}
 use Rattle.acredact.specs.declared.clean.Unclean.{Unclean}
-use Rattle.acredact.proofs.Flaws.{first_is, last_is}
+use Rattle.acredact.proofs.Flaws.{IsFirst, first_is, first_so, last_is, not_held}
 
 -- a digest is of bytes
 abbrev IsByte : ℕ → Type 0
@@ -46,81 +48,78 @@ place_below bytes at are = elim (cases_lt at (length bytes)) [
 ]
 
 -- a byte stands inside, and so does its fold
+abbrev is_quiet : ℕ → Bool
+is_quiet byte = is_inside byte && is_inside (folded_by true byte)
+
 abbrev IsQuiet : ℕ → Type 0
-IsQuiet byte = (is_inside byte ≡ true) × (is_inside (folded_by true byte) ≡ true)
+IsQuiet byte = is_quiet byte ≡ true
 
 quiet_by : (ignore_case : Bool) (byte : ℕ) → IsQuiet byte → is_inside (folded_by ignore_case byte) ≡ true
-quiet_by true byte is = is.1
-quiet_by false byte is = is.0
+quiet_by true byte is = (and_parts (is_inside byte) (is_inside (folded_by true byte)) is).1
+quiet_by false byte is = (and_parts (is_inside byte) (is_inside (folded_by true byte)) is).0
 
 digit_quiet : (value : ℕ) → value < 16 → IsQuiet (hex_digit value)
 digit_quiet (suc (suc (suc (suc (suc (suc (suc (suc (suc (suc (suc (suc (suc (suc (suc (suc n)))))))))))))))) below = absurd (omega arith)
-digit_quiet value below = (refl, refl)
+digit_quiet value below = refl
 
 -- each byte of a pseudonym is its first, its last or one inside
 abbrev IsOfPiece : ℕ → Type 0
 IsOfPiece byte = (byte ≡ 91) ⊎ ((byte ≡ 93) ⊎ IsQuiet byte)
 
-abbrev AreOfPiece : List ℕ → Type 0
-AreOfPiece bytes = (byte : ℕ) → IsMember bytes byte → IsOfPiece byte
+module _ (digest : List ℕ) (below : (at : ℕ) → get_or digest at 0 < 256) where
+  digits_all : (places : List ℕ) → All IsOfPiece (flat_map (hex_at digest) places ++ (93 ∷ []))
+  digits_all [] = All-cons IsOfPiece 93 [] (inr (inl refl)) (All-nil IsOfPiece)
+  digits_all (at ∷ places) =
+      let byte = get_or digest at 0 in
+      let later = flat_map (hex_at digest) places ++ (93 ∷ []) in
+      let high = digit_quiet (byte / 16) (omega (arith, below at)) in
+      let low = digit_quiet (byte % 16) (mod-lt byte (omega arith)) in
+      All-cons IsOfPiece (hex_digit (byte / 16)) (hex_digit (byte % 16) ∷ later) (inr (inr high)) (All-cons IsOfPiece (hex_digit (byte % 16)) later (inr (inr low)) (digits_all places))
 
-all_none : AreOfPiece []
-all_none byte member = absurd member
+  piece_all : All IsOfPiece (piece_of_digest digest)
+  piece_all =
+      let places = 0 ∷ 1 ∷ 2 ∷ 3 ∷ 4 ∷ 5 ∷ [] in
+      let rest = flat_map (hex_at digest) places ++ (93 ∷ []) in
+      let front = All-weaker IsQuiet IsOfPiece (λ byte quiet. inr (inr quiet)) (codes "redacted:") (AllPass-from_list_all is_quiet (codes "redacted:") refl) in
+      All-cons IsOfPiece 91 (codes "redacted:" ++ rest) (inl refl) (All-append IsOfPiece (codes "redacted:") rest front (digits_all places))
 
-all_more : (byte : ℕ) (bytes : List ℕ) → IsOfPiece byte → AreOfPiece bytes → AreOfPiece (byte ∷ bytes)
-all_more byte bytes is are other (inl same) = subst IsOfPiece (sym same) is
-all_more byte bytes is are other (inr there) = are other there
-
-hex_all : (digest : List ℕ) (at : ℕ) → get_or digest at 0 < 256 → (bytes : List ℕ) → AreOfPiece bytes → AreOfPiece (hex_at digest at ++ bytes)
-hex_all digest at below bytes are =
-    let high = hex_digit (get_or digest at 0 / 16) in
-    let low = hex_digit (get_or digest at 0 % 16) in
-    all_more high (low ∷ bytes) (inr (inr (digit_quiet (get_or digest at 0 / 16) (omega (arith, below)))))
-    (all_more low bytes (inr (inr (digit_quiet (get_or digest at 0 % 16) (mod-lt (get_or digest at 0) (omega arith))))) are)
-
-piece_all : (digest : List ℕ) → ((at : ℕ) → get_or digest at 0 < 256) → AreOfPiece (piece_of_digest digest)
-piece_all digest below =
-    let last : AreOfPiece (93 ∷ []) = all_more 93 [] (inr (inl refl)) all_none in
-    let bytes5 = hex_at digest 5 ++ (93 ∷ []) in
-    let digits5 : AreOfPiece bytes5 = hex_all digest 5 (below 5) (93 ∷ []) last in
-    let bytes4 = hex_at digest 4 ++ bytes5 in
-    let digits4 : AreOfPiece bytes4 = hex_all digest 4 (below 4) bytes5 digits5 in
-    let bytes3 = hex_at digest 3 ++ bytes4 in
-    let digits3 : AreOfPiece bytes3 = hex_all digest 3 (below 3) bytes4 digits4 in
-    let bytes2 = hex_at digest 2 ++ bytes3 in
-    let digits2 : AreOfPiece bytes2 = hex_all digest 2 (below 2) bytes3 digits3 in
-    let bytes1 = hex_at digest 1 ++ bytes2 in
-    let digits1 : AreOfPiece bytes1 = hex_all digest 1 (below 1) bytes2 digits2 in
-    let bytes0 = hex_at digest 0 ++ bytes1 in
-    let digits0 : AreOfPiece bytes0 = hex_all digest 0 (below 0) bytes1 digits1 in
-    all_more 91 (114 ∷ 101 ∷ 100 ∷ 97 ∷ 99 ∷ 116 ∷ 101 ∷ 100 ∷ 58 ∷ bytes0) (inl refl) (all_more 114 (101 ∷ 100 ∷ 97 ∷ 99 ∷ 116 ∷ 101 ∷ 100 ∷ 58 ∷ bytes0) (inr (inr (refl, refl))) (all_more 101 (100 ∷ 97 ∷ 99 ∷ 116 ∷ 101 ∷ 100 ∷ 58 ∷ bytes0) (inr (inr (refl, refl))) (all_more 100 (97 ∷ 99 ∷ 116 ∷ 101 ∷ 100 ∷ 58 ∷ bytes0) (inr (inr (refl, refl))) (all_more 97 (99 ∷ 116 ∷ 101 ∷ 100 ∷ 58 ∷ bytes0) (inr (inr (refl, refl))) (all_more 99 (116 ∷ 101 ∷ 100 ∷ 58 ∷ bytes0) (inr (inr (refl, refl))) (all_more 116 (101 ∷ 100 ∷ 58 ∷ bytes0) (inr (inr (refl, refl))) (all_more 101 (100 ∷ 58 ∷ bytes0) (inr (inr (refl, refl))) (all_more 100 (58 ∷ bytes0) (inr (inr (refl, refl))) (all_more 58 (bytes0) (inr (inr (refl, refl))) (digits0))))))))))
-
--- what stands in a part stands in the whole
-member_drop : (n : ℕ) (xs : List ℕ) (x : ℕ) → IsMember (drop n xs) x → IsMember xs x
-member_drop (suc n) (y ∷ ys) x member = inr (member_drop n ys x member)
-member_drop n xs x member = member
+-- what is so of all is so of each member
+every_member : (P : ℕ → Type 0) (xs : List ℕ) (x : ℕ) → All P xs → IsMember xs x → P x
+every_member P [] x are member = absurd member
+every_member P (y ∷ ys) x are (inl is) = subst P (sym is) (All-head P y ys are)
+every_member P (y ∷ ys) x are (inr member) = every_member P ys x (All-tail P y ys are) member
 
 module _ (p : Patterns) (unlike : NoneAreSpelled p.ignore_case p.words) where
+  -- no pattern holds the first byte of a pseudonym or the last, or lies inside
+  unlike_each : (number : ℕ) → number < length p.words → (holds_byte p.ignore_case (pattern_at p number) 91 ≡ false) × (holds_byte p.ignore_case (pattern_at p number) 93 ≡ false) × (lies_inside p.ignore_case (pattern_at p number) ≡ false)
+  unlike_each number numbered =
+      let word = pattern_at p number in
+      let none : may_be_spelled p.ignore_case word ≡ false = subst (IsFirst (may_be_spelled p.ignore_case) 1 p.words) unlike (first_so (may_be_spelled p.ignore_case) 1 p.words) number [] numbered in
+      let (held, outside) = or_parts (holds_byte p.ignore_case word 91 || holds_byte p.ignore_case word 93) (lies_inside p.ignore_case word) none in
+      let (first, last) = or_parts (holds_byte p.ignore_case word 91) (holds_byte p.ignore_case word 93) held in
+      (first, last, outside)
+
   -- nothing occurs in a pseudonym
-  none_within : (piece : List ℕ) → AreOfPiece piece → NoneOccurs p piece
+  none_within : (piece : List ℕ) → All IsOfPiece piece → NoneOccurs p piece
   none_within piece are m occurs =
       let word = pattern_at p m.pattern in
-      let one = unlike m.pattern occurs.numbered in
-      let (byte, member, outside) = one.outside in
-      let there : IsMember (folded_word p (slice_range piece m.start m.end)) (folded p byte) =
-      subst (λ (bytes : List ℕ). IsMember bytes (folded p byte)) occurs.same (member-map (folded p) word byte member) in
-      let (other, in_part, same) = member-of_map (folded p) (slice_range piece m.start m.end) (folded p byte) there in
-      elim (are other (member_drop m.start piece other (member-take (drop m.start piece) (m.end - m.start) other in_part))) [
-        | inl first ↦ one.no_first (byte, member, same ∙ ap (folded p) first)
-        | inr (inl last) ↦ one.no_last (byte, member, same ∙ ap (folded p) last)
-        | inr (inr quiet) ↦ (let clash : false ≡ true = sym outside ∙ ap is_inside same ∙ quiet_by p.ignore_case other quiet in cc)
-      ]
+      let part = slice_range piece m.start m.end in
+      let (no_first, no_last, outside) = unlike_each m.pattern occurs.numbered in
+      let inside : (byte : ℕ) → IsMember word byte → is_inside (folded p byte) ≡ true = λ byte member.
+      let there : IsMember (folded_word p part) (folded p byte) = subst (λ (bytes : List ℕ). IsMember bytes (folded p byte)) occurs.same (member-map (folded p) word byte member) in
+      let (other, in_part, same) = member-of_map (folded p) part (folded p byte) there in
+      elim (every_member IsOfPiece part other (All-take IsOfPiece (m.end - m.start) (drop m.start piece) (All-drop IsOfPiece m.start piece are)) in_part) [
+        | inl first ↦ absurd (not_held p.ignore_case word byte 91 no_first member (same ∙ ap (folded p) first))
+        | inr (inl last) ↦ absurd (not_held p.ignore_case word byte 93 no_last member (same ∙ ap (folded p) last))
+        | inr (inr quiet) ↦ ap is_inside same ∙ quiet_by p.ignore_case other quiet
+      ] in
+      let clash : false ≡ true = sym outside ∙ list_all-from_AllPass (λ byte. is_inside (folded_by p.ignore_case byte)) word (λ k d within. inside (get_or word k d) (member-get_or word k d within)) in cc
 
   none_first : NoneHolds p 91
-  none_first number other numbered member same = (unlike number numbered).no_first (other, member, same)
+  none_first number other numbered member same = not_held p.ignore_case (pattern_at p number) other 91 (unlike_each number numbered).0 member same
 
   none_last : NoneHolds p 93
-  none_last number other numbered member same = (unlike number numbered).no_last (other, member, same)
+  none_last number other numbered member same = not_held p.ignore_case (pattern_at p number) other 93 (unlike_each number numbered).1 member same
 
   piece_clean : (digest : List ℕ) → All IsByte digest → IsCleanPiece p (piece_of_digest digest)
   piece_clean digest are = record {

@@ -1,14 +1,18 @@
 -- What comes of one file, by what comes of its stream.
-use Rattle.acredact.proofs.Common.{Appends, Appends-nil, Consumes, Consumes-nil, FromWrite, IsAtEnd, IsFillRefusal, Keeps, Keeps-refl, PositionLimit, Read, Reason, SinkGhosts, SourceGave, SourceGhosts, StreamError, Writers, counted, is_input, is_read_fault, is_write_fault, is_write_of_nothing, output_bytes, shortest}
+use Rattle.acredact.proofs.Common.{Appends, Appends-nil, Consumes, Consumes-nil, FromWrite, IsAtEnd, Keeps, Keeps-refl, PositionLimit, Read, Reason, SinkGhosts, SourceGave, SourceGhosts, StreamError, counted, is_input, is_read_fault, is_write_fault, is_write_of_nothing, shortest}
 use Rattle.std.proofs.Common.{◌≡◌, ◌≢◌, inl, ℕ, ◌≤◌, List, [], ◌∷◌, Option, true, false, length, map, refl, sym, ap, subst, ◌∙◌, arith}
 use Rattle.std.specs.Prelude.{Bool, MatchBool, None, Some, Result, Ok, Err, IfErr, OnOk}
 use Rattle.aho_core.specs.declared.error.stream.StreamError.TheVariants.{Match}
-use Rattle.acredact.specs.Faults.{IsOutputEnd, IsStreamEnd, is_unread, reading_of}
-use Rattle.acredact.specs.Files.{BeginsNamed, BeginsText, BeginsWriting, ComesOfFile, ComesOfText, ReachesText, RedactsText, TextDone, Work, WritesText}
+use Rattle.acredact.specs.Faults.{IsStreamEnd, is_unread, reading_of}
+use Rattle.acredact.specs.Files.{BeginsNamed, BeginsText, BeginsWriting, ComesOfFile, ComesOfText, FailsByOutput, ReachesText, RedactsText, Work, WritesText}
 use Rattle.acredact.specs.Reads.{EachName, OfName, ReadsText}
 use Rattle.acredact.specs.Secrets.{BeginsRedaction, Redactor}
-use Rattle.acredact.specs.Streams.{ReachesStream, RedactsStream, StartsStream}
+use Rattle.acredact.specs.Streams.{ReachesStream, StartsStream, StreamOutcome}
 use Rattle.acredact.proofs.Redactions.{begins_nothing}
+
+-- what is so of a source or a sink is so of it where it was left
+pub so_there : {R : Type 0} (there there' : R) (Is : R → Type 0) → there ≡ there' → Is there → Is there'
+so_there there there' Is same is = subst Is same is
 
 -- a stream that has seen no end before is at its end where it sees one
 pub ends_by : {P : Type 0} (before after : ℕ) (ended : Bool) → before ≡ 0 → (after ≢ 0 → P) → after ≡ counted ended before → ended ≡ true → P
@@ -38,20 +42,10 @@ module _ {R : Type 0} (S : SourceGhosts R) (source source' : R) (before : Option
 
 module _ {R W : Type 0} (S : SourceGhosts R) (K : SinkGhosts W) (r : Redactor) (source source' : R) (sink sink' : W) (before : Option (List ℕ))
     (left : S.remaining source ≡ before) (none : S.empty_reads source ≡ 0) (ends : S.empty_reads source' ≢ 0 → IsAtEnd (S.remaining source')) where
-  -- so its redaction is that of all that was left
-  pub text_of : RedactsStream S K r source source' sink sink' → RedactsText r before (S.remaining source') (K.taken sink) (K.taken sink')
-  text_of whole = record {
-    text = whole.text;
-    reads = ended_text S source source' before left none ends whole.text whole.gives;
-    redaction = whole.redaction;
-    redacts = whole.redacts;
-    written = whole.written;
-  }
-
-  pub begins_of : StartsStream S K r source source' sink sink' → BeginsText r before (S.remaining source') (K.taken sink) (K.taken sink')
+  begins_of : StartsStream S K r source source' sink sink' → BeginsText r before (S.remaining source') (K.taken sink) (K.taken sink')
   begins_of begun = begun_writing S source source' before left none ends (K.taken sink) (K.taken sink') begun.given begun.ended begun.part begun.gives begun.begins begun.written
 
-  pub reaches_of : ReachesStream S K r source source' sink sink' → ReachesText r before (S.remaining source') (K.taken sink) (K.taken sink')
+  reaches_of : ReachesStream S K r source source' sink sink' → ReachesText r before (S.remaining source') (K.taken sink) (K.taken sink')
   reaches_of up = record {
     given = up.given;
     ended = up.ended;
@@ -63,57 +57,30 @@ module _ {R W : Type 0} (S : SourceGhosts R) (K : SinkGhosts W) (r : Redactor) (
     written = up.written;
   }
 
+  -- so what comes of the stream is what comes of all that was left: a read failed, or the stream is too long
+  pub comes_by : (done : Result (Unit {0}) StreamError) → StreamOutcome S K r done source source' sink sink' → ComesOfText r (reading_of done) before (S.remaining source') (K.taken sink) (K.taken sink')
+  comes_by (Ok tt) of =
+      let whole = of.redacted in
+      record { text = whole.text; reads = ended_text S source source' before left none ends whole.text whole.gives; redaction = whole.redaction; redacts = whole.redacts; written = whole.written }
+  comes_by (Err (Read fault)) of = (tt, begins_of of.begun, λ covers. reaches_of (of.near covers tt))
+  comes_by (Err PositionLimit) of = (tt, begins_of of.begun, λ covers. reaches_of (of.near covers tt))
+  comes_by (Err error) of = begins_of of.begun
+
 -- what an end of a stream means
-pub reading_whole : (done : Result (Unit {0}) StreamError) → reading_of done ≡ Ok None → done ≡ Ok tt
-reading_whole (Ok tt) is = refl
-reading_whole (Err (Read fault)) is = absurd (cc)
-reading_whole (Err PositionLimit) is = absurd (cc)
-reading_whole (Err error) is = absurd (cc)
+pub reading_whole : {P : Type 0} (done : Result (Unit {0}) StreamError) → reading_of done ≡ Ok None → OnOk done P → P
+reading_whole (Ok tt) is so = so
+reading_whole (Err (Read fault)) is so = absurd (cc)
+reading_whole (Err PositionLimit) is so = absurd (cc)
+reading_whole (Err error) is so = absurd (cc)
 
-reading_only : (done : Result (Unit {0}) StreamError) → IfErr done IsStreamEnd → IfErr (reading_of done) IsOutputEnd
-reading_only (Err (Match cause)) only = only
-reading_only (Err error) only = tt
-reading_only (Ok x) only = tt
-
-reading_write : (done : Result (Unit {0}) StreamError) → is_write_fault done ≡ is_write_fault (reading_of done)
-reading_write (Err PositionLimit) = refl
-reading_write done = refl
-
-reading_nothing : (done : Result (Unit {0}) StreamError) → is_write_of_nothing done ≡ is_write_of_nothing (reading_of done)
-reading_nothing (Err PositionLimit) = refl
-reading_nothing done = refl
+pub reading_fails : {W : Type 0} (done : Result (Unit {0}) StreamError) (output output' : FromWrite W) → output'.failures ≡ counted (is_write_fault done) output.failures → output'.empty_writes ≡ counted (is_write_of_nothing done) output.empty_writes
+    → IfErr done IsStreamEnd → FailsByOutput (reading_of done) output output'
+reading_fails (Err (Match cause)) output output' failed nothing only = absurd only
+reading_fails done output output' failed nothing only = record { write_failed = failed; took_nothing = nothing; only = tt }
 
 pub reading_unread : (done : Result (Unit {0}) StreamError) → is_read_fault done ≡ is_unread (reading_of done)
 reading_unread (Err PositionLimit) = refl
 reading_unread done = refl
-
--- what is so where a stream has ended
-pub at_ok : {P : Type 0} (done : Result (Unit {0}) StreamError) → done ≡ Ok tt → OnOk done P → P
-at_ok {P} done is so = subst (λ (d : Result (Unit {0}) StreamError). OnOk d P) is so
-
--- what comes of a text, by what comes of a stream over it: a read failed, or the stream is too long
-comes_by : {r : Redactor} {left left' held held' : Option (List ℕ)} (done : Result (Unit {0}) StreamError) → OnOk done (RedactsText r left left' held held') → BeginsText r left left' held held'
-    → (r.covers ≡ true → IfErr done (λ error. IsFillRefusal error → ReachesText r left left' held held')) → ComesOfText r (reading_of done) left left' held held'
-comes_by (Ok tt) redacted begun near = redacted
-comes_by (Err (Read fault)) redacted begun near = (tt, begun, λ covers. near covers tt)
-comes_by (Err PositionLimit) redacted begun near = (tt, begun, λ covers. near covers tt)
-comes_by (Err error) redacted begun near = begun
-
-module _ {W : Type 0} (Writes : Writers W) (r : Redactor) (done : Result (Unit {0}) StreamError) (left left' : Option (List ℕ)) (output output' : FromWrite W) where
-  pub outcome_by : OnOk done (RedactsText r left left' (output_bytes Writes output) (output_bytes Writes output'))
-      → BeginsText r left left' (output_bytes Writes output) (output_bytes Writes output')
-      → (r.covers ≡ true → IfErr done (λ error. IsFillRefusal error → ReachesText r left left' (output_bytes Writes output) (output_bytes Writes output')))
-      → output'.failures ≡ counted (is_write_fault done) output.failures
-      → output'.empty_writes ≡ counted (is_write_of_nothing done) output.empty_writes
-      → IfErr done IsStreamEnd → TextDone Writes r (reading_of done) left left' output output'
-  outcome_by redacted begun near write_failed took_nothing only = record {
-    comes = comes_by done redacted begun near;
-    fails = record {
-      write_failed = write_failed ∙ ap (λ (b : Bool). counted b output.failures) (reading_write done);
-      took_nothing = took_nothing ∙ ap (λ (b : Bool). counted b output.empty_writes) (reading_nothing done);
-      only = reading_only done only;
-    };
-  }
 
 -- the texts of what is known
 pub known_read : (told left left' : Option (List ℕ)) (text : List ℕ) → Keeps told left → Consumes left left' text → Consumes told left' text
@@ -178,6 +145,18 @@ pub of_folder : (holds : List ℕ → Option (List ℕ)) (name : List ℕ) (Read
 of_folder holds name Reads left left' is same rest reads =
     subst (λ (b : Bool). MatchBool b (Reads left left') ((left' ≡ left) × (rest : Option (List ℕ)) × Reads (holds name) rest)) (sym is) (same, rest, reads)
 
+-- the file of a name was read from what was given of it to a rest: that of the input, or one of the folder, which may have told it
+pub record IsFileRead (holds : List ℕ → Option (List ℕ)) (name : List ℕ) (given rest left left' : Option (List ℕ)) : Type 1 where
+  pub known : Option (List ℕ)
+  pub kept : Keeps known given
+  pub of : (Reads : Option (List ℕ) → Option (List ℕ) → Type 0) → Reads known rest → OfName holds name Reads left left'
+
+pub read_input : {holds : List ℕ → Option (List ℕ)} {name : List ℕ} {left left' : Option (List ℕ)} → is_input name ≡ true → IsFileRead holds name left left' left left'
+read_input {holds} {name} {left} {left'} is = record { known = left; kept = Keeps-refl left; of = λ Reads reads. of_input holds name Reads left left' is reads }
+
+pub read_opened : {holds : List ℕ → Option (List ℕ)} {name : List ℕ} {given rest left : Option (List ℕ)} → is_input name ≡ false → Keeps (holds name) given → IsFileRead holds name given rest left left
+read_opened {holds} {name} {given} {rest} {left} is kept = record { known = holds name; kept = kept; of = λ Reads reads. of_folder holds name Reads left left is refl rest reads }
+
 -- what is so of whatever was not read
 pub name_unread : (holds : List ℕ → Option (List ℕ)) (name : List ℕ) (Reads : Option (List ℕ) → Option (List ℕ) → Type 0) (left : Option (List ℕ)) → ((l : Option (List ℕ)) → Reads l l) → OfName holds name Reads left left
 name_unread holds name Reads left none = by (is_input name) refl
@@ -202,22 +181,11 @@ module _ (work : Work) (name : List ℕ) (left left' held held' : Option (List �
   abbrev Reaches : (l l' : Option (List ℕ)) → Type 0
   Reaches l l' = ReachesText work.redactor l l' held held'
 
-  pub comes_input : (result : Result (Option Reason) StreamError) → is_input name ≡ true → ComesOfText work.redactor result left left' held held' → ComesOfFile work name result left left' held held'
-  comes_input (Ok None) is text = of_input work.holds name Redacts left left' is text
-  comes_input (Ok (Some reason)) is (read, begun, near) =
-      inl (read, of_input work.holds name Begins left left' is begun, λ covers. of_input work.holds name Reaches left left' is (near covers))
-  comes_input (Err error) is text = of_input work.holds name Begins left left' is text
-
-  pub comes_opened : (result : Result (Option Reason) StreamError) → is_input name ≡ false → left' ≡ left → (opened rest : Option (List ℕ)) → Keeps (work.holds name) opened
-      → ComesOfText work.redactor result opened rest held held' → ComesOfFile work name result left left' held held'
-  comes_opened (Ok None) is same opened rest kept text = of_folder work.holds name Redacts left left' is same rest (known_text (work.holds name) opened rest held held' kept text)
-  comes_opened (Ok (Some reason)) is same opened rest kept (read, begun, near) =
-      inl (
-        read,
-        of_folder work.holds name Begins left left' is same rest (known_begun (work.holds name) opened rest held held' kept begun),
-        λ covers. of_folder work.holds name Reaches left left' is same rest (known_reaches (work.holds name) opened rest held held' kept (near covers)),
-      )
-  comes_opened (Err error) is same opened rest kept text = of_folder work.holds name Begins left left' is same rest (known_begun (work.holds name) opened rest held held' kept text)
+  pub comes_file : {given rest : Option (List ℕ)} (result : Result (Option Reason) StreamError) → IsFileRead work.holds name given rest left left' → ComesOfText work.redactor result given rest held held' → ComesOfFile work name result left left' held held'
+  comes_file {given} {rest} (Ok None) file text = file.of Redacts (known_text file.known given rest held held' file.kept text)
+  comes_file {given} {rest} (Ok (Some reason)) file (read, begun, near) =
+      inl (read, file.of Begins (known_begun file.known given rest held held' file.kept begun), λ covers. file.of Reaches (known_reaches file.known given rest held held' file.kept (near covers)))
+  comes_file {given} {rest} (Err error) file text = file.of Begins (known_begun file.known given rest held held' file.kept text)
 
 -- nothing was read and written of any
 pub named_none : (work : Work) → 1 ≤ shortest (map length work.redactor.patterns.words) → (name : List ℕ) (left held : Option (List ℕ)) → BeginsNamed work name left left held held

@@ -1,15 +1,8 @@
 -- The lines of a pattern, one after another.
-use Rattle.acredact.proofs.Common.{flat_map}
 use Rattle.std.proofs.Common.{◌≡◌, ℕ, Bool, false, List, [], ◌∷◌, ◌++◌, refl, sym, ap, subst, ◌∙◌, append_assoc}
-use Rattle.acredact.specs.Parts.{ArePartsBy, GivesPattern, IsAddedSome, line_secrets}
+use Rattle.acredact.specs.Parts.{ArePartsBy, GivesPattern, IsAddedSome}
 use Rattle.acredact.specs.Tables.{Holds, IsAdded, Secret}
 use Rattle.acredact.specs.declared.patterns.Place.{Place}
-
--- what one line more gives is added, and what the others give comes behind it
-pub part_more : (list : ℕ) (mid new more all : List Secret) (line : List ℕ) (lines : List (List ℕ)) → new ≡ mid ++ more → more ≡ line_secrets list line → mid ++ flat_map (line_secrets list) (line ∷ lines) ≡ all
-    → new ++ flat_map (line_secrets list) lines ≡ all
-part_more list mid new more all line lines grown is known =
-    ap (λ l. l ++ flat_map (line_secrets list) lines) (grown ∙ ap (λ l. mid ++ l) is) ∙ append_assoc mid (line_secrets list line) (flat_map (line_secrets list) lines) ∙ known
 
 -- a pattern is added, and then its lines
 pub pattern_added : (wanted : Bool) (value : List ℕ) (place : Place) (old mid new : List Secret) → place.line ≡ 0 → IsAdded (Holds false value) place old mid → IsAddedSome (ArePartsBy wanted place.list value) mid new

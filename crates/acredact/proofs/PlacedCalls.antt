@@ -1,15 +1,14 @@
 -- What becomes of files that are replaced in place, one after another, and of a call that replaces them.
-use Rattle.acredact.proofs.Common.{All, CountsThese, Errors, Failure, Other, OutOfMemory, Readers, Rule, SinkGhosts, StreamError, Streams, Strict, Tells, TellsBytes, TellsSome, Volume, Writers, bytes_left, failure_of_stream, output_bytes}
-use Rattle.std.proofs.Common.{◌≡◌, inl, inr, ℕ, List, [], ◌∷◌, Option, true, false, refl, sym, ap, subst, ◌∙◌, arith}
-use Rattle.std.specs.Prelude.{Bool, ◌&&◌, Result, Ok, Err, IfOk, OnOk, is_some, ◌⊎◌, MatchBool, IfErr}
-use Rattle.std.proofs.lemmas.List.Elements.{All-weaker}
-use Rattle.tool_parts.specs.Names.{IsOneOf}
+use Rattle.acredact.proofs.Common.{Errors, Failure, Other, OutOfMemory, Readers, Rule, SinkGhosts, StreamError, Streams, Strict, Tells, TellsBytes, TellsSome, Volume, Writers, bytes_left, counts_none, counts_then, failure_of_stream, output_bytes}
+use Rattle.std.proofs.Common.{◌≡◌, inl, inr, ℕ, List, [], ◌∷◌, ◌++◌, Option, true, false, refl, sym, ap, subst, ◌∙◌, arith}
+use Rattle.std.specs.Prelude.{Bool, Result, Ok, Err, IfOk, OnOk, is_some, ◌⊎◌, MatchBool, IfErr}
+use Rattle.tool_parts.proofs.Lines.{some-tells as some_tells}
 use Rattle.acredact.specs.Arguments.{counts_asked, has}
-use Rattle.acredact.specs.Calls.{Call, IsCountsFailure, IsCountsLine, IsUnreadLine, MayFail, TellsCounts, WarnsLoaded, names_asked, reading_by, redactor_by_given, work_by}
+use Rattle.acredact.specs.Calls.{Call, IsCountsFailure, IsCountsLine, IsUnreadLine, MayFail, TellsCounts, TellsOfFiles, WarnsLoaded, names_asked, reading_by, work_by}
 use Rattle.acredact.specs.Counts.{zeros}
 use Rattle.acredact.specs.Doubts.{TellsDoubts}
 use Rattle.acredact.specs.Failures.{IsFailureLine}
-use Rattle.acredact.specs.Files.{AreCut, AreRedacted, FilesOutcome, Work, unread_line}
+use Rattle.acredact.specs.Files.{Work, unread_line}
 use Rattle.acredact.specs.InPlace.{AreInTurn, BeginInTurn, CalledPlaces, IsFreed, IsPlaceLine, IsPlaced, IsReplaced, IsSettled, IsSparedLine, IsSparedOf, KeepsCall, PlaceOutcome, PlacesOutcome, PlacesStatus, ReachesCall, TellsEnd}
 use Rattle.acredact.specs.Into.{TellsUnread}
 use Rattle.acredact.specs.Loading.{AreLoaded, Loaded, loaded_as}
@@ -18,20 +17,13 @@ use Rattle.acredact.specs.Secrets.{AreCleanBy}
 use Rattle.acredact.specs.Summaries.{no_volume}
 use Rattle.acredact.specs.Tables.{secrets_of}
 use Rattle.acredact.specs.declared.outputs.Outputs.{Ghosts as Places}
-use Rattle.acredact.proofs.Calls.{loads_so, may_fail, none_are, some_all, some_behind, some_then, some_told, some_weaker, tells_both, tells_last, tells_same, tells_weaker, unread_of}
-use Rattle.acredact.proofs.Done.{both_so, cut_of, redacted_of}
+use Rattle.acredact.proofs.Calls.{counts_fail, loads_so, may_fail, some_all, some_behind, some_then, some_weaker, tells_both, tells_last, tells_same, tells_weaker}
 use Rattle.acredact.proofs.Free.{free_of}
-use Rattle.acredact.proofs.Metering.{VolumeSoFar, all_read, far_unread, far_volume}
-use Rattle.acredact.proofs.Totals.{CountedSoFar, all_counted, far_counted, far_uncounted, totals_told}
-use Rattle.acredact.proofs.Warned.{clean_pieces, may_prepare, unready_may, warnings_may}
-
--- what comes of files that were all read, where nothing is told
-pub all_redacted : {R W E : Type 0} {Reads : Readers R} (Writes : Writers W) (K : SinkGhosts E) (work : Work) (result : Result Bool StreamError) (streams streams' : Streams R W E Reads)
-    → FilesOutcome Writes K work result streams streams' → result ≡ Ok true
-    → AreRedacted work work.names (bytes_left streams.input) (bytes_left streams'.input) (output_bytes Writes streams.output) (output_bytes Writes streams'.output)
-all_redacted Writes K work result streams streams' files is =
-    let (lines, is_all, (done, told)) = rw is at files.done in
-    redacted_of work work.names lines _ _ _ _ (none_are lines (sym is_all)) done
+use Rattle.acredact.proofs.Metering.{one_added, volume_more}
+use Rattle.acredact.proofs.RedactedCalls.{done_warned}
+use Rattle.acredact.proofs.RuledFiles.{told_any}
+use Rattle.acredact.proofs.Turns.{all_joined, also}
+use Rattle.acredact.proofs.Warned.{may_prepare, unready_may, warnings_may}
 
 -- the lines that are told of one file say why it is spared
 spared_one : (name line : List ℕ) → IsUnreadLine (name ∷ []) line → IsSparedLine name line
@@ -39,40 +31,27 @@ spared_one name line (other, inl same, inl (reason, is)) = inl (reason, rw same 
 spared_one name line (other, inl same, inr is) = inr (inl (rw same at is))
 spared_one name line (other, inr none, why) = absurd none
 
-cut_spared : (work : Work) (name : List ℕ) (lines : List (List ℕ)) (left left' held held' : Option (List ℕ)) → AreCut work (name ∷ []) lines left left' held held' → All (IsSparedLine name) lines
-cut_spared work name lines left left' held held' cut =
-    All-weaker (IsUnreadLine (name ∷ [])) (IsSparedLine name) (spared_one name) lines (unread_of work (name ∷ []) lines left left' held held' cut)
-
--- what was told of one file, before it was settled whether the new one takes its place
-pub record ToldOfOne {E : Type 0} (K : SinkGhosts E) (name : List ℕ) (done : Result Bool StreamError) (old mid : Errors E) : Type 0 where
-  pub told : Tells K (IsSparedLine name) old mid
-  pub partly : done ≡ Ok false → TellsSome K (IsSparedLine name) old mid
-
-pub told_of_one : {R W E : Type 0} {Reads : Readers R} (Writes : Writers W) (K : SinkGhosts E) (work : Work) (name : List ℕ) → work.names ≡ name ∷ [] → (done : Result Bool StreamError) (old mid : Streams R W E Reads)
-    → FilesOutcome Writes K work done old mid → ToldOfOne K name done old.errors mid.errors
-told_of_one Writes K work name one (Ok all) old mid files =
-    let (lines, is_all, (done, told)) = files.done in
-    let are = cut_spared work name lines _ _ _ _ (cut_of work (name ∷ []) lines _ _ _ _ (rw one at done)) in
-    record {
-      told = record { told = lines; are_lines = are; written = told };
-      partly = λ (is : Ok all ≡ Ok false). some_told K (IsSparedLine name) old.errors mid.errors lines are told (let part : all ≡ false = cc in sym part ∙ is_all);
-    }
-told_of_one Writes K work name one (Err error) old mid files =
-    let (lines, (cut, told)) = files.cut in record {
-      told = record { told = lines; are_lines = cut_spared work name lines _ _ _ _ (rw one at cut); written = told };
-      partly = λ (is : Err error ≡ Ok false). absurd (cc);
-    }
-
--- and behind that
-partly_settled : {E : Type 0} (K : SinkGhosts E) (name : List ℕ) (done : Result Bool StreamError) (old mid new : Errors E) → ToldOfOne K name done old mid
+-- behind what was told of one file it may be told why the new one does not take its place
+partly_settled : {E : Type 0} (K : SinkGhosts E) (name : List ℕ) (done : Result Bool StreamError) (old mid new : Errors E) → TellsOfFiles K (name ∷ []) done old mid
     → ((done ≡ Ok false) × (new ≡ mid)) ⊎ TellsUnread K name mid new → TellsSome K (IsSparedLine name) old new
-partly_settled K name done old mid new of_one (inl (part, same)) = subst (TellsSome K (IsSparedLine name) old) (sym same) (of_one.partly part)
-partly_settled K name done old mid new of_one (inr (reason, line)) = tells_last K (IsSparedLine name) old mid new (unread_line name reason) of_one.told (inl (reason, refl)) line
+partly_settled K name done old mid new told (inl (part, same)) = rw same (some_weaker K (IsUnreadLine (name ∷ [])) (IsSparedLine name) old mid (spared_one name) (rw part at told))
+partly_settled K name done old mid new told (inr (reason, line)) =
+    tells_last K (IsSparedLine name) old mid new (unread_line name reason) (told_any K (name ∷ []) (IsSparedLine name) done old mid (spared_one name) told) (inl (reason, refl)) line
 
--- one of two is not so
-not_both : (first second both : Bool) → both ≡ first && second → both ≡ false → (first ≡ false) ⊎ (second ≡ false)
-not_both true second both is none = inr (sym is ∙ none)
-not_both false second both is none = inl refl
+-- the new files and their places, the streams, the counts, and how much was read
+abbrev pub PlaceState : {R : Type 0} → Readers R → (O Z E : Type 0) → Type 0
+PlaceState {R} Reads O Z E = O × Streams R Z E Reads × List ℕ × Volume
+
+-- a line of one file, or of the others, is one of all
+module _ {E : Type 0} (K : SinkGhosts E) (name : List ℕ) (names : List (List ℕ)) where
+  some_first : (e e' : Errors E) → TellsSome K (IsSparedLine name) e e' → TellsSome K (IsSparedOf (name ∷ names)) e e'
+  some_first e e' some = some_weaker K (IsSparedLine name) (IsSparedOf (name ∷ names)) e e' (λ line is. (name, inl refl, is)) some
+
+  told_rest : (e e' : Errors E) → Tells K (IsSparedOf names) e e' → Tells K (IsSparedOf (name ∷ names)) e e'
+  told_rest e e' told = tells_weaker K (IsSparedOf names) (IsSparedOf (name ∷ names)) e e' (λ line is. (is.0, inr is.1, is.2)) told
+
+  told_both : (e mid e' : Errors E) → TellsSome K (IsSparedLine name) e mid → Tells K (IsSparedOf names) mid e' → TellsSome K (IsSparedOf (name ∷ names)) e e'
+  told_both e mid e' some told = some_then K (IsSparedOf (name ∷ names)) e mid e' (some_first e mid some) (told_rest mid e' told)
 
 -- what each became is what some did
 begun_all : {O : Type 0} (Is : List ℕ → (outputs outputs' : O) → Type 0) (names : List (List ℕ)) (outputs outputs' : O) → AreInTurn Is names outputs outputs' → BeginInTurn Is names outputs outputs'
@@ -99,105 +78,67 @@ module _ {O Z : Type 0} (Writes : Writers Z) (U : Places O Z) (work : Work) wher
 module _ {R O Z E : Type 0} {Reads : Readers R} (Writes : Writers Z) (K : SinkGhosts E) (U : Places O Z) (work : Work) where
   -- what comes of a file for which a new one was made and filled, by what becomes of that
   pub place_settled : (name : List ℕ) (done result : Result Bool StreamError) (outputs mid outputs' : O) (old filled new : Streams R Z E Reads) (counts counts' : List ℕ) (volume volume' : Volume) (held : Option (List ℕ))
-      → ToldOfOne K name done old.errors filled.errors
+      → TellsOfFiles K (name ∷ []) done old.errors filled.errors
       → (done ≡ Ok true → U.puts mid outputs' name (output_bytes Writes filled.output) → PlaceOutcome Writes U work K name (Ok true) outputs outputs' old filled counts counts' volume volume')
       → U.makes outputs mid name held → new.input ≡ filled.input → IsSettled Writes K U name done result mid outputs' filled new
       → PlaceOutcome Writes U work K name result outputs outputs' old new counts counts' volume volume'
-  place_settled name done (Ok true) outputs mid outputs' old filled new counts counts' volume volume' held of_one replaced made same (all, quiet, puts) =
+  place_settled name done (Ok true) outputs mid outputs' old filled new counts counts' volume volume' held told replaced made same (all, quiet, puts) =
       let (is, untold, counted, read) = replaced all puts in (is, quiet ∙ untold, rw same counted, rw same read)
-  place_settled name done (Ok false) outputs mid outputs' old filled new counts counts' volume volume' held of_one replaced made same (kept, told) =
-      (inr (inr (record { held = held; meanwhile = mid; made = made; kept = kept })), partly_settled K name done old.errors filled.errors new.errors of_one told)
-  place_settled name done (Err error) outputs mid outputs' old filled new counts counts' volume volume' held of_one replaced made same (kept, cut, memory) =
-      (inr (inr (record { held = held; meanwhile = mid; made = made; kept = kept })), subst (Tells K (IsSparedLine name) old.errors) (sym cut) of_one.told, memory)
+  place_settled name done (Ok false) outputs mid outputs' old filled new counts counts' volume volume' held told replaced made same (kept, unput) =
+      (inr (inr (record { held = held; meanwhile = mid; made = made; kept = kept })), partly_settled K name done old.errors filled.errors new.errors told unput)
+  place_settled name done (Err error) outputs mid outputs' old filled new counts counts' volume volume' held told replaced made same (kept, cut, memory) =
+      (inr (inr (record { held = held; meanwhile = mid; made = made; kept = kept })), rw cut (told_any K (name ∷ []) (IsSparedLine name) done old.errors filled.errors (spared_one name) told), memory)
 
-  -- all files in front of what is left were replaced
-  pub record ReplacedSoFar (left : List (List ℕ)) (first mid : O) (old new : Streams R Z E Reads) (counts counts' : List ℕ) (volume volume' : Volume) : Type 0 where
-    pub replaced : (last : O) → AreInTurn (IsReplaced Writes U work) left mid last → AreInTurn (IsReplaced Writes U work) work.names first last
-    pub quiet : new.errors ≡ old.errors
-    pub counted : CountedSoFar work work.names left (bytes_left old.input) (bytes_left new.input) counts counts'
-    pub read : VolumeSoFar work.holds work.names left volume volume' (bytes_left old.input) (bytes_left new.input)
+  -- the same from one state to another
+  pub record ComesOfPlaces (names : List (List ℕ)) (result : Result Bool StreamError) (old new : PlaceState Reads O Z E) : Type 0 where
+    pub is : PlacesOutcome Writes U work K names result old.0 new.0 old.1 new.1 old.2 new.2 old.3 new.3
 
-  -- or they were come to: what comes of these is what comes of all
-  pub record PlacedSoFar (left : List (List ℕ)) (so : Bool) (first mid : O) (old new : Streams R Z E Reads) (counts counts' : List ℕ) (volume volume' : Volume) : Type 0 where
-    pub all : so ≡ true → ReplacedSoFar left first mid old new counts counts' volume volume'
-    pub placed : (last : O) → AreInTurn (IsPlaced Writes U work) left mid last → AreInTurn (IsPlaced Writes U work) work.names first last
-    pub begun : (last : O) → BeginInTurn (IsPlaced Writes U work) left mid last → BeginInTurn (IsPlaced Writes U work) work.names first last
-    pub partly : so ≡ false → TellsSome K (IsSparedOf work.names) old.errors new.errors
-    pub among : (name : List ℕ) → IsOneOf name left → IsOneOf name work.names
+  -- of none
+  pub places_none : (old : PlaceState Reads O Z E) → ComesOfPlaces [] (Ok true) old old
+  places_none old = record { is = (refl, refl, ([], (refl, refl), counts_none old.2), record { bytes = (refl, refl); files = omega arith }) }
 
-  pub placed_none : (outputs : O) (streams : Streams R Z E Reads) (counts : List ℕ) (volume : Volume) → PlacedSoFar work.names true outputs outputs streams streams counts counts volume volume
-  placed_none outputs streams counts volume = record {
-    all = λ so. record {
-      replaced = λ last are. are;
-      quiet = refl;
-      counted = far_uncounted work work.names (bytes_left streams.input) counts;
-      read = far_unread work.holds work.names volume (bytes_left streams.input);
-    };
-    placed = λ last are. are;
-    begun = λ last are. are;
-    partly = λ (is : true ≡ false). absurd (cc);
-    among = λ name is. is;
-  }
-
-  module _ (name : List ℕ) (left : List (List ℕ)) (so : Bool) (first mid last : O) (old new after : Streams R Z E Reads) (counts half counts' : List ℕ) (volume between volume' : Volume)
-      (far : PlacedSoFar (name ∷ left) so first mid old new counts half volume between) where
-    of_all : (line : List ℕ) → IsSparedLine name line → IsSparedOf work.names line
-    of_all line is = (name, far.among name (inl refl), is)
-
-    far_told : (b : Bool) → so ≡ b → Tells K (IsSparedOf work.names) old.errors new.errors
-    far_told true is = tells_same K (IsSparedOf work.names) old.errors new.errors (far.all is).quiet
-    far_told false is = some_all K (IsSparedOf work.names) (IsSparedOf work.names) old.errors new.errors (λ line is. is) (far.partly is)
-
-    one_told : (whole : Bool) → PlaceOutcome Writes U work K name (Ok whole) mid last new after half counts' between volume' → Tells K (IsSparedOf work.names) new.errors after.errors
-    one_told true of = tells_same K (IsSparedOf work.names) new.errors after.errors of.1
-    one_told false of = some_all K (IsSparedLine name) (IsSparedOf work.names) new.errors after.errors of_all of.1
-
-    come_to : (whole : Bool) → PlaceOutcome Writes U work K name (Ok whole) mid last new after half counts' between volume' → IsPlaced Writes U work name mid last
-    come_to true of = inl of.0
-    come_to false of = inr of.0
-
-    one_more : ReplacedSoFar (name ∷ left) first mid old new counts half volume between → PlaceOutcome Writes U work K name (Ok true) mid last new after half counts' between volume'
-        → ReplacedSoFar left first last old after counts counts' volume volume'
-    one_more all (is, quiet, counted, read) = record {
-      replaced = λ end rests. all.replaced end (last, is, rests);
-      quiet = quiet ∙ all.quiet;
-      counted = far_counted work work.names _ counts name left _ _ half counts' all.counted counted;
-      read = far_volume work.holds work.names volume _ name left between volume' _ _ all.read read;
-    }
-
-    -- a file more
-    pub placed_next : (whole both : Bool) → PlaceOutcome Writes U work K name (Ok whole) mid last new after half counts' between volume' → both ≡ so && whole
-        → PlacedSoFar left both first last old after counts counts' volume volume'
-    placed_next whole both of is = record {
-      all = λ ends. let (before, one) = both_so so whole both is ends in one_more (far.all before) (rw one at of);
-      placed = λ end rests. far.placed end (last, come_to whole of, rests);
-      begun = λ end rests. far.begun end (inr (last, come_to whole of, rests));
-      partly = λ none. elim (not_both so whole both is none) [
-        | inl before ↦ some_then K (IsSparedOf work.names) old.errors new.errors after.errors (far.partly before) (one_told whole of)
-        | inr spared ↦ some_behind K (IsSparedOf work.names) old.errors new.errors after.errors (far_told so refl)
-            (some_weaker K (IsSparedLine name) (IsSparedOf work.names) new.errors after.errors of_all (rw spared at of).1)
-      ];
-      among = λ other is. far.among other (inr is);
-    }
+  module _ {name : List ℕ} {names : List (List ℕ)} {old mid : PlaceState Reads O Z E} where
+    -- what comes of a file, and then of others
+    pub places_more : (whole : Bool) → PlaceOutcome Writes U work K name (Ok whole) old.0 mid.0 old.1 mid.1 old.2 mid.2 old.3 mid.3
+        → (result : Result Bool StreamError) (end : PlaceState Reads O Z E) → ComesOfPlaces names result mid end → ComesOfPlaces (name ∷ names) (also all_joined whole result) old end
+    places_more whole one result end more = record { is = by whole one result more.is }
+      where
+        by : (whole : Bool) → PlaceOutcome Writes U work K name (Ok whole) old.0 mid.0 old.1 mid.1 old.2 mid.2 old.3 mid.3 → (result : Result Bool StreamError)
+            → PlacesOutcome Writes U work K names result mid.0 end.0 mid.1 end.1 mid.2 end.2 mid.3 end.3 → PlacesOutcome Writes U work K (name ∷ names) (also all_joined whole result) old.0 end.0 old.1 end.1 old.2 end.2 old.3 end.3
+        by true (is, quiet, (first, has, grown), read) (Ok true) (others, silent, (rest, have, later), reads) = (
+          (mid.0, is, others),
+          silent ∙ quiet,
+          (first ++ rest, (first, rest, refl, bytes_left mid.1.input, has, have), counts_then first rest old.2 mid.2 end.2 grown later),
+          volume_more work.holds name names old.3 mid.3 end.3 _ _ _ (one_added work.holds name old.3 mid.3 _ _ read) read.files reads,
+        )
+        by true (is, quiet, counted, read) (Ok false) (others, some) = (
+          (mid.0, inl is, others),
+          subst (λ (e : Errors E). TellsSome K (IsSparedOf (name ∷ names)) e end.1.errors) quiet
+              (some_weaker K (IsSparedOf names) (IsSparedOf (name ∷ names)) mid.1.errors end.1.errors (λ line is. (is.0, inr is.1, is.2)) some),
+        )
+        by true (is, quiet, counted, read) (Err error) (others, told, memory) =
+            (inr (mid.0, inl is, others), subst (λ (e : Errors E). Tells K (IsSparedOf (name ∷ names)) e end.1.errors) quiet (told_rest K name names mid.1.errors end.1.errors told), memory)
+        by false (spared, some) (Ok true) (others, silent, counted, read) = (
+          (mid.0, inr spared, placed_all Writes U work names mid.0 end.0 others),
+          subst (λ (e : Errors E). TellsSome K (IsSparedOf (name ∷ names)) old.1.errors e) (sym silent) (some_first K name names old.1.errors mid.1.errors some),
+        )
+        by false (spared, some) (Ok false) (others, later) =
+            ((mid.0, inr spared, others), told_both K name names old.1.errors mid.1.errors end.1.errors some (some_tells K (IsSparedOf names) mid.1.errors end.1.errors later))
+        by false (spared, some) (Err error) (others, told, memory) =
+            (inr (mid.0, inr spared, others), some_tells K (IsSparedOf (name ∷ names)) old.1.errors end.1.errors (told_both K name names old.1.errors mid.1.errors end.1.errors some told), memory)
 
     -- or memory ran out at it
-    pub placed_fails : (error : StreamError) → PlaceOutcome Writes U work K name (Err error) mid last new after half counts' between volume' → PlacesOutcome Writes U work K (Err error) first last old after counts counts' volume volume'
-    placed_fails error (spared, told, memory) = (
-      far.begun last (inr (last, inr spared, begin_none Writes U work left last)),
-      tells_both K (IsSparedOf work.names) old.errors new.errors after.errors (far_told so refl) (tells_weaker K (IsSparedLine name) (IsSparedOf work.names) new.errors after.errors of_all told),
-      memory,
-    )
-
-  -- or that was all
-  pub placed_ends : (so : Bool) (first last : O) (old new : Streams R Z E Reads) (counts counts' : List ℕ) (volume volume' : Volume) → PlacedSoFar [] so first last old new counts counts' volume volume'
-      → PlacesOutcome Writes U work K (Ok so) first last old new counts counts' volume volume'
-  placed_ends true first last old new counts counts' volume volume' far =
-      let all = far.all refl in
-      (all.replaced last refl, all.quiet, all_counted work work.names _ counts _ counts' all.counted, all_read work.holds work.names volume _ volume' _ all.read)
-  placed_ends false first last old new counts counts' volume volume' far = (far.placed last refl, far.partly refl)
+    pub place_ends : {error : StreamError} → PlaceOutcome Writes U work K name (Err error) old.0 mid.0 old.1 mid.1 old.2 mid.2 old.3 mid.3 → ComesOfPlaces (name ∷ names) (Err error) old mid
+    place_ends {error} (spared, told, memory) = record {
+      is = (
+        inr (mid.0, inr spared, begin_none Writes U work names mid.0),
+        tells_weaker K (IsSparedLine name) (IsSparedOf (name ∷ names)) old.1.errors mid.1.errors (λ line is. (name, inl refl, is)) told,
+        memory,
+      );
+    }
 
   -- each was placed then, and what was told says why some were not
-  places_all : (all : Bool) (outputs outputs' : O) (old new : Streams R Z E Reads) (counts counts' : List ℕ) (volume volume' : Volume) → PlacesOutcome Writes U work K (Ok all) outputs outputs' old new counts counts' volume volume'
+  places_all : (all : Bool) (outputs outputs' : O) (old new : Streams R Z E Reads) (counts counts' : List ℕ) (volume volume' : Volume) → PlacesOutcome Writes U work K work.names (Ok all) outputs outputs' old new counts counts' volume volume'
       → AreInTurn (IsPlaced Writes U work) work.names outputs outputs' × Tells K (IsSparedOf work.names) old.errors new.errors
   places_all true outputs outputs' old new counts counts' volume volume' run =
       (placed_all Writes U work work.names outputs outputs' run.0, tells_same K (IsSparedOf work.names) old.errors new.errors run.1)
@@ -231,7 +172,7 @@ module _ {O Z E : Type 0} (Writes : Writers Z) (K : SinkGhosts E) (U : Places O 
 
     -- memory ran out at a file
     pub places_cut : {R : Type 0} {Reads : Readers R} (outputs outputs' : O) (first : Errors E) (warned new : Streams R Z E Reads) (counts counts' : List ℕ) (volume volume' : Volume) → WarnsLoaded K call load first warned.errors → (error : StreamError)
-        → PlacesOutcome Writes U (work_by call load) K (Err error) outputs outputs' warned new counts counts' volume volume' → CalledPlaces Writes K U call left (Err (Other (failure_of_stream error))) outputs outputs' first new.errors
+        → PlacesOutcome Writes U (work_by call load) K (names_asked call.given) (Err error) outputs outputs' warned new counts counts' volume volume' → CalledPlaces Writes K U call left (Err (Other (failure_of_stream error))) outputs outputs' first new.errors
     places_cut outputs outputs' first warned new counts counts' volume volume' warnings error (begun, told, is) =
         let memory : Other (failure_of_stream error) ≡ Other OutOfMemory = ap (λ (e : StreamError). Other (failure_of_stream e)) is in (
           record {
@@ -245,7 +186,7 @@ module _ {O Z E : Type 0} (Writes : Writers Z) (K : SinkGhosts E) (U : Places O 
       (loaded : AreLoaded (reading_by call) call.given (loaded_as rules key) left (bytes_left warned.input))
       (warnings : WarnsLoaded K call (loaded_as rules key) first warned.errors) where
     abbrev Ran : Bool → Type 0
-    Ran all = PlacesOutcome Writes U (work_by call (loaded_as rules key)) K (Ok all) outputs outputs' warned mid (zeros (counts_asked call.given) rules) numbers no_volume volume
+    Ran all = PlacesOutcome Writes U (work_by call (loaded_as rules key)) K (names_asked call.given) (Ok all) outputs outputs' warned mid (zeros (counts_asked call.given) rules) numbers no_volume volume
 
     abbrev Told : Bool → Type 0
     Told counted = MatchBool counted (TellsCounts K call.given rules numbers volume mid.errors new) (new ≡ mid.errors)
@@ -258,60 +199,32 @@ module _ {O Z E : Type 0} (Writes : Writers Z) (K : SinkGhosts E) (U : Places O 
       counts_told =
           tells_weaker K (IsCountsLine call.given (secrets_of rules)) (IsPlaceLine call) mid.errors new (λ line is. inl (inr (inr (inl (loaded_as rules key, left, bytes_left warned.input, loaded, is))))) told
 
-      -- the counts are told
-      places_done : (all : Bool) → Ran all → Told (counts_asked call.given) → CalledPlaces Writes K U call left (Ok all) outputs outputs' first new
-      places_done true (all, quiet, (ranges, found, counted), read) are_told =
+      -- the counts are told, or they are not
+      pub places_told : (all : Bool) (result : Result Bool Failure) → Ran all → IfOk result (λ done. done ≡ all) → OnOk result (Told (counts_asked call.given)) → IfErr result (IsCountsFailure (counts_asked call.given))
+          → CalledPlaces Writes K U call left result outputs outputs' first new
+      places_told all (Ok true) run same are_told fails =
           let load = loaded_as rules key in
-          record {
-            all = loads_so load (bytes_left warned.input) loaded all;
-            strict = λ asked. loads_so load (bytes_left warned.input) loaded (freed_all Writes U (work_by call load) asked.covers asked.all
-                (clean_pieces K (has Strict call.given) (redactor_by_given call.given load) warnings.0 warned.errors asked.strict warnings.2 asked.covers) (names_asked call.given) outputs outputs' all);
-            quiet = λ none.
-                let same : new ≡ mid.errors = subst (λ (b : Bool). Told b) none are_told in
-                loads_so load (bytes_left warned.input) loaded (subst (λ (e : Errors E). WarnsLoaded K call load first e) (sym (same ∙ quiet)) warnings);
-            counts = λ some. loads_so load (bytes_left warned.input) loaded (
-              bytes_left mid.input,
-              (
-                warned.errors,
-                warnings,
-                (
-                  ranges,
-                  found,
-                  volume,
-                  read,
-                  totals_told K call.given rules ranges numbers volume warned.errors new (subst (λ (b : Bool). CountsThese ranges (zeros b rules) numbers) some counted)
-                      (subst (λ (e : Errors E). TellsCounts K call.given rules numbers volume e new) quiet (subst (λ (b : Bool). Told b) some are_told)),
-                ),
-              ),
-            );
-          }
-      places_done false (placed, partly) are_told = (
-        loads_so (loaded_as rules key) (bytes_left warned.input) loaded placed,
-        some_behind K (IsPlaceLine call) first warned.errors new warned_told
-            (some_then K (IsPlaceLine call) warned.errors mid.errors new (some_weaker K (IsSparedOf (names_asked call.given)) (IsPlaceLine call) warned.errors mid.errors (λ line is. inr is) partly) counts_told),
-      )
-
-      -- or they are not
-      places_untold : (all : Bool) (failure : Failure) → Ran all → IsCountsFailure (counts_asked call.given) failure → CalledPlaces Writes K U call left (Err failure) outputs outputs' first new
-      places_untold all failure run fails =
+          let (replaced, quiet, counted, read) = rw (sym same) at run in
+          done_warned K call left (bytes_left warned.input) (bytes_left mid.input) rules key loaded first warned.errors warnings numbers volume mid.errors new
+          (loads_so load (bytes_left warned.input) loaded replaced)
+          (λ covers every clean. loads_so load (bytes_left warned.input) loaded (freed_all Writes U (work_by call load) covers every clean (names_asked call.given) outputs outputs' replaced))
+          (λ told. loads_so load (bytes_left warned.input) loaded (bytes_left mid.input, told)) quiet counted read are_told
+      places_told all (Ok false) run same are_told fails =
+          let (placed, partly) = rw (sym same) at run in (
+            loads_so (loaded_as rules key) (bytes_left warned.input) loaded placed,
+            some_behind K (IsPlaceLine call) first warned.errors new warned_told
+                (some_then K (IsPlaceLine call) warned.errors mid.errors new (some_weaker K (IsSparedOf (names_asked call.given)) (IsPlaceLine call) warned.errors mid.errors (λ line is. inr is) partly) counts_told),
+          )
+      places_told all (Err failure) run same are_told fails =
           let load = loaded_as rules key in
           let (placed, tells) = places_all Writes K U (work_by call load) all outputs outputs' warned mid _ numbers _ volume run in (
             record {
-              may = elim fails.1 [
-                | inl counts ↦ inr (inr (inl (counts, fails.0)))
-                | inr memory ↦ may_fail call ⊥ failure (inl memory)
-              ];
+              may = counts_fail call ⊥ failure fails;
               ends = inr (inl (loads_so load (bytes_left warned.input) loaded placed));
             },
             tells_both K (IsPlaceLine call) first warned.errors new warned_told
                 (tells_both K (IsPlaceLine call) warned.errors mid.errors new (files_tell load (bytes_left warned.input) loaded warned.errors mid.errors tells) counts_told),
           )
-
-      -- by what is answered of that
-      pub places_told : (all : Bool) (result : Result Bool Failure) → Ran all → IfOk result (λ done. done ≡ all) → OnOk result (Told (counts_asked call.given)) → IfErr result (IsCountsFailure (counts_asked call.given))
-          → CalledPlaces Writes K U call left result outputs outputs' first new
-      places_told all (Ok done) run same counts unknown = subst (λ (b : Bool). CalledPlaces Writes K U call left (Ok b) outputs outputs' first new) (sym same) (places_done all run counts)
-      places_told all (Err failure) run same counts unknown = places_untold all failure run unknown
 
   -- each was replaced or spared
   keeps_of : (outputs outputs' : O) → ReachesCall Writes U call left outputs outputs' → KeepsCall Writes U call left outputs outputs'

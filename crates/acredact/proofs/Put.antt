@@ -1,6 +1,6 @@
 -- What is told where a new file does not take a place.
 use Rattle.acredact.proofs.Common.{Errors, Readers, Reason, SinkGhosts, Streams, Tells, TellsBytes, TellsSome, Writers, bytes_left}
-use Rattle.std.proofs.Common.{◌≡◌, inl, inr, ℕ, zero, suc, List, Option, refl, sym, ◌∙◌, subst, true, false, arith, ◌≤◌}
+use Rattle.std.proofs.Common.{◌≡◌, inl, inr, ℕ, List, Option, refl, sym, ◌∙◌, subst, true, false, arith, ◌≤◌}
 use Rattle.std.specs.Prelude.{Bool, Some}
 use Rattle.acredact.specs.Sums.{sums_of}
 use Rattle.acredact.specs.Arguments.{AsksAnyCheck, Given, all_asked, counts_asked, has}
@@ -15,9 +15,7 @@ use Rattle.acredact.proofs.Warned.{warnings_may}
 
 -- a status is 0, 1 or 2
 pub two_of : (status : ℕ) → status ≤ 2 → (status ≡ 1 → ⊥) → (status ≡ 0 → ⊥) → status ≡ 2
-two_of zero bound one none = absurd (none refl)
-two_of (suc zero) bound one none = absurd (one refl)
-two_of (suc (suc status)) bound one none = omega (arith, bound)
+two_of status bound one none = omega arith
 
 -- what is no check is none of either kind
 checks_not : (given : List Given) → AsksAnyCheck given → has Check given ≡ false → ⊥

@@ -14,19 +14,13 @@ first_not wanted first rest lacks =
     ]
 
 -- letters that do not begin with that of an option without a value
-pub last_letter : (letters : List ℕ) (items : List Given) → ((rest : List ℕ) → letters ≢ 105 ∷ rest) → ((rest : List ℕ) → letters ≢ 119 ∷ rest) → by_letters letters items ≡ by_letter letters items
-last_letter [] items lacks other = refl
+pub last_letter : (letters : List ℕ) (items : List Given) → ((rest : List ℕ) → letters ≢ 105 ∷ rest) → ((rest : List ℕ) → letters ≢ 119 ∷ rest)
+    → (by_letters letters items ≡ by_letter letters items) × (line_of_letters letters ≡ line_of_letter letters)
+last_letter [] items lacks other = (refl, refl)
 last_letter (letter ∷ rest) items lacks other =
     let not = first_not 105 letter rest lacks in
     let nor = first_not 119 letter rest other in
-    rw not (rw nor refl)
-
-pub last_wrong : (letters : List ℕ) → ((rest : List ℕ) → letters ≢ 105 ∷ rest) → ((rest : List ℕ) → letters ≢ 119 ∷ rest) → line_of_letters letters ≡ line_of_letter letters
-last_wrong [] lacks other = refl
-last_wrong (letter ∷ rest) lacks other =
-    let not = first_not 105 letter rest lacks in
-    let nor = first_not 119 letter rest other in
-    rw not (rw nor refl)
+    (rw (not, nor) refl, rw (not, nor) refl)
 
 -- a letter that no option has
 pub no_letter : (letters : List ℕ) (items : List Given) → 1 ≤ length letters → ((rest : List ℕ) → letters ≢ 101 ∷ rest) → ((rest : List ℕ) → letters ≢ 102 ∷ rest) → ((rest : List ℕ) → letters ≢ 116 ∷ rest)

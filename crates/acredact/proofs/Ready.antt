@@ -1,8 +1,7 @@
 -- What is loaded can be searched for.
 use Rattle.acredact.proofs.Common.{All-append, All-cons, All-head, All-nil, All-tail, AsWord, Bor, CanBegin, Folders, Form, No, Patterns, Standard, filter_map, flat_map, length-map, pieces_of, shortest, slice_split, strip_last}
-use Rattle.std.proofs.Common.{◌≡◌, inl, inr, ℕ, ◌≤◌, Bool, false, true, List, [], ◌∷◌, Option, length, map, refl, sym, ap, subst, ◌∙◌, arith}
+use Rattle.std.proofs.Common.{◌≡◌, ℕ, ◌≤◌, Bool, false, true, List, [], ◌∷◌, Option, length, map, refl, sym, ap, subst, ◌∙◌, arith}
 use Rattle.std.specs.Prelude.{MatchBool, ◌||◌, ◌&&◌, codes, if◌then◌else◌, nat_eq, nat_lt, option_and_then, unwrap_or, IsOk, Some, None}
-use Rattle.std.specs.List.{AllZip}
 use Rattle.std.proofs.lemmas.Bool.{ltb-false, or_parts}
 use Rattle.std.proofs.lemmas.Slice.Eq.{bytes_eq-Decides}
 use Rattle.aho_core.specs.declared.search.MatchKind.{MatchKind}
@@ -13,14 +12,15 @@ use Rattle.secret_rules.specs.OpenLines.{CanSearch}
 use Rattle.tool_parts.specs.Arguments.{kind_by}
 use Rattle.acredact.specs.Arguments.{Given, GivesNoPattern, covers_asked, has, is_cover, kind_asked, last_value, words_asked}
 use Rattle.acredact.specs.Builds.{patterns_by_given}
-use Rattle.acredact.specs.Calls.{gives_pattern, gives_value}
+use Rattle.acredact.specs.Calls.{call_of, gives_pattern, gives_value, reading_by, rules_asked}
 use Rattle.acredact.specs.Forms.{forms_from}
-use Rattle.acredact.specs.Loading.{AreGiven, AreRead, OptionGives, Reading, Rules, form_by, reading_of_lists, rules_for, values_in_text}
+use Rattle.acredact.specs.Loading.{AreGiven, OptionGives, Reading, Rules, form_by, reading_of_lists, rules_for, values_in_text}
 use Rattle.acredact.specs.Looks.{CanLook}
-use Rattle.acredact.specs.Parts.{ArePartsBy, GivesPattern, line_secrets, secret_given}
+use Rattle.acredact.specs.Parts.{ArePartsBy, GivesPattern, is_of_lines, line_secrets, lines_secrets, secret_given}
 use Rattle.acredact.specs.Ready.{IsReadyFor}
+use Rattle.acredact.specs.Reads.{EachGives}
 use Rattle.acredact.specs.Secrets.{CanRedact}
-use Rattle.acredact.specs.Tables.{HaveNoEmpty, HoldsBy, Secret, patterns_in}
+use Rattle.acredact.specs.Tables.{AreOfLines, HaveNoEmpty, Secret, patterns_in}
 use Rattle.acredact.specs.Values.{GiveEach, no_bytes, value_of_entry, whole_in}
 use Rattle.acredact.specs.declared.options.Word.{Word}
 use Rattle.acredact.specs.declared.options.Word.TheVariants.{Env, EnvFile, Kind, Pattern, Patterns as PatternFile, Table, Whole}
@@ -36,11 +36,6 @@ pub some_shortest : (secrets : List Secret) → HaveNoEmpty secrets → 1 ≤ sh
 some_shortest [] are = omega arith
 some_shortest (secret ∷ secrets) are = omega (arith, All-head IsSomeSecret secret secrets are, some_shortest secrets (All-tail IsSomeSecret secret secrets are))
 
-lines_some : (form : Form) (lines : List (List ℕ)) (secrets : List Secret) → AllZip (HoldsBy form) lines secrets → HaveNoEmpty secrets
-lines_some form [] [] held = All-nil IsSomeSecret
-lines_some form (line ∷ lines) (secret ∷ secrets) held = All-cons IsSomeSecret secret secrets held.0.holds.some (lines_some form lines secrets held.1)
-lines_some form lines secrets held = absurd held
-
 none_some : (secrets : List Secret) → secrets ≡ [] → HaveNoEmpty secrets
 none_some secrets none = subst HaveNoEmpty (sym none) (All-nil IsSomeSecret)
 
@@ -55,11 +50,14 @@ all_lines_some : (list : ℕ) (lines : List (List ℕ)) → HaveNoEmpty (flat_ma
 all_lines_some list [] = All-nil IsSomeSecret
 all_lines_some list (line ∷ lines) = All-append IsSomeSecret (line_secrets list line) (flat_map (line_secrets list) lines) (line_some list line) (all_lines_some list lines)
 
+lined_some : (lined : Bool) (list : ℕ) (value : List ℕ) → HaveNoEmpty (if lined then lines_secrets list value else [])
+lined_some true list value = all_lines_some list (slice_split (λ b. nat_eq b 10) value)
+lined_some false list value = All-nil IsSomeSecret
+
 -- nor is a line of one
 parts_some : (wanted : Bool) (list : ℕ) (value : List ℕ) (parts : List Secret) → ArePartsBy wanted list value parts → HaveNoEmpty parts
 parts_some false list value parts are = none_some parts are
-parts_some true list value parts (inl are) = none_some parts are.1
-parts_some true list value parts (inr are) = subst HaveNoEmpty (sym are.1) (all_lines_some list (slice_split (λ b. nat_eq b 10) value))
+parts_some true list value parts are = subst HaveNoEmpty (sym are) (lined_some (is_of_lines value) list value)
 
 pattern_some : (parts : Bool) (value : List ℕ) (secrets : List Secret) → GivesPattern parts value secrets → HaveNoEmpty secrets
 pattern_some parts value secrets gives =
@@ -70,30 +68,34 @@ value_some : (none parts : Bool) (value : List ℕ) (secrets : List Secret) → 
 value_some true parts value secrets none = none_some secrets none
 value_some false parts value secrets gives = pattern_some parts value secrets gives
 
-each_some : (parts : Bool) (values : List (List ℕ)) (secrets : List Secret) → GiveEach parts values secrets → HaveNoEmpty secrets
-each_some parts [] secrets none = none_some secrets none
-each_some parts (value ∷ values) secrets (first, rest, are, gives, others) =
-    subst HaveNoEmpty (sym are) (All-append IsSomeSecret first rest (value_some (no_bytes value) parts value first gives) (each_some parts values rest others))
+-- nor what all give where none that one gives is
+each_some : {I S : Type 0} (Gives : I → List Secret → (left left' : S) → Type 0) → ((item : I) (some : List Secret) (left left' : S) → Gives item some left left' → HaveNoEmpty some)
+    → (items : List I) (all : List Secret) (left left' : S) → EachGives Gives items all left left' → HaveNoEmpty all
+each_some Gives of [] all left left' given = none_some all given.0
+each_some Gives of (item ∷ items) all left left' (first, rest, are, between, gives, given) =
+    subst HaveNoEmpty (sym are) (All-append IsSomeSecret first rest (of item first left between gives) (each_some Gives of items rest between left' given))
+
+lines_some : (form : Form) (lines : List (List ℕ)) (secrets : List Secret) → AreOfLines form lines secrets → HaveNoEmpty secrets
+lines_some form lines secrets held =
+    each_some _ (λ line some before behind gives. subst HaveNoEmpty (sym gives.are) (All-cons IsSomeSecret gives.secret [] gives.held.holds.some (All-nil IsSomeSecret))) lines secrets 0 (length lines) held
+
+values_some : (parts : Bool) (values : List (List ℕ)) (secrets : List Secret) → GiveEach parts values secrets → HaveNoEmpty secrets
+values_some parts values secrets give = each_some _ (λ value some before after. value_some (no_bytes value) parts value some) values secrets tt tt give
 
 option_some : (reading : Reading) (word : Word) (value : List ℕ) (secrets : List Secret) (left left' : Option (List ℕ)) → OptionGives reading word value secrets left left' → HaveNoEmpty secrets
 option_some reading Pattern value secrets left left' (gives, same) = pattern_some reading.rules.parts value secrets gives
 option_some reading PatternFile value secrets left left' gives = lines_some _ _ secrets gives.held.held
 option_some reading Table value secrets left left' gives = lines_some _ _ secrets gives.held.held
-option_some reading Env value secrets left left' ((entries, of, gives), same) = each_some reading.rules.parts (filter_map (value_of_entry value) entries) secrets gives.given
-option_some reading EnvFile value secrets left left' gives = each_some reading.rules.parts (values_in_text reading.rules gives.text) secrets gives.held.given.given
-option_some reading Whole value secrets left left' gives = each_some reading.rules.parts (whole_in (form_by reading.rules false) gives.text ∷ []) secrets gives.held.given.given
+option_some reading Env value secrets left left' ((entries, of, gives), same) = values_some reading.rules.parts (filter_map (value_of_entry value) entries) secrets gives.given
+option_some reading EnvFile value secrets left left' gives = values_some reading.rules.parts (values_in_text reading.rules gives.text) secrets gives.held.given.given
+option_some reading Whole value secrets left left' gives = values_some reading.rules.parts (whole_in (form_by reading.rules false) gives.text ∷ []) secrets gives.held.given.given
 option_some reading other value secrets left left' gives = none_some secrets gives.0
-
-read_some : (reading : Reading) (items : List Given) (secrets : List Secret) (left left' : Option (List ℕ)) → AreRead reading items secrets left left' → HaveNoEmpty secrets
-read_some reading [] secrets left left' given = none_some secrets given.0
-read_some reading (item ∷ items) secrets left left' (first, rest, are, between, gives, given) =
-    subst HaveNoEmpty (sym are) (All-append IsSomeSecret first rest (option_some reading item.word item.value first left between gives) (read_some reading items rest between left' given))
 
 -- and so is none of their forms
 pub given_some : (reading : Reading) (items : List Given) (secrets : List Secret) (left left' : Option (List ℕ)) → AreGiven reading items secrets left left' → HaveNoEmpty secrets
 given_some reading items secrets left left' given =
     subst HaveNoEmpty (sym given.are)
-    (All-append IsSomeSecret given.plain (forms_from reading.rules.forms 0 given.plain) (read_some reading items given.plain left left' given.read) (all_forms_some reading.rules.forms 0 given.plain))
+    (All-append IsSomeSecret given.plain (forms_from reading.rules.forms 0 given.plain) (each_some _ (λ item. option_some reading item.word item.value) items given.plain left left' given.read) (all_forms_some reading.rules.forms 0 given.plain))
 
 -- a cover is by the standard kind
 kind_of_cover : (name : List ℕ) → is_cover name ≡ true → kind_by name ≡ None
@@ -153,6 +155,11 @@ pub reading_from : {F X : Type 0} (D : Folders F X) (lists : Lists F) (folder : 
     → P (reading_of_lists D lists) → P (record { holds = D.holds folder; refuses = D.refuses folder; environment = D.environment folder; rules = rules })
 reading_from {F} D lists folder rules same alike P is =
     rw (← same, ← alike) is
+
+-- so what they give is what a call asks for
+pub given_by : {F X : Type 0} (D : Folders F X) (folder : F) (given : List Given) (lists : Lists F) → lists.folder.now ≡ folder → rules_for lists ≡ rules_asked given
+    → {secrets : List Secret} {left left' : Option (List ℕ)} → AreGiven (reading_of_lists D lists) given secrets left left' → AreGiven (reading_by (call_of D folder given)) given secrets left left'
+given_by D folder given lists same alike {secrets} {left} {left'} is = reading_from D lists folder (rules_asked given) same alike (λ r. AreGiven r given secrets left left') is
 
 pub gives_none : (given : List Given) → gives_pattern given ≡ false → GivesNoPattern given
 gives_none given none =

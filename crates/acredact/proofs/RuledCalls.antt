@@ -1,5 +1,5 @@
 -- What comes of a call with rules, and its status.
-use Rattle.acredact.proofs.Common.{All-nil, AsWord, Bor, CountsThese, Errors, IfOk-weaker, LineError, Occurrence, PieceRule, SinkGhosts, Tells, TellsBytes, Volume, get_or-replicate, length-map, length-replicate, runs_named}
+use Rattle.acredact.proofs.Common.{All-nil, AsWord, Bor, CountsThese, Errors, IfOk-weaker, LineError, Occurrence, PieceRule, SinkGhosts, Tells, TellsBytes, TellsSome, Volume, get_or-replicate, length-map, length-replicate, runs_named}
 use Rattle.std.proofs.Common.{◌≡◌, ◌<◌, inl, inr, ℕ, ◌-◌, List, [], ◌∷◌, Option, true, false, refl, sym, ap, subst, ◌+◌, ◌++◌, ◌∙◌, length, length-append, map, arith}
 use Rattle.std.specs.Prelude.{Bool, MatchBool, Result, Ok, Err, IfOk, IsErr, OnOk, min, replicate, slice_index, ◌^◌, ◌==◌, if◌then◌else◌}
 use Rattle.secret_rules.specs.declared.rule.Rule.{Rule}
@@ -7,18 +7,18 @@ use Rattle.acredact.specs.Arguments.{Given, counts_asked, has}
 use Rattle.acredact.specs.Calls.{Call, IsUnreadLine, names_asked, pieces_asked, reading_by, text_asked}
 use Rattle.acredact.specs.Doubts.{TellsDoubts, last_of}
 use Rattle.acredact.specs.LineRules.{most_asked}
-use Rattle.acredact.specs.RuleLines.{IsRuledLine, too_long_line}
+use Rattle.acredact.specs.RuleLines.{too_long_line}
 use Rattle.acredact.specs.Loading.{key_lent}
 use Rattle.acredact.specs.LongLines.{long_told, whole_number}
 use Rattle.acredact.specs.RunCounts.{CountsAllRuns, IsRunsLine, TellsAnyTotals, TellsRunCounts, TellsRunTotals, run_totals_text}
-use Rattle.acredact.specs.Ruled.{AreRuledLoaded, CountsByRules, IsRuledTold, LinedFiles, NotesByRules, NumbersOf, OutcomeOf, RuledCall, RuledLoad, RuledOutcome, RuledStatus, own_text, patterns_by_case, rule_asked, ruled_by, ruled_load, ruling_as, ruling_by, texts_asked}
+use Rattle.acredact.specs.Ruled.{AreRuledLoaded, BeginsByRules, CountsByRules, IsRuledTold, LinedFiles, NotesByRules, NumbersOf, OutcomeOf, RuledCall, RuledLoad, RuledOutcome, RuledStatus, own_text, patterns_by_case, rule_asked, ruled_by, ruled_load, ruling_as, ruling_by, texts_asked}
 use Rattle.acredact.specs.Summaries.{no_volume}
 use Rattle.acredact.specs.Tables.{Secret, patterns_in, piece_by, secret_of, secrets_of}
 use Rattle.acredact.specs.Totals.{AreTotals}
 use Rattle.acredact.specs.Volumes.{ReadsVolume}
 use Rattle.acredact.specs.declared.patterns.Rule.{Rule as PatternRule}
 use Rattle.acredact.specs.declared.ruled_failure.RuledFailure.{RuledFailure}
-use Rattle.acredact.proofs.Calls.{some_behind, some_then, some_weaker, tells_both, tells_last, tells_line, tells_same, tells_weaker}
+use Rattle.acredact.proofs.Calls.{some_behind, some_then, some_weaker, tells_both, tells_line, tells_same, tells_weaker}
 use Rattle.acredact.proofs.LongLines.{long_of_runs}
 use Rattle.acredact.proofs.RuledFiles.{told_any, told_as}
 use Rattle.acredact.proofs.Warned.{doubts_tell}
@@ -101,15 +101,14 @@ module _ {E : Type 0} (K : SinkGhosts E) (call : Call) where
   all_doubts_told secrets errors errors' told = doubts_tell K (IsRuledTold call) false call.given secrets errors errors' (λ lax line member. inr (inr (inl (secrets, member)))) told
 
   -- behind what is told of them what was loaded decides what comes of the call
-  pub ruled_behind : (made load : RuledLoad) → made ≡ load → (result : Result Bool RuledFailure) (left between left' held held' : Option (List ℕ)) (errors meanwhile errors' : Errors E)
+  pub ruled_behind : (load : RuledLoad) (result : Result Bool RuledFailure) (left between left' held held' : Option (List ℕ)) (errors meanwhile errors' : Errors E)
       → AreRuledLoaded (reading_by call) call.given load left between → TellsDoubts K false call.given load.secrets errors meanwhile
-      → RuledOutcome K call made result between left' held held' meanwhile errors' → RuledCall K call result left left' held held' errors errors'
-  ruled_behind made load same result left between left' held held' errors meanwhile errors' loaded doubted outcome =
+      → RuledOutcome K call load result between left' held held' meanwhile errors' → RuledCall K call result left left' held held' errors errors'
+  ruled_behind load result left between left' held held' errors meanwhile errors' loaded doubted =
       outcome_behind K call result errors meanwhile errors' (all_doubts_told load.secrets errors meanwhile doubted)
       (λ all whole. record { load = load; between = between; loaded = loaded; is = whole })
       (λ begun. inr (record { load = load; between = between; loaded = loaded; is = begun }))
       (λ numbers. record { load = load; between = between; loaded = loaded; is = record { meanwhile = meanwhile; doubted = doubted; numbers = numbers } })
-      (subst (λ (l : RuledLoad). RuledOutcome K call l result between left' held held' meanwhile errors') same outcome)
 
   -- how many lines were too long may be told
   long_lines : (count : ℕ) (errors errors' : Errors E) → TellsBytes K errors errors' (long_told (most_asked call.given) count) → Tells K (IsRuledTold call) errors errors'
@@ -221,21 +220,11 @@ module _ {E : Type 0} (K : SinkGhosts E) (call : Call) where
     notes = λ is. of.notes refl;
   }
 
-  -- some file was not read to its end
-  pub ruled_partly : (left left' held held' : Option (List ℕ)) (errors errors' : Errors E) → RuledCall K call (Ok false) left left' held held' errors errors' → RuledStatus K call 2 left left' held held' errors errors'
-  ruled_partly left left' held held' errors errors' of = record {
-    redacts = λ (is : 2 ≡ 0). absurd (omega (arith, is));
-    begins = of.begun;
-    tells = λ is. of.partly refl;
-    notes = λ (is : 2 ≡ 0). absurd (omega (arith, is));
-  }
-
-  -- the call ended early, and that is told
-  pub ruled_failed : (failure : RuledFailure) (line : List ℕ) (left left' held held' : Option (List ℕ)) (errors meanwhile errors' : Errors E) → RuledCall K call (Err failure) left left' held held' errors meanwhile
-      → IsRuledLine failure line → TellsBytes K meanwhile errors' line → RuledStatus K call 2 left left' held held' errors errors'
-  ruled_failed failure line left left' held held' errors meanwhile errors' of is told = record {
+  -- or not all was, and that is told
+  pub ruled_two : {left left' held held' : Option (List ℕ)} {errors errors' : Errors E} → BeginsByRules call left left' held held' → TellsSome K (IsRuledTold call) errors errors' → RuledStatus K call 2 left left' held held' errors errors'
+  ruled_two begun told = record {
     redacts = λ (none : 2 ≡ 0). absurd (omega (arith, none));
-    begins = of.begun;
-    tells = λ two. tells_last K (IsRuledTold call) errors meanwhile errors' line of.told (inr (inl (failure, is))) told;
+    begins = begun;
+    tells = λ two. told;
     notes = λ (none : 2 ≡ 0). absurd (omega (arith, none));
   }

@@ -1,7 +1,7 @@
 -- What comes of a check by rules, from what is seen of its files up to its status.
 use Rattle.acredact.proofs.Common.{AsWord, Errors, FromWrite, Keeps, Keeps-refl, LineError, SinkGhosts, Verdict, Writers, covering_by, output_bytes}
-use Rattle.std.proofs.Common.{◌≡◌, inl, inr, ℕ, List, Option, true, false, refl, sym, subst, arith}
-use Rattle.std.specs.Prelude.{Bool, ◌≤◌, Result, Ok, Err}
+use Rattle.std.proofs.Common.{◌≡◌, inl, inr, ℕ, List, Option, true, false, refl, sym, subst}
+use Rattle.std.specs.Prelude.{Bool, Result, Ok, Err}
 use Rattle.secret_rules.specs.declared.rule.Rule.{Rule}
 use Rattle.acredact.specs.Arguments.{has}
 use Rattle.acredact.specs.Calls.{Call, IsUnreadLine, names_asked, reading_by}
@@ -34,12 +34,6 @@ quest_same call load words told most texts is_words is_told is_most is_texts =
 -- the same output holds the same
 pub same_kept : {W : Type 0} (Writes : Writers W) (output output' : FromWrite W) → output' ≡ output → Keeps (output_bytes Writes output) (output_bytes Writes output')
 same_kept Writes output output' same = subst (λ (o : FromWrite _). Keeps (output_bytes Writes output) (output_bytes Writes o)) (sym same) (Keeps-refl (output_bytes Writes output))
-
--- no status is greater than 2
-pub check_within : (found all : Bool) (status : ℕ) → status ≡ check_status (record { found = found; all = all }) → status ≤ 2
-check_within true true status is = omega (arith, is)
-check_within false true status is = omega (arith, is)
-check_within found false status is = omega (arith, is)
 
 module _ {E : Type 0} (K : SinkGhosts E) (call : Call) where
   module _ (load : CheckLoad) (left left' held held' seen seen' : Option (List ℕ)) (errors errors' : Errors E)

@@ -1,7 +1,8 @@
 -- What comes of a text, by what a cover of its lines leaves.
-use Rattle.acredact.proofs.Common.{AreSearchedFor, Automata, CanCoverLines, Covering, IfErr-weaker, IsAtEnd, Keeps, Line, LineError, Occurrence, Patterns, PieceRule, Read, SinkGhosts, SourceGave, SourceGhosts, StartsWith, Stream, covering_by, most_of, on_ok_weaker, rules_of, searched_automaton, stream_lines, words_of}
+use Rattle.acredact.proofs.Common.{AreSearchedFor, Automata, CanCoverLines, Covering, IfErr-weaker, IsAtEnd, Keeps, Line, LineError, Occurrence, Patterns, PieceRule, Read, SinkGhosts, SourceGave, SourceGhosts, StartsWith, Stream, Volume, covering_by, most_of, on_ok_weaker, rules_of, searched_automaton, stream_lines, words_of}
 use Rattle.std.proofs.Common.{◌≡◌, ◌≢◌, inl, inr, ℕ, List, [], ◌∷◌, ◌++◌, Option, true, false, length, map, refl, sym, ap, subst, ◌∙◌, arith}
-use Rattle.std.specs.Prelude.{Bool, None, OnErr, OnOk, Result, Ok, Err}
+use Rattle.std.specs.Prelude.{Bool, None, OnOk, Result, Ok, Err}
+use Rattle.std.proofs.lemmas.Result.{on_err_weaker}
 use Rattle.aho_cover.specs.declared.pieces.Pieces.{Ghosts as PieceGhosts}
 use Rattle.aho_cover.proofs.Copied.{begins_longer}
 use Rattle.secret_rules.specs.Covering.{lines_cover}
@@ -10,9 +11,11 @@ use Rattle.secret_rules.specs.Ready.{CoversTheSame}
 use Rattle.secret_rules.specs.Writing.{line_cover}
 use Rattle.secret_rules.specs.declared.rule.Rule.{Rule}
 use Rattle.secret_rules.proofs.LineRuns.{lines_cover-append}
-use Rattle.acredact.specs.Ruled.{BeginsLinesText, IsLined, LeavesLined, LinesOutcome, RedactsLines, Ruling, WritesLines, ruling_as, unread_of}
+use Rattle.acredact.specs.Ruled.{BeginsLinesText, IsLined, LinesOutcome, RedactsLines, Ruling, WritesLines, ruling_as, unread_of}
 use Rattle.acredact.specs.RunCounts.{CountsTextRuns, HasLineRuns, HasRuns}
 use Rattle.acredact.specs.declared.ruled_files.Lined.{Lined}
+use Rattle.acredact.specs.Volumes.{AddsStream}
+use Rattle.acredact.proofs.Metering.{text_bytes}
 use Rattle.acredact.proofs.OneFile.{begun_writing, ended_text, known_read}
 
 -- a beginning behind the same bytes
@@ -71,12 +74,13 @@ module _ {R W : Type 0} (S : SourceGhosts R) (K : SinkGhosts W) (Searched : Patt
   writes_text (Ok tt) leaves = inl (covers_text leaves.covered)
   writes_text (Err error) leaves = inr (begins_text leaves.begun)
 
-  pub lines_outcome : (done : Result (Unit {0}) LineError) → LeavesLines S K Searched words rules most rule source source' sink sink' counts counts' done
-      → LinesOutcome (ruling_as words rules most rule p) (unread_of done) counts counts' before (S.remaining source') (K.taken sink) (K.taken sink')
-  lines_outcome done leaves = record {
+  pub lines_outcome : (volume volume' : Volume) (done : Result (Unit {0}) LineError) → LeavesLines S K Searched words rules most rule source source' sink sink' counts counts' done → OnOk done (AddsStream S source source' volume.bytes volume'.bytes)
+      → LinesOutcome (ruling_as words rules most rule p) (unread_of done) counts counts' volume volume' before (S.remaining source') (K.taken sink) (K.taken sink')
+  lines_outcome volume volume' done leaves adds = record {
     whole = λ is. covers_text (read_whole done is leaves.covered);
     begun = writes_text done leaves;
     counted = λ is. runs_text (read_whole done is leaves.covered);
+    read = λ is. text_bytes S source source' before volume.bytes volume'.bytes left none ends (read_whole done is adds);
   }
 
 -- one source in the place of another, of which no less is known
@@ -90,7 +94,7 @@ module _ {Q R W : Type 0} (P : SourceGhosts Q) (S : SourceGhosts R) (K : SinkGho
       → LeavesLines S K Searched words rules most rule source source' sink sink' counts counts' result
   leaves_as result of = record {
     covered = on_ok_weaker result covers_as of.covered;
-    begun = on_err result of.begun;
+    begun = on_err_weaker result begins_as of.begun;
     whole = IfErr-weaker result _ _ (λ error up fails. by (up fails)) of.whole;
   }
     where
@@ -109,11 +113,6 @@ module _ {Q R W : Type 0} (P : SourceGhosts Q) (S : SourceGhosts R) (K : SinkGho
         goes_on = begun.goes_on;
       }
 
-      on_err : (result : Result (Unit {0}) LineError) → OnErr result (BeginsLines P K Searched words rules most rule other other' sink sink' counts counts')
-          → OnErr result (BeginsLines S K Searched words rules most rule source source' sink sink' counts counts')
-      on_err (Ok x) begun = tt
-      on_err (Err error) begun = begins_as begun
-
       by : CoversWholeLines P K Searched words rules most rule other other' sink sink' counts counts' → CoversWholeLines S K Searched words rules most rule source source' sink sink' counts counts'
       by whole = record {
         given = whole.given;
@@ -126,11 +125,6 @@ module _ {Q R W : Type 0} (P : SourceGhosts Q) (S : SourceGhosts R) (K : SinkGho
         writes = whole.writes;
         counted = whole.counted;
       }
-
--- a source is as it was left
-pub leaves_there : {A P R W : Type 0} (G : Automata A) (Q : PieceGhosts P) (S : SourceGhosts R) (K : SinkGhosts W) (lined : Lined A P) (result : Result (Unit {0}) LineError) (counts counts' : List ℕ) (source there there' : R) (sink sink' : W)
-    → there ≡ there' → LeavesLined G Q S K lined result counts counts' source there sink sink' → LeavesLined G Q S K lined result counts counts' source there' sink sink'
-leaves_there G Q S K lined result counts counts' source there there' sink sink' same leaves = subst (λ s. LeavesLined G Q S K lined result counts counts' source s sink sink') same leaves
 
 -- it covers lines as before
 pub still_lined : {A P : Type 0} (G : Automata A) (Q : PieceGhosts P) (old new : Lined A P) (ruling : Ruling) → CanCoverLines G new.cover → CoversTheSame old.cover new.cover

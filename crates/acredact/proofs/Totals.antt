@@ -1,6 +1,6 @@
 -- How counts grow by the ranges that are replaced, file after file.
-use Rattle.acredact.proofs.Common.{CountsThese, Errors, IsAtEnd, Keeps, Occurrence, Rule, SinkGhosts, SourceGhosts, Volume, counts_none, counts_then, is_input, length-map}
-use Rattle.std.proofs.Common.{◌≡◌, ◌≢◌, ℕ, zero, suc, ◌<◌, true, false, List, [], ◌∷◌, ◌++◌, Option, length, refl, sym, ap, subst, ◌∙◌, append-nil, append_assoc, arith}
+use Rattle.acredact.proofs.Common.{CountsThese, Errors, IsAtEnd, Keeps, Occurrence, Rule, SinkGhosts, SourceGhosts, Volume, length-map}
+use Rattle.std.proofs.Common.{◌≡◌, ◌≢◌, ℕ, zero, suc, ◌<◌, true, List, [], ◌∷◌, ◌++◌, Option, length, refl, sym, ap, subst, ◌∙◌, append-nil, arith}
 use Rattle.std.specs.Prelude.{slice_index}
 use Rattle.acredact.specs.Arguments.{Given}
 use Rattle.acredact.specs.Calls.{TellsCounts, TellsTotals}
@@ -8,8 +8,8 @@ use Rattle.acredact.specs.Counts.{zeros}
 use Rattle.acredact.specs.Files.{Work}
 use Rattle.acredact.specs.Secrets.{Redactor}
 use Rattle.acredact.specs.Tables.{secret_of, secrets_of}
-use Rattle.acredact.specs.Totals.{AreTotals, CountsOfName, CountsOfNames, CountsOfStream, CountsOfText, HasRanges, NameHasRanges, NamesHaveRanges}
-use Rattle.acredact.proofs.OneFile.{ended_text, known_read, of_folder}
+use Rattle.acredact.specs.Totals.{AreTotals, CountsOfName, CountsOfNames, CountsOfStream, CountsOfText, HasRanges, NameHasRanges}
+use Rattle.acredact.proofs.OneFile.{IsFileRead, ended_text, known_read}
 
 -- a stream that has ended gave a text
 pub text_counts : {R : Type 0} (S : SourceGhosts R) (r : Redactor) (source source' : R) (before : Option (List ℕ)) (counts counts' : List ℕ)
@@ -29,11 +29,9 @@ known_ranges : (r : Redactor) (ranges : List Occurrence) (told left left' : Opti
 known_ranges r ranges told left left' kept has =
     record { text = has.text; reads = record { read = known_read told left left' has.text kept has.reads.read; ended = has.reads.ended }; found = has.found }
 
--- those of the file of a name that the folder opened
-pub opened_counts : (work : Work) (name : List ℕ) (left left' : Option (List ℕ)) (counts counts' : List ℕ) → is_input name ≡ false → left' ≡ left → (opened rest : Option (List ℕ)) → Keeps (work.holds name) opened → CountsOfText opened rest counts counts' work.redactor
-    → CountsOfName left left' counts counts' work name
-opened_counts work name left left' counts counts' is same opened rest kept (ranges, has, counted) =
-    (ranges, of_folder work.holds name (HasRanges work.redactor ranges) left left' is same rest (known_ranges work.redactor ranges (work.holds name) opened rest kept has), counted)
+-- those of the file of a name that was read
+pub file_counts : (work : Work) {name : List ℕ} {given rest left left' : Option (List ℕ)} {counts counts' : List ℕ} → IsFileRead work.holds name given rest left left' → CountsOfText given rest counts counts' work.redactor → CountsOfName left left' counts counts' work name
+file_counts work {given = given} {rest = rest} file (ranges, has, counted) = (ranges, file.of (HasRanges work.redactor ranges) (known_ranges work.redactor ranges file.known given rest file.kept has), counted)
 
 -- the ranges of one file alone
 pub one_counts : (work : Work) (name : List ℕ) (left left' : Option (List ℕ)) (counts counts' : List ℕ) → CountsOfNames left left' counts counts' work (name ∷ []) → CountsOfName left left' counts counts' work name
@@ -42,34 +40,6 @@ one_counts work name left left' counts counts' (ranges, (first, rest, are, betwe
   subst (λ (l : Option (List ℕ)). NameHasRanges work name first left l) (sym same) has,
   subst (λ (l : List Occurrence). CountsThese l counts counts') (are ∙ ap (λ (l : List Occurrence). first ++ l) none ∙ append-nil first) counted,
 )
-
--- some first files were counted, from one state of the input to another
-pub record CountedSoFar (work : Work) (names rest : List (List ℕ)) (old new : Option (List ℕ)) (counts counts' : List ℕ) : Type 0 where
-  pub ranges : List Occurrence
-  pub counted : CountsThese ranges counts counts'
-  pub found : (more : List Occurrence) (left : Option (List ℕ)) → NamesHaveRanges work rest more new left → NamesHaveRanges work names (ranges ++ more) old left
-
-module _ (work : Work) (names : List (List ℕ)) (old : Option (List ℕ)) (counts : List ℕ) where
-  -- before the first
-  pub far_uncounted : CountedSoFar work names names old old counts counts
-  far_uncounted = record { ranges = []; counted = counts_none counts; found = λ more left rest. rest }
-
-  -- one more
-  pub far_counted : (name : List ℕ) (rest : List (List ℕ)) (mid new : Option (List ℕ)) (before after : List ℕ) → CountedSoFar work names (name ∷ rest) old mid counts before
-      → CountsOfName mid new before after work name → CountedSoFar work names rest old new counts after
-  far_counted name rest mid new before after far (first, has, counted) = record {
-    ranges = far.ranges ++ first;
-    counted = counts_then far.ranges first counts before after far.counted counted;
-    found = λ more left rests. rw (append_assoc far.ranges first more) (far.found (first ++ more) left (first, more, refl, new, has, rests));
-  }
-
-  -- behind all
-  pub all_counted : (new : Option (List ℕ)) (after : List ℕ) → CountedSoFar work names [] old new counts after → CountsOfNames old new counts after work names
-  all_counted new after far = (
-    far.ranges,
-    subst (λ (l : List Occurrence). NamesHaveRanges work names l old new) (append-nil far.ranges) (far.found [] new (refl, refl)),
-    far.counted,
-  )
 
 -- counts begin at zero
 zero_at : (rules : List Rule) (number : ℕ) → slice_index (zeros true rules) number ≡ 0

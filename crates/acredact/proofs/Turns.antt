@@ -1,6 +1,8 @@
 -- What comes of files that are done one after another, whatever is done with each.
-use Rattle.std.proofs.Common.{◌≡◌, ◌∙◌, ℕ, List, [], ◌∷◌, ap, subst, sym}
-use Rattle.std.specs.Prelude.{Result, Ok, Err}
+use Rattle.acredact.proofs.Common.{and-true}
+use Rattle.std.proofs.Common.{◌≡◌, ◌∙◌, ℕ, List, [], ◌∷◌, ap, refl, subst, sym, true}
+use Rattle.std.specs.Prelude.{Bool, ◌&&◌, Result, Ok, Err}
+use Rattle.std.proofs.Math.Bool.{and_assoc}
 
 -- what is answered of two parts together, and of no file
 pub record Joins (V : Type 0) : Type 0 where
@@ -9,6 +11,10 @@ pub record Joins (V : Type 0) : Type 0 where
   pub first : (v : V) → both none v ≡ v
   pub last : (v : V) → both v none ≡ v
   pub assoc : (a b c : V) → both (both a b) c ≡ both a (both b c)
+
+-- whether some and others were all read
+abbrev pub all_joined : Joins Bool
+all_joined = record { both = λ first more. first && more; none = true; first = λ more. refl; last = and-true; assoc = and_assoc }
 
 abbrev pub also : {V X : Type 0} → Joins V → V → Result V X → Result V X
 also joins first (Ok more) = Ok (joins.both first more)

@@ -1,9 +1,10 @@
 -- What comes of a call whose pieces were looked at.
-use Rattle.acredact.proofs.Common.{All, All-cons, All-nil, Errors, Failure, FromWrite, IsMember, Patterns, Readers, SinkGhosts, Streams, Strict, Tells, Writers, bytes_left}
-use Rattle.std.proofs.Common.{◌≡◌, inl, inr, ℕ, List, [], ◌∷◌, Option, true, false, refl, sym, subst, ◌∙◌}
-use Rattle.std.specs.Prelude.{◌⊎◌, Bool, None, Some, Result, Ok, Err, Vec, is_some, option_map}
+use Rattle.acredact.proofs.Common.{Errors, Failure, FromWrite, IsMember, Patterns, SinkGhosts, Strict, Tells, Writers}
+use Rattle.std.proofs.Common.{◌∙◌, ◌≡◌, List, Option, false, inl, inr, refl, sym, true, ℕ}
+use Rattle.std.specs.Prelude.{◌⊎◌, Bool, Err, None, Some, Vec, is_some, option_map}
+use Rattle.secret_rules.proofs.Owners.{member-get_or}
 use Rattle.acredact.specs.Arguments.{Given, has}
-use Rattle.acredact.specs.Calls.{Call, CallOutcome, CalledAs, IsLineOf, IsWarningLine, IsWordLine, MayFail, OutputFails, RedactsEach, RestDone, RestOutcome, TellsAnyNumbers, TellsNumbers, WarnsLoaded, keyed_as, names_asked, reading_by, redactor_by_given, work_by}
+use Rattle.acredact.specs.Calls.{Call, CallOutcome, IsWarningLine, MayFail, WarnsLoaded, keyed_as, reading_by, redactor_by_given}
 use Rattle.acredact.specs.Doubts.{TellsDoubts, all_doubt_lines}
 use Rattle.acredact.specs.Loading.{AreLoaded, Loaded, key_in}
 use Rattle.acredact.specs.Messages.{unclean_line}
@@ -12,8 +13,7 @@ use Rattle.acredact.specs.Ready.{CannotPrepare}
 use Rattle.acredact.specs.Secrets.{AreCleanBy, Redactor, key_of_cover}
 use Rattle.acredact.specs.Tables.{Secret}
 use Rattle.acredact.specs.declared.clean.Unclean.{Unclean}
-use Rattle.acredact.proofs.Calls.{call_ended, loads_so, may_fail, some_behind, tells_both, tells_line, tells_same}
-use Rattle.acredact.proofs.Free.{free_of}
+use Rattle.acredact.proofs.Calls.{call_ended, may_fail, tells_both, tells_line, tells_same}
 
 -- where they are to be refused, nothing is told and they are clean
 pub clean_pieces : {E : Type 0} (K : SinkGhosts E) (strict : Bool) (r : Redactor) (old new : Errors E) → strict ≡ true → TellsOfPieces K strict r old new → r.covers ≡ true → AreCleanBy (is_some r.key) r.patterns r.pieces
@@ -33,16 +33,11 @@ pub judged_as : {Z : Type 0} (p : Patterns) (covers covers' named ignore_case : 
 judged_as p covers covers' named ignore_case key pieces pieces' answer by is same judged =
     judged_by p covers ignore_case key pieces answer (rw (by, is, same) at judged)
 
--- what holds of each member holds of all
-pub all_members : (Is : List ℕ → Type 0) (lines : List (List ℕ)) → ((line : List ℕ) → IsMember lines line → Is line) → All Is lines
-all_members Is [] each = All-nil Is
-all_members Is (line ∷ lines) each = All-cons Is line lines (each line (inl refl)) (all_members Is lines (λ other is. each other (inr is)))
-
 -- what is told of patterns of lists is one line after another
 pub doubts_tell : {E : Type 0} (K : SinkGhosts E) (IsLine : List ℕ → Type 0) (strict : Bool) (given : List Given) (secrets : List Secret) (old new : Errors E) → (strict ≡ false → (line : List ℕ) → IsMember (all_doubt_lines given secrets) line → IsLine line)
     → TellsDoubts K strict given secrets old new → Tells K IsLine old new
 doubts_tell K IsLine true given secrets old new may doubts = tells_same K IsLine old new doubts.1
-doubts_tell K IsLine false given secrets old new may doubts = record { told = all_doubt_lines given secrets; are_lines = all_members IsLine (all_doubt_lines given secrets) (may refl); written = doubts }
+doubts_tell K IsLine false given secrets old new may doubts = record { told = all_doubt_lines given secrets; are_lines = λ number d within. may refl _ (member-get_or (all_doubt_lines given secrets) number d within); written = doubts }
 
 -- it may be told, where such a line may be
 module _ {E : Type 0} (K : SinkGhosts E) (call : Call) (IsLine : List ℕ → Type 0) (may : (line : List ℕ) → IsWarningLine call line → IsLine line)
@@ -64,20 +59,6 @@ module _ {E : Type 0} (K : SinkGhosts E) (call : Call) (IsLine : List ℕ → Ty
   pub warnings_may : (old new : Errors E) → WarnsLoaded K call load old new → Tells K IsLine old new
   warnings_may old new (mid, doubts, pieces) = tells_both K IsLine old mid new (doubts_may (has Strict call.given) refl old mid doubts) (pieces_may mid new pieces)
 
--- these lines hold no number that was counted
-module _ {E : Type 0} (K : SinkGhosts E) (call : Call) (load : Loaded) (left between : Option (List ℕ)) (loaded : AreLoaded (reading_by call) call.given load left between) where
-  -- numbers behind them
-  numbers_warned : (left' : Option (List ℕ)) (old mid new : Errors E) → Tells K (IsWordLine call) old mid → Tells K (IsWordLine call) mid new ⊎ TellsNumbers K call load.secrets between left' mid new → TellsAnyNumbers K call left left' old new
-  numbers_warned left' old mid new first (inl words) = inl (tells_both K (IsWordLine call) old mid new first words)
-  numbers_warned left' old mid new first (inr numbers) = inr (loads_so load between loaded (record {
-    counts = numbers.counts;
-    volume = numbers.volume;
-    bounded = numbers.bounded;
-    meanwhile = numbers.meanwhile;
-    words = tells_both K (IsWordLine call) old mid numbers.meanwhile first numbers.words;
-    told = numbers.told;
-  }))
-
 -- why nothing is ready may end a call, and where it is a piece it is to be refused
 module _ (call : Call) (load : Loaded) (left between : Option (List ℕ)) (loaded : AreLoaded (reading_by call) call.given load left between) where
   pub may_prepare : (fails : Type 0) (failure : Failure) → CannotPrepare call.given load failure → MayFail call fails failure
@@ -87,34 +68,6 @@ module _ (call : Call) (load : Loaded) (left between : Option (List ℕ)) (loade
   may_prepare fails failure (inr (inr (inr memory))) = may_fail call fails failure (inl memory)
 
 module _ {W E : Type 0} (Writes : Writers W) (K : SinkGhosts E) (call : Call) (left : Option (List ℕ)) (load : Loaded) where
-  -- what comes of the files comes behind what is told of patterns of lists and of the pieces
-  pub call_warned : {R : Type 0} {Reads : Readers R} (old new : Streams R W E Reads) (first : Errors E) (result : Result Bool Failure) → AreLoaded (reading_by call) call.given load left (bytes_left old.input)
-      → WarnsLoaded K call load first old.errors → RestOutcome Writes K call load result old new → CallOutcome Writes K call left (bytes_left new.input) result old.output new.output first new.errors
-  call_warned old new first result loaded warned rest =
-      record {
-        comes = by result rest.comes;
-        begins = elim rest.begins [
-          | inl same ↦ inl same
-          | inr cut ↦ inr (loads_so load (bytes_left old.input) loaded cut)
-        ];
-        numbers = numbers_warned K call load left (bytes_left old.input) loaded (bytes_left new.input) first old.errors new.errors (tell (IsWordLine call) (λ line is. inr is)) rest.numbers;
-      }
-    where
-      tell : (IsLine : List ℕ → Type 0) → ((line : List ℕ) → IsWarningLine call line → IsLine line) → Tells K IsLine first old.errors
-      tell IsLine may = warnings_may K call IsLine may load left (bytes_left old.input) loaded first old.errors warned
-
-      by : (result : Result Bool Failure) → CalledAs K call (RestDone Writes K call load old new) (OutputFails old.output new.output) result old.errors new.errors
-          → CalledAs K call (RedactsEach Writes K call left (bytes_left new.input) old.output new.output first new.errors) (OutputFails old.output new.output) result first new.errors
-      by (Ok true) done = record {
-        all = loads_so load (bytes_left old.input) loaded done.redacts;
-        strict = λ asked. loads_so load (bytes_left old.input) loaded (free_of (work_by call load) asked.covers asked.all
-            (clean_pieces K (has Strict call.given) (redactor_by_given call.given load) warned.0 old.errors asked.strict warned.2 asked.covers) (names_asked call.given) _ _ _ _ done.redacts);
-        quiet = λ none. loads_so load (bytes_left old.input) loaded (subst (λ (e : Errors E). WarnsLoaded K call load first e) (sym (done.quiet none)) warned);
-        counts = λ some. loads_so load (bytes_left old.input) loaded (done.redacts, (old.errors, warned, done.counts some));
-      }
-      by (Ok false) some = some_behind K (IsLineOf call _) first old.errors new.errors (tell _ (λ line is. inr (inr (inr is)))) some
-      by (Err failure) (may, later) = (may, tells_both K (IsLineOf call _) first old.errors new.errors (tell _ (λ line is. inr (inr (inr is)))) later)
-
   -- nothing is ready
   pub call_unready : (left' : Option (List ℕ)) (failure : Failure) (output : FromWrite W) (errors errors' : Errors E) → AreLoaded (reading_by call) call.given load left left' → CannotPrepare call.given load failure
       → (errors' ≡ errors) ⊎ TellsDoubts K (has Strict call.given) call.given load.secrets errors errors' → CallOutcome Writes K call left left' (Err failure) output output errors errors'

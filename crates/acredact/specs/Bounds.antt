@@ -1,5 +1,5 @@
 -- How great the numbers are that are told: none has grown by more than the bytes that were read, whether all were read or not.
-use Rattle.acredact.specs.Common.{Consumes, FromRead, Readers, SourceGave, SourceGhosts, bytes_left, name_bytes}
+use Rattle.acredact.specs.Common.{Consumes, Readers, SourceGave, SourceGhosts, bytes_left, name_bytes}
 use Rattle.std.specs.Prelude.{◌≡◌, ℕ, ◌+◌, ◌<◌, ◌≤◌, Bool, List, [], ◌∷◌, Option, length, slice_index}
 use Rattle.std.specs.List.{sum}
 use Rattle.acredact.specs.Reads.{OfName}
@@ -14,24 +14,15 @@ pub record GrowAtMost (most : ℕ) (counts counts' : List ℕ) : Type 0 where
   pub each : (number : ℕ) → number < length counts → slice_index counts' number ≤ slice_index counts number + most
   pub together : sum counts' ≤ sum counts + most
 
-module _ {R : Type 0} (S : SourceGhosts R) (source source' : R) (counts counts' : List ℕ) where
-  -- no count has grown by more than a source gave
-  pub record Bounded : Type 0 where
-    pub given : List ℕ
-    pub ended : Bool
-    pub gives : SourceGave S source source' given ended
-    pub counted : GrowAtMost (length given) counts counts'
-
-  -- and no number of bytes
-  pub record NumbersGiven (bytes bytes' : ℕ) : Type 0 where
-    pub given : List ℕ
-    pub ended : Bool
-    pub gives : SourceGave S source source' given ended
-    pub counted : GrowAtMost (length given) counts counts'
-    pub added : bytes' ≤ bytes + length given
+-- no count has grown by more than a source gave
+pub record Bounded {R : Type 0} (S : SourceGhosts R) (source source' : R) (counts counts' : List ℕ) : Type 0 where
+  pub given : List ℕ
+  pub ended : Bool
+  pub gives : SourceGave S source source' given ended
+  pub counted : GrowAtMost (length given) counts counts'
 
 module _ (counts counts' : List ℕ) (bytes bytes' : ℕ) where
-  -- by what was read of a text
+  -- nor a number of bytes, by more than was read of a text
   pub record NumbersRead (left left' : Option (List ℕ)) : Type 0 where
     pub given : List ℕ
     pub read : Consumes left left' given
@@ -41,6 +32,10 @@ module _ (counts counts' : List ℕ) (bytes bytes' : ℕ) where
   -- of the file of a name
   abbrev pub NumbersOfName : (holds : List ℕ → Option (List ℕ)) → List ℕ → (left left' : Option (List ℕ)) → Type 0
   NumbersOfName holds name left left' = OfName holds name NumbersRead left left'
+
+-- of a source
+abbrev pub NumbersOfSource : {R : Type 0} → SourceGhosts R → (counts counts' : List ℕ) → (bytes bytes' : ℕ) → (source source' : R) → Type 0
+NumbersOfSource S counts counts' bytes bytes' source source' = NumbersRead counts counts' bytes bytes' (S.remaining source) (S.remaining source')
 
 module _ (holds : List ℕ → Option (List ℕ)) where
   -- so many bytes were read of the file of a name
@@ -63,12 +58,7 @@ module _ (holds : List ℕ → Option (List ℕ)) where
     pub files : volume'.files ≤ volume.files + length names
 
 module _ {F X : Type 0} (D : Folders F X) (job : Job F) {R : Type 0} {Reads : Readers R} where
-  -- of a file of a job
-  abbrev pub NumbersOfFile : List ℕ → (counts counts' : List ℕ) → (volume volume' : Volume) → (input input' : FromRead R Reads) → Type 0
-  NumbersOfFile name counts counts' volume volume' input input' =
-      NumbersOfName counts counts' volume.bytes volume'.bytes (D.holds job.folder.now) name (bytes_left input) (bytes_left input')
-
-  -- and of all files of a job
+  -- of all files of a job
   abbrev pub JobNumbers : {W E : Type 0} → (counts counts' : List ℕ)
       → (volume volume' : Volume) → (streams streams' : Streams R W E Reads) → Type 0
   JobNumbers counts counts' volume volume' streams streams' =

@@ -379,29 +379,6 @@ OfCall Is call streams streams' = Is call (bytes_left streams.input) (bytes_left
 
 module _ {R : Type 0} {Reads : Readers R} {W : Type 0} (Writes : Writers W) where
   module _ {E : Type 0} (K : SinkGhosts E) where
-    -- the files of a call whose patterns were loaded and whose pieces were looked at were redacted
-    pub record RestDone (call : Call) (load : Loaded) (streams streams' : Streams R W E Reads) : Type 0 where
-      pub redacts : AreRedacted (work_by call load) (names_asked call.given) (bytes_left streams.input) (bytes_left streams'.input)
-          (output_bytes Writes streams.output) (output_bytes Writes streams'.output)
-      pub quiet : counts_asked call.given ≡ false → streams'.errors ≡ streams.errors
-      pub counts : counts_asked call.given ≡ true
-          → CountsRest K call load (bytes_left streams.input) (bytes_left streams'.input) streams.errors streams'.errors
-
-    -- what comes of them
-    pub record RestOutcome (call : Call) (load : Loaded) (result : Result Bool Failure) (streams streams' : Streams R W E Reads) : Type 0 where
-      pub comes : CalledAs K call (RestDone call load streams streams') (OutputFails streams.output streams'.output) result streams.errors streams'.errors
-      pub begins : (streams'.output ≡ streams.output) ⊎ ((lines : List (List ℕ)) × AreCut (work_by call load) (names_asked call.given) lines (bytes_left streams.input) (bytes_left streams'.input)
-          (output_bytes Writes streams.output) (output_bytes Writes streams'.output))
-      pub numbers : Tells K (IsWordLine call) streams.errors streams'.errors
-          ⊎ TellsNumbers K call load.secrets (bytes_left streams.input) (bytes_left streams'.input) streams.errors streams'.errors
-
-    -- the same of a call whose patterns and key were loaded, behind what is told of them
-    abbrev pub ReadyOutcome : {F X : Type 0} → Folders F X → F → List Given → Loaded
-        → Result Bool Failure → (streams streams' : Streams R W E Reads) → Type 0
-    ReadyOutcome D folder given load result streams streams' = (left : Option (List ℕ))
-        → AreLoaded (reading_by (call_of D folder given)) given load left (bytes_left streams.input)
-        → RestOutcome (call_of D folder given) load result streams streams'
-
     -- all that is so where all files of a call were redacted, from one state of the streams to another
     abbrev pub RedactsWhole : Call → (streams streams' : Streams R W E Reads) → Type 0
     RedactsWhole call streams streams' =

@@ -12,7 +12,7 @@ use Rattle.acredact.specs.Loading.{AreGiven, CannotLoadOne}
 use Rattle.acredact.specs.Looks.{IsLook, HoldsNoMatch, is_found, sought}
 use Rattle.acredact.specs.Reads.{OfName}
 use Rattle.acredact.specs.Secrets.{Redactor}
-use Rattle.acredact.specs.Tables.{Secret, patterns_in, secrets_of}
+use Rattle.acredact.specs.Tables.{Secret, patterns_in}
 use Rattle.acredact.specs.declared.mistakes.Mistake.TheVariants.{NoPattern, OutOfMemory as NoRoom}
 use Rattle.acredact.specs.declared.options.Word.TheVariants.{Strict}
 use Rattle.acredact.specs.declared.failure.Failure.{Failure}
@@ -22,7 +22,6 @@ use Rattle.acredact.specs.declared.look.Look.{Look}
 use Rattle.acredact.specs.declared.look.Look.TheVariants.{Clean, Found, Unread}
 use Rattle.acredact.specs.declared.look.Searched.{Searched}
 use Rattle.acredact.specs.declared.look.Verdict.{Verdict}
-use Rattle.acredact.specs.declared.patterns.Rule.{Rule}
 use Rattle.acredact.specs.declared.streams.Streams.{Streams}
 
 -- what is looked for, what the folder holds under a name, where it tells that, and why it may not open what has the name
@@ -178,12 +177,6 @@ module _ {E F Y R : Type 0} {Reads : Readers R} (K : SinkGhosts E) (D : Folders 
       → (input input' : FromRead R Reads) → (errors errors' : Errors E) → Patterns → Type 0
   SeesSearched files result input input' errors errors' p =
       SeesFiles K (quest_of D files.folder.now files.words p) (name_bytes files.names.now) result (bytes_left input) (bytes_left input') errors errors'
-
-  -- and for those of some rules in the files that are asked for
-  abbrev pub SeesRules : F → List Given → List Rule → Result Verdict Failure
-      → (input input' : FromRead R Reads) → (errors errors' : Errors E) → Type 0
-  SeesRules folder given rules result input input' errors errors' =
-      SeesFiles K (quest_by (call_of D folder given) (secrets_of rules)) (names_asked given) result (bytes_left input) (bytes_left input') errors errors'
 
   -- and for those that are given
   abbrev pub ChecksGiven : F → List Given → Result Verdict Failure

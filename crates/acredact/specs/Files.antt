@@ -1,5 +1,5 @@
 -- What is written of files, one after another, and what is told of those that cannot be read.
-use Rattle.acredact.specs.Common.{Appends, Consumes, FromRead, FromWrite, Ghosts, IsAtEnd, Keeps, Patterns, PieceRule, Readers, Reason, SinkGhosts, StreamError, TellsBytes, Writers, bytes_left, concat, counted, name_bytes, output_bytes, pieces_of}
+use Rattle.acredact.specs.Common.{Appends, Consumes, FromWrite, Ghosts, IsAtEnd, Keeps, Patterns, PieceRule, Readers, Reason, SinkGhosts, StreamError, TellsBytes, Writers, bytes_left, concat, counted, name_bytes, output_bytes, pieces_of}
 use Rattle.std.specs.Prelude.{◌≡◌, ◌⊎◌, ℕ, ◌≤◌, ◌&&◌, length, Bool, true, false, List, [], ◌∷◌, ◌++◌, Option, None, Some, Result, Ok, Err, IfErr, IfOk, OnErr, option_map}
 use Rattle.aho_devices.specs.Refusals.{is_write_fault, is_write_of_nothing}
 use Rattle.tool_parts.specs.Messages.{reason_text}
@@ -176,42 +176,17 @@ ComesOfFile work name (Ok None) left left' held held' = RedactsName work name le
 ComesOfFile work name (Ok (Some reason)) left left' held held' = IsUnread work name reason left left' held held'
 ComesOfFile work name (Err error) left left' held held' = BeginsNamed work name left left' held held'
 
-module _ {W : Type 0} (Writes : Writers W) where
-  -- that, by what a reader of the text has left before and after
-  pub record TextDone (r : Redactor) (result : Result (Option Reason) StreamError) (left left' : Option (List ℕ)) (output output' : FromWrite W) : Type 0 where
-    pub comes : ComesOfText r result left left' (output_bytes Writes output) (output_bytes Writes output')
-    pub fails : FailsByOutput result output output'
+module _ {W : Type 0} (Writes : Writers W) {R : Type 0} {Reads : Readers R} {E : Type 0} (K : SinkGhosts E) where
+  -- this is written, and these lines are told
+  abbrev pub Does : Streams R W E Reads → Streams R W E Reads
+      → ((left left' held held' : Option (List ℕ)) → Type 0) → List (List ℕ) → Type 0
+  Does streams streams' Written lines =
+      Written (bytes_left streams.input) (bytes_left streams'.input) (output_bytes Writes streams.output) (output_bytes Writes streams'.output)
+      × TellsBytes K streams.errors streams'.errors (concat lines)
 
-  module _ {R : Type 0} {Reads : Readers R} where
-    -- the same of a file
-    pub record FileOutcome (work : Work) (name : List ℕ) (result : Result (Option Reason) StreamError) (input input' : FromRead R Reads) (output output' : FromWrite W) : Type 0 where
-      pub comes : ComesOfFile work name result (bytes_left input) (bytes_left input') (output_bytes Writes output) (output_bytes Writes output')
-      pub fails : FailsByOutput result output output'
-
-    -- the same of a file of a job
-    abbrev pub FileJob : {F X : Type 0} → Folders F X → Job F → List ℕ → Result (Option Reason) StreamError
-        → (input input' : FromRead R Reads) → (output output' : FromWrite W) → Redactor → Type 0
-    FileJob D job name result input input' output output' r = FileOutcome (work_of D job r) name result input input' output output'
-
-    module _ {E : Type 0} (K : SinkGhosts E) where
-      -- this is written, and these lines are told
-      abbrev pub Does : Streams R W E Reads → Streams R W E Reads
-          → ((left left' held held' : Option (List ℕ)) → Type 0) → List (List ℕ) → Type 0
-      Does streams streams' Written lines =
-          Written (bytes_left streams.input) (bytes_left streams'.input) (output_bytes Writes streams.output) (output_bytes Writes streams'.output)
-          × TellsBytes K streams.errors streams'.errors (concat lines)
-
-      -- what comes of a file, where it is told if it was not read to its end; else nothing is told
-      pub record ToldOutcome (work : Work) (name : List ℕ) (result : Result Bool StreamError) (streams streams' : Streams R W E Reads) : Type 0 where
-        pub done : IfOk result (λ whole. (lines : List (List ℕ)) × (whole ≡ are_none lines) × Does streams streams' (IsDone work name lines) lines)
-        pub cut : OnErr result (Does streams streams' (BeginsNamed work name) [])
-        pub quiet : result ≡ Ok true → streams'.errors ≡ streams.errors
-        pub untold : OnErr result (streams'.errors ≡ streams.errors)
-        pub fails : FailsByOutput result streams.output streams'.output
-
-      -- what comes of all files
-      pub record FilesOutcome (work : Work) (result : Result Bool StreamError) (streams streams' : Streams R W E Reads) : Type 0 where
-        pub done : IfOk result (λ all. (lines : List (List ℕ)) × (all ≡ are_none lines) × Does streams streams' (AreDone work work.names lines) lines)
-        pub cut : OnErr result ((lines : List (List ℕ)) × Does streams streams' (AreCut work work.names lines) lines)
-        pub quiet : result ≡ Ok true → streams'.errors ≡ streams.errors
-        pub fails : FailsByOutput result streams.output streams'.output
+  -- what comes of all files
+  pub record FilesOutcome (work : Work) (result : Result Bool StreamError) (streams streams' : Streams R W E Reads) : Type 0 where
+    pub done : IfOk result (λ all. (lines : List (List ℕ)) × (all ≡ are_none lines) × Does streams streams' (AreDone work work.names lines) lines)
+    pub cut : OnErr result ((lines : List (List ℕ)) × Does streams streams' (AreCut work work.names lines) lines)
+    pub quiet : result ≡ Ok true → streams'.errors ≡ streams.errors
+    pub fails : FailsByOutput result streams.output streams'.output

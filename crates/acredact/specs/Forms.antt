@@ -1,28 +1,19 @@
 -- Forms of patterns: which are asked for, and which patterns they are.
 use Rattle.acredact.specs.Common.{All, bytes_eq, slice_split}
-use Rattle.std.specs.Prelude.{◌≡◌, ℕ, ◌+◌, ◌≤◌, ◌||◌, Bool, List, [], ◌∷◌, ◌++◌, Option, Some, None, codes, flat_map, is_some, length, map, nat_eq, nat_lt, option_and_then, option_map, if◌then◌else◌}
+use Rattle.std.specs.Prelude.{◌≡◌, ℕ, ◌+◌, ◌≤◌, ◌||◌, Bool, List, [], ◌∷◌, ◌++◌, Option, Some, None, Vec, codes, flat_map, is_some, length, map, nat_eq, nat_lt, option_and_then, option_map, if◌then◌else◌}
 use Rattle.std.specs.List.{filter, filter_map, list_all, list_any}
-use Rattle.secret_forms.specs.Forms.{HidesForm, HidesNested, form_patterns, forms_patterns, inner_patterns, nested_patterns}
+use Rattle.secret_forms.specs.Forms.{HidesForm, HidesNested, form_name, form_patterns, forms_patterns, inner_patterns, nested_patterns}
 use Rattle.secret_forms.specs.Patterns.{added_all}
 use Rattle.secret_forms.specs.declared.form.Form.{Form as SecretForm}
 use Rattle.secret_forms.specs.declared.form.Form.TheVariants.{Base64, Hex, Url, Json, Xml, Shell, Lines}
-use Rattle.acredact.specs.Tables.{Secret, secrets_of}
+use Rattle.acredact.specs.Tables.{Secret, secret_of, secrets_of}
 use Rattle.acredact.specs.declared.forms.Asked.{Asked}
 use Rattle.acredact.specs.declared.forms.Nested.{Nested}
 use Rattle.acredact.specs.declared.patterns.Rule.{Rule}
 
--- how a form is called
-abbrev pub name_of : SecretForm → List ℕ
-name_of Base64 = codes "base64"
-name_of Hex = codes "hex"
-name_of Url = codes "url"
-name_of Json = codes "json"
-name_of Xml = codes "xml"
-name_of Shell = codes "shell"
-name_of Lines = codes "lines"
-
+-- a form is called so
 abbrev pub is_called : List ℕ → SecretForm → Bool
-is_called name form = bytes_eq name (name_of form)
+is_called name form = bytes_eq name (form_name form)
 
 abbrev pub all_forms : List SecretForm
 all_forms = Base64 ∷ Hex ∷ Url ∷ Json ∷ Xml ∷ Shell ∷ Lines ∷ []
@@ -98,17 +89,26 @@ once_patterns forms pattern = added_all [] (forms_patterns forms pattern)
 abbrev pub twice_patterns : List ℕ → Nested → List (List ℕ)
 twice_patterns pattern nested = added_all [] (nested_patterns (inner_patterns pattern nested.inner) nested.outer)
 
+-- and those of several of them
+abbrev pub each_twice : List ℕ → List Nested → List (List ℕ)
+each_twice pattern nested = flat_map (twice_patterns pattern) nested
+
 -- the patterns that are not empty
 abbrev pub filled : List (List ℕ) → List (List ℕ)
 filled patterns = filter (λ pattern. nat_lt 0 (length pattern)) patterns
 
 abbrev pub asked_form_patterns : AskedForms → List ℕ → List (List ℕ)
-asked_form_patterns asked pattern = once_patterns asked.forms pattern ++ flat_map (twice_patterns pattern) asked.nested
+asked_form_patterns asked pattern = once_patterns asked.forms pattern ++ each_twice pattern asked.nested
 
 -- such a pattern is replaced as that of its secret is, and counts for it
 abbrev pub form_secret : ℕ → Secret → List ℕ → Secret
 form_secret number secret pattern =
     record { pattern = pattern; replacement = secret.replacement; list = secret.list; line = 0; form_of = Some number }
+
+-- such patterns of a rule are added
+abbrev pub AddsFormsOf : {Z : Type 0} → Rule → ℕ → List (List ℕ) → (rules rules' : Vec Rule Z) → Type 0
+AddsFormsOf rule number patterns rules rules' =
+    secrets_of rules'.items ≡ secrets_of rules.items ++ map (form_secret number (secret_of rule)) (filled patterns)
 
 -- the forms of a secret that has this number; one of fewer than four bytes has none
 abbrev pub forms_of : AskedForms → ℕ → Secret → List Secret

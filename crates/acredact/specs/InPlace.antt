@@ -1,23 +1,26 @@
 -- What becomes of files that are replaced in place: of each a new one is filled, and takes its place where all was done.
-use Rattle.acredact.specs.Common.{Errors, FromWrite, Memory, OutOfMemory, Readers, Reason, SinkGhosts, StreamError, Tells, TellsBytes, TellsSome, Writers, bytes_left, is_input, output_bytes}
+use Rattle.acredact.specs.Common.{Errors, FromWrite, Memory, OutOfMemory, Patterns, Readers, Reason, SinkGhosts, StreamError, Tells, TellsBytes, TellsSome, Writers, bytes_left, is_input, output_bytes}
 use Rattle.std.specs.Prelude.{◌≡◌, ◌⊎◌, ℕ, Bool, true, false, List, [], ◌∷◌, Option, Result, Ok, Err}
 use Rattle.tool_parts.specs.Names.{IsOneOf}
-use Rattle.acredact.specs.Arguments.{Given, all_given}
-use Rattle.acredact.specs.Calls.{Call, DoneCall, IsLineOf, LoadsCall, MayFail, WarnsAndCounts, WarnsLoaded, call_of, names_asked, reading_by, work_by}
+use Rattle.acredact.specs.Arguments.{Given}
+use Rattle.acredact.specs.Calls.{Call, DoneCall, IsLineOf, LoadsCall, MayFail, WarnsAndCounts, call_of, names_asked, work_by}
 use Rattle.acredact.specs.Failures.{IsFailureLine}
-use Rattle.acredact.specs.Files.{AreFree, AreRedacted, Work, unread_line}
+use Rattle.acredact.specs.Files.{AreFree, AreRedacted, Work, redactor_of, unread_line, work_of}
 use Rattle.acredact.specs.Into.{IsKept, IsSpared, TakesPlace, TellsUnread}
-use Rattle.acredact.specs.Loading.{AreLoaded, Loaded}
 use Rattle.acredact.specs.Messages.{no_file_line, output_line}
 use Rattle.acredact.specs.Totals.{CountsOfName, CountsOfNames}
 use Rattle.acredact.specs.Volumes.{ReadsVolume}
-use Rattle.acredact.specs.declared.options.Item.{Item}
 use Rattle.acredact.specs.declared.failure.Failure.{Failure}
 use Rattle.acredact.specs.declared.failure.Failure.TheVariants.{Other}
+use Rattle.acredact.specs.declared.files.Job.{Job}
 use Rattle.acredact.specs.declared.folder.Folder.{Ghosts as Folders}
 use Rattle.acredact.specs.declared.outputs.Outputs.{Ghosts as Places}
 use Rattle.acredact.specs.declared.streams.Streams.{Streams}
 use Rattle.acredact.specs.declared.summary.Volume.{Volume}
+
+-- what a job is to do by these patterns
+abbrev pub work_for : {F X : Type 0} → Folders F X → Job F → Patterns → Work
+work_for D job p = work_of D job (redactor_of job p)
 
 -- why a file is not replaced, as a line: it cannot be read or replaced, the output goes to it, or it is standard input
 abbrev pub IsSparedLine : List ℕ → List ℕ → Type 0
@@ -69,17 +72,17 @@ module _ {O Z : Type 0} (Writes : Writers Z) (U : Places O Z) (work : Work) wher
     PlaceOutcome name (Err error) outputs outputs' streams streams' counts counts' volume volume' =
         IsSpared U name outputs outputs' × Tells K (IsSparedLine name) streams.errors streams'.errors × (error ≡ Memory)
 
-    -- and of all files
-    abbrev pub PlacesOutcome : Result Bool StreamError → (outputs outputs' : O)
+    -- and of some files
+    abbrev pub PlacesOutcome : List (List ℕ) → Result Bool StreamError → (outputs outputs' : O)
         → (streams streams' : Streams R Z E Reads) → (counts counts' : List ℕ) → (volume volume' : Volume) → Type 0
-    PlacesOutcome (Ok true) outputs outputs' streams streams' counts counts' volume volume' =
-        AreInTurn IsReplaced work.names outputs outputs' × (streams'.errors ≡ streams.errors)
-        × CountsOfNames (bytes_left streams.input) (bytes_left streams'.input) counts counts' work work.names
-        × ReadsVolume work.holds work.names volume volume' (bytes_left streams.input) (bytes_left streams'.input)
-    PlacesOutcome (Ok false) outputs outputs' streams streams' counts counts' volume volume' =
-        AreInTurn IsPlaced work.names outputs outputs' × TellsSome K (IsSparedOf work.names) streams.errors streams'.errors
-    PlacesOutcome (Err error) outputs outputs' streams streams' counts counts' volume volume' =
-        BeginInTurn IsPlaced work.names outputs outputs' × Tells K (IsSparedOf work.names) streams.errors streams'.errors × (error ≡ Memory)
+    PlacesOutcome names (Ok true) outputs outputs' streams streams' counts counts' volume volume' =
+        AreInTurn IsReplaced names outputs outputs' × (streams'.errors ≡ streams.errors)
+        × CountsOfNames (bytes_left streams.input) (bytes_left streams'.input) counts counts' work names
+        × ReadsVolume work.holds names volume volume' (bytes_left streams.input) (bytes_left streams'.input)
+    PlacesOutcome names (Ok false) outputs outputs' streams streams' counts counts' volume volume' =
+        AreInTurn IsPlaced names outputs outputs' × TellsSome K (IsSparedOf names) streams.errors streams'.errors
+    PlacesOutcome names (Err error) outputs outputs' streams streams' counts counts' volume volume' =
+        BeginInTurn IsPlaced names outputs outputs' × Tells K (IsSparedOf names) streams.errors streams'.errors × (error ≡ Memory)
 
 module _ {R O Z E : Type 0} {Reads : Readers R} (Writes : Writers Z) (K : SinkGhosts E) (U : Places O Z) (name : List ℕ) (done : Result Bool StreamError) where
   -- a new file took its place, where all was redacted; or it was removed, and it is told why, or was before, or memory ran out
@@ -171,11 +174,3 @@ module _ {F X O Z E R : Type 0} {Reads : Readers R} (Writes : Writers Z) (K : Si
   abbrev pub PlacesAsked : ℕ → (outputs outputs' : O) → (streams streams' : Streams R Z E Reads) → List Given → Type 0
   PlacesAsked status outputs outputs' streams streams' given =
       PlacesStatus Writes K U (call_of D folder given) (bytes_left streams.input) status outputs outputs' streams.errors streams'.errors
-
-  -- what comes of a call whose patterns and key were loaded, behind what is told of them
-  abbrev pub ReadyPlaces : List Item → Loaded → Result Bool Failure
-      → (outputs outputs' : O) → (streams streams' : Streams R Z E Reads) → Type 0
-  ReadyPlaces items load result outputs outputs' streams streams' = (left : Option (List ℕ)) (first : Errors E)
-      → AreLoaded (reading_by (call_of D folder (all_given items))) (all_given items) load left (bytes_left streams.input)
-      → WarnsLoaded K (call_of D folder (all_given items)) load first streams.errors
-      → CalledPlaces Writes K U (call_of D folder (all_given items)) left result outputs outputs' first streams'.errors

@@ -6,9 +6,9 @@ use Rattle.secret_rules.specs.Rules.{keywords_of, regex_of}
 use Rattle.secret_rules.specs.Tables.{TellsRules}
 use Rattle.acredact.specs.Arguments.{Given, last_value}
 use Rattle.acredact.specs.LineSizes.{size_in}
-use Rattle.acredact.specs.Loading.{EachGives, Reading, reading_of_lists}
+use Rattle.acredact.specs.Loading.{Reading, reading_of_lists}
 use Rattle.acredact.specs.Parts.{IsAddedSome}
-use Rattle.acredact.specs.Reads.{OfName, ReadsText}
+use Rattle.acredact.specs.Reads.{EachGives, OfName, ReadsText}
 use Rattle.acredact.specs.declared.options.Word.{Word}
 use Rattle.acredact.specs.declared.options.Word.TheVariants.{Rules, After, MaxLine}
 use Rattle.acredact.specs.declared.folder.Folder.{Ghosts as Folders}

@@ -1,7 +1,7 @@
 -- What the options give, one after another, and why they do not.
 use Rattle.acredact.specs.Common.{Bor, ReadFault, Reason, is_input}
-use Rattle.std.specs.Prelude.{◌≡◌, ◌⊎◌, ℕ, ◌<◌, ◌≤◌, Bool, true, false, List, [], ◌∷◌, ◌++◌, Option, Some, None, IfSome, Result, Err, if◌then◌else◌, length, option_map, Vec}
-use Rattle.std.specs.List.{AllZip, filter_map}
+use Rattle.std.specs.Prelude.{◌≡◌, ◌⊎◌, ℕ, ◌<◌, ◌≤◌, Bool, true, false, List, [], ◌∷◌, Option, Some, None, IfSome, Result, Err, if◌then◌else◌, length, option_map, Vec}
+use Rattle.std.specs.List.{Any, filter_map}
 use Rattle.tool_parts.specs.declared.failure.Failure.TheVariants.{OutOfMemory as NoMemory}
 use Rattle.tool_parts.specs.declared.reason.Reason.TheVariants.{OutOfMemory}
 use Rattle.acredact.specs.Pseudonyms.{pseudonym_rule}
@@ -10,8 +10,8 @@ use Rattle.acredact.specs.Forms.{AskedForms, HideSecrets, forms_asked, with_form
 use Rattle.acredact.specs.LineFaults.{IsLineFault, IsListFault, mark_in}
 use Rattle.acredact.specs.Named.{all_named}
 use Rattle.acredact.specs.Parts.{GivesPattern}
-use Rattle.acredact.specs.Reads.{OfName, ReadsText}
-use Rattle.acredact.specs.Tables.{HaveLines, HaveNoEmpty, HoldsBy, Secret, lines_in, secrets_of, stripped_by}
+use Rattle.acredact.specs.Reads.{EachGives, OfName, ReadsText}
+use Rattle.acredact.specs.Tables.{AreOfLines, HaveNoEmpty, Secret, lines_in, secrets_of, stripped_by}
 use Rattle.acredact.specs.Values.{GiveEach, are_refused, first_fault, is_some_value, value_in_line, value_of_entry, whole_in}
 use Rattle.acredact.specs.declared.options.Word.{Word}
 use Rattle.acredact.specs.declared.options.Word.TheVariants.{Env, EnvFile, Forms, IgnoreCase, Pattern, Patterns, Pseudonym, Table, Whole}
@@ -53,8 +53,7 @@ form_by rules table = record { table = table; crlf = rules.crlf }
 pub record HoldsSecrets (rules : Rules) (table : Bool) (text : List ℕ) (secrets : List Secret) : Type 0 where
   pub some : text ≡ [] → rules.allow_empty ≡ true
   pub unmarked : mark_in text ≡ None
-  pub held : AllZip (HoldsBy (form_by rules table)) (lines_in text) secrets
-  pub numbered : HaveLines 0 secrets
+  pub held : AreOfLines (form_by rules table) (lines_in text) secrets
 
 -- some values give these; they may lack one only where that is allowed
 pub record GivesValues (rules : Rules) (values : List (List ℕ)) (secrets : List Secret) : Type 0 where
@@ -103,14 +102,7 @@ OptionGives reading EnvFile value secrets left left' = GivesSecrets reading Vari
 OptionGives reading Whole value secrets left left' = GivesSecrets reading WholeFile value secrets left left'
 OptionGives reading other value secrets left left' = (secrets ≡ []) × (left' ≡ left)
 
--- what all options give, in order, where each gives what this says
-abbrev pub EachGives : {X : Type 0} → (Gives : Given → List X → (left left' : Option (List ℕ)) → Type 0)
-    → List Given → List X → (left left' : Option (List ℕ)) → Type 0
-EachGives Gives [] all left left' = (all ≡ []) × (left' ≡ left)
-EachGives {X} Gives (item ∷ items) all left left' = (first : List X) × (rest : List X) × (all ≡ first ++ rest)
-    × (between : Option (List ℕ)) × Gives item first left between × EachGives Gives items rest between left'
-
--- the secrets that they give
+-- the secrets that all options give, in order
 abbrev pub AreRead : Reading → List Given → List Secret → (left left' : Option (List ℕ)) → Type 0
 AreRead reading given secrets left left' = EachGives (λ item. OptionGives reading item.word item.value) given secrets left left'
 
@@ -277,8 +269,7 @@ CannotLoad reading item failure =
 
 -- one of them does not
 abbrev pub CannotLoadOne : Reading → List Given → Failure → Type 0
-CannotLoadOne reading [] failure = ⊥
-CannotLoadOne reading (item ∷ items) failure = CannotLoad reading item failure ⊎ CannotLoadOne reading items failure
+CannotLoadOne reading given failure = Any (λ item. CannotLoad reading item failure) given
 
 -- or memory runs out, as it may for their forms
 abbrev pub CannotLoadAll : Reading → List Given → Failure → Type 0

@@ -1,6 +1,6 @@
 -- Whether something counts in what is read: what a check looks for.
 use Rattle.acredact.specs.Common.{Consumes, Ghosts, IsAtEnd, MayBe, Memory, Occurrence, Patterns, PositionLimit, Read, ReadFault, Reason, SourceGave, SourceGhosts, Standard, StreamError, TooLong, counted}
-use Rattle.std.specs.Prelude.{◌≡◌, ℕ, ◌||◌, ◌&&◌, not, Bool, true, false, List, [], Option, Some, Result, Ok, Err, IfErr, alloc_error}
+use Rattle.std.specs.Prelude.{◌≡◌, ℕ, ◌||◌, ◌&&◌, not, Bool, MatchBool, true, false, List, [], Option, Some, Result, Ok, Err, IfErr, IfOk, alloc_error}
 use Rattle.std.specs.declared.alloc.AllocError.{AllocError}
 use Rattle.aho_core.specs.declared.error.stream.StreamError.TheVariants.{Match, Write, WriteZero}
 use Rattle.aho_devices.specs.Refusals.{is_read_fault}
@@ -45,8 +45,7 @@ pub record LooksAt {R : Type 0} (S : SourceGhosts R) (r : Redactor) (result : Re
   pub given : List ℕ
   pub ended : Bool
   pub gives : SourceGave S source source' given ended
-  pub unmatched : result ≡ Ok false → (ended ≡ true) × NoneCounts r given
-  pub matched : result ≡ Ok true → (bytes : List ℕ) → MayBe given ended bytes → SomeCounts r bytes
+  pub seen : IfOk result (λ found. MatchBool found ((bytes : List ℕ) → MayBe given ended bytes → SomeCounts r bytes) ((ended ≡ true) × NoneCounts r given))
   pub read_failed : S.failures source' ≡ counted (is_read_fault result) (S.failures source)
   pub only : IfErr result IsLookEnd
 

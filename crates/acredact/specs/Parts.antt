@@ -1,8 +1,8 @@
--- The lines of a pattern that is an argument and has line ends.
-use Rattle.acredact.specs.Common.{flat_map, slice_split, strip_last}
-use Rattle.std.specs.Prelude.{◌≡◌, ◌⊎◌, ℕ, Bool, MatchBool, false, List, [], ◌∷◌, ◌++◌, None, Vec, if◌then◌else◌, length, nat_eq, nat_lt}
-use Rattle.acredact.specs.LineFaults.{HasByte}
-use Rattle.acredact.specs.Tables.{Holds, IsWithout, Secret, secrets_of}
+-- The lines of a pattern that is an argument and has line ends, or a carriage return at its end.
+use Rattle.acredact.specs.Common.{ends_with_byte, flat_map, slice_split, strip_last}
+use Rattle.std.specs.Prelude.{◌≡◌, ◌==◌, ◌||◌, ℕ, Bool, MatchBool, false, List, [], ◌∷◌, ◌++◌, None, Vec, if◌then◌else◌, length, nat_eq, nat_lt}
+use Rattle.std.specs.List.{list_any}
+use Rattle.acredact.specs.Tables.{Holds, Secret, secrets_of}
 use Rattle.acredact.specs.declared.patterns.Rule.{Rule}
 
 -- a pattern that the option of this number gives
@@ -16,11 +16,13 @@ line_secrets list line = if nat_lt (length (strip_last 13 line)) 8 then [] else 
 abbrev pub lines_secrets : ℕ → List ℕ → List Secret
 lines_secrets list value = flat_map (line_secrets list) (slice_split (λ b. nat_eq b 10) value)
 
--- those of all its lines; it has none where there is no line end
+-- whether it has a line end, or a carriage return at its end
+abbrev pub is_of_lines : List ℕ → Bool
+is_of_lines value = list_any (λ byte. byte == 10) value || ends_with_byte 13 value
+
+-- those of all its lines, where it has lines
 abbrev pub ArePartsOf : ℕ → List ℕ → List Secret → Type 0
-ArePartsOf list value parts =
-    (IsWithout 10 value × (parts ≡ []))
-    ⊎ (HasByte 10 value × (parts ≡ lines_secrets list value))
+ArePartsOf list value parts = parts ≡ (if is_of_lines value then lines_secrets list value else [])
 
 -- where lines are patterns too
 abbrev pub ArePartsBy : (wanted : Bool) → ℕ → List ℕ → List Secret → Type 0

@@ -1,14 +1,14 @@
 -- Which of the texts that are written in the place of patterns are clean, so that with what stands beside them they spell no pattern.
-use Rattle.acredact.specs.Common.{Errors, IsMember, Occurrence, Patterns, SinkGhosts, TellsBytes, folded_by, pieces_of}
+use Rattle.acredact.specs.Common.{All, Errors, Occurrence, Patterns, SinkGhosts, TellsBytes, folded_by, pieces_of}
 use Rattle.std.specs.Prelude.{◌≡◌, ◌⊎◌, ℕ, ◌+◌, ◌<◌, Bool, true, false, List, [], ◌∷◌, ◌++◌, Option, Some, None, is_some, length, map, slice_index_or}
 use Rattle.aho_core.specs.Occurs.{OccursIn}
 use Rattle.aho_core.specs.Patterns.{pattern_at}
 use Rattle.aho_core.specs.Search.{plain_search}
-use Rattle.aho_laws.specs.CoverLaws.{AreClean, IsCleanPiece}
+use Rattle.aho_laws.specs.CoverLaws.{IsCleanPiece}
 use Rattle.tool_parts.specs.Asked.{ArePatterns}
 use Rattle.acredact.specs.Messages.{unclean_line}
 use Rattle.acredact.specs.Secrets.{AreCleanBy, Redactor}
-use Rattle.acredact.specs.Spelling.{HoldsByte, IsSpelled}
+use Rattle.acredact.specs.Spelling.{IsSpelled, holds_byte}
 use Rattle.acredact.specs.Tables.{piece_by, secrets_of}
 use Rattle.acredact.specs.declared.clean.Flaw.{Flaw}
 use Rattle.acredact.specs.declared.clean.Flaw.TheVariants.{Empty, Pseudonym, Spells}
@@ -23,23 +23,13 @@ IsJudgeOf judge p = ArePatterns p judge.ignore_case (pieces_of judge.words.now)
 abbrev pub pieces_by : Judge → List (List ℕ)
 pieces_by judge = map (piece_by judge.usual.now) (secrets_of judge.rules.now)
 
--- no word does
-abbrev pub HoldNone : Bool → List (List ℕ) → ℕ → Type 0
-HoldNone ignore_case words byte = (number : ℕ) → number < length words → HoldsByte ignore_case (slice_index_or words number []) byte → ⊥
-
--- this one does, told by its number from 1 on
-abbrev pub IsHolder : Bool → List (List ℕ) → ℕ → ℕ → Type 0
-IsHolder ignore_case words byte told = (number : ℕ) × (told ≡ number + 1) × (number < length words)
-    × HoldsByte ignore_case (slice_index_or words number []) byte
-
 -- the bytes of a word are marked, as they are compared
 abbrev pub IsMarked : Bool → List ℕ → List Bool → Type 0
-IsMarked ignore_case word marks = (byte : ℕ) → IsMember word byte → slice_index_or marks (folded_by ignore_case byte) false ≡ true
+IsMarked ignore_case word marks = All (λ byte. slice_index_or marks (folded_by ignore_case byte) false ≡ true) word
 
 -- and those of all words
 abbrev pub WordsAreMarked : Bool → List (List ℕ) → List Bool → Type 0
-WordsAreMarked ignore_case words marks = (number : ℕ) → number < length words
-    → IsMarked ignore_case (slice_index_or words number []) marks
+WordsAreMarked ignore_case words marks = All (λ word. IsMarked ignore_case word marks) words
 
 -- what was marked stays so
 abbrev pub StayMarked : List Bool → List Bool → Type 0
@@ -48,8 +38,8 @@ StayMarked marks marks' = (place : ℕ) → slice_index_or marks place false ≡
 -- a pattern holds the first or the last byte of a piece, or occurs in it
 abbrev pub Spoils : Patterns → List ℕ → ℕ → Type 0
 Spoils p piece number =
-    ((byte : ℕ) × (rest : List ℕ) × (piece ≡ byte ∷ rest) × HoldsByte p.ignore_case (pattern_at p number) byte)
-    ⊎ (((byte : ℕ) × (front : List ℕ) × (piece ≡ front ++ byte ∷ []) × HoldsByte p.ignore_case (pattern_at p number) byte)
+    ((byte : ℕ) × (rest : List ℕ) × (piece ≡ byte ∷ rest) × (holds_byte p.ignore_case (pattern_at p number) byte ≡ true))
+    ⊎ (((byte : ℕ) × (front : List ℕ) × (piece ≡ front ++ byte ∷ []) × (holds_byte p.ignore_case (pattern_at p number) byte ≡ true))
     ⊎ ((m : Occurrence) × OccursIn p (plain_search piece) m × (m.pattern ≡ number)))
 
 -- this is why a piece is not clean; patterns are told by their numbers from 1 on
@@ -71,11 +61,6 @@ pub record IsUnclean (p : Patterns) (pieces : List (List ℕ)) (unclean : Unclea
   pub before : (other : ℕ) → other < number → IsCleanPiece p (slice_index_or pieces other [])
   pub flaw : IsFlaw p (slice_index_or pieces number []) unclean.flaw
   pub is_not : IsCleanPiece p (slice_index_or pieces number []) → ⊥
-
--- what is answered of pieces: that, and nothing where all are clean
-abbrev pub IsFirstOrNone : Patterns → List (List ℕ) → Option Unclean → Type 0
-IsFirstOrNone p pieces None = AreClean p pieces
-IsFirstOrNone p pieces (Some unclean) = IsUnclean p pieces unclean
 
 -- the first pattern whose piece is not clean, or that a pseudonym can spell
 abbrev pub IsUncleanBy : (named : Bool) → Patterns → List (List ℕ) → Unclean → Type 0

@@ -17,14 +17,14 @@ use Rattle.acredact.specs.Doubts.{TellsDoubts, all_doubt_lines}
 use Rattle.acredact.specs.Files.{BeginsWriting, WritesText}
 use Rattle.acredact.specs.LineRules.{AreRulesRead, most_asked}
 use Rattle.acredact.specs.LongLines.{TellsLong}
-use Rattle.acredact.specs.Loading.{AreGiven, IsKeyGiven, Reading, key_in, key_lent, secrets_by}
+use Rattle.acredact.specs.Loading.{AreGiven, IsKeyGiven, Reading, key_lent, secrets_by}
 use Rattle.acredact.specs.Reads.{EachName, OfName}
 use Rattle.acredact.specs.RuleLines.{IsRuledLine, too_long_line}
 use Rattle.acredact.specs.RunCounts.{CountsTextRuns, CountsAllRuns, CountsFileRuns, HaveRuns, IsRunsLine, TellsAnyTotals, TellsRunTotals}
 use Rattle.acredact.specs.RunPieces.{mixed_rule, pseudonyms_by}
 use Rattle.acredact.specs.Summaries.{no_volume}
 use Rattle.acredact.specs.Tables.{Secret, patterns_in, secrets_of}
-use Rattle.acredact.specs.Volumes.{ReadsVolume}
+use Rattle.acredact.specs.Volumes.{AddsBytes, AddsName, ReadsVolume}
 use Rattle.acredact.specs.declared.options.Word.TheVariants.{AsWord, Forms, IgnoreCase, Pseudonym}
 use Rattle.acredact.specs.declared.options.Item.{Item}
 use Rattle.acredact.specs.declared.folder.Folder.{Ghosts as Folders}
@@ -32,7 +32,6 @@ use Rattle.acredact.specs.declared.patterns.Rule.{Rule as PatternRule}
 use Rattle.acredact.specs.declared.ruled_failure.RuledFailure.{RuledFailure}
 use Rattle.acredact.specs.declared.ruled_files.Lined.{Lined}
 use Rattle.acredact.specs.declared.ruled_load.GivenRules.{GivenRules}
-use Rattle.acredact.specs.declared.ruled_load.KeyedRules.{KeyedRules}
 use Rattle.acredact.specs.declared.ruled_load.LinesReady.{LinesReady}
 use Rattle.acredact.specs.declared.streams.Streams.{Streams}
 use Rattle.acredact.specs.declared.summary.Volume.{Volume}
@@ -73,10 +72,11 @@ unread_of (Err (Stream PositionLimit)) = Ok (Some TooLong)
 unread_of (Err error) = Err error
 
 -- what comes of a text: its redaction was written, or a beginning of it; and where no reason is answered it was read to its end
-pub record LinesOutcome (ruling : Ruling) (result : Result (Option Reason) LineError) (counts counts' : List ℕ) (left left' held held' : Option (List ℕ)) : Type 0 where
+pub record LinesOutcome (ruling : Ruling) (result : Result (Option Reason) LineError) (counts counts' : List ℕ) (volume volume' : Volume) (left left' held held' : Option (List ℕ)) : Type 0 where
   pub whole : result ≡ Ok None → RedactsLines ruling left left' held held'
   pub begun : WritesLines ruling left left' held held'
   pub counted : result ≡ Ok None → CountsTextRuns ruling.covering left left' counts counts'
+  pub read : result ≡ Ok None → AddsBytes volume.bytes volume'.bytes left left'
 
 -- what is redacted so: what the folder holds under a name, where it tells that, and whether the output may go to it
 pub record RuledWork : Type 1 where
@@ -94,10 +94,11 @@ abbrev pub WritesRuled : RuledWork → List ℕ → (left left' held held' : Opt
 WritesRuled work name left left' held held' = OfName work.holds name (λ l l'. WritesLines work.ruling l l' held held') left left'
 
 -- what comes of the file of a name
-pub record NamedOutcome (work : RuledWork) (name : List ℕ) (result : Result (Option Reason) LineError) (counts counts' : List ℕ) (left left' held held' : Option (List ℕ)) : Type 0 where
+pub record NamedOutcome (work : RuledWork) (name : List ℕ) (result : Result (Option Reason) LineError) (counts counts' : List ℕ) (volume volume' : Volume) (left left' held held' : Option (List ℕ)) : Type 0 where
   pub whole : result ≡ Ok None → OfName work.holds name (λ l l'. RedactsLines work.ruling l l' held held') left left'
   pub begun : WritesRuled work name left left' held held'
   pub counted : result ≡ Ok None → CountsFileRuns work.holds work.ruling.covering name left left' counts counts'
+  pub read : result ≡ Ok None → AddsName work.holds name volume.bytes volume'.bytes left left'
 
 -- of each file the redaction was written, one after another
 abbrev pub AreRuled : RuledWork → List (List ℕ) → (left left' held held' : Option (List ℕ)) → Type 0
@@ -170,18 +171,10 @@ load_as secrets rules key = record { secrets = secrets; rules = rules; key = key
 abbrev pub ruled_load : List PatternRule → List Rule → Option (Bor (List ℕ)) → RuledLoad
 ruled_load secrets rules key = load_as (secrets_of secrets) rules (key_lent key)
 
--- these patterns and rules with a key
-abbrev pub load_in : KeyedRules → RuledLoad
-load_in made = load_as (secrets_of made.secrets.rules.items) made.rules (key_in made.secrets.key)
-
--- those that some arguments ask for were read, and the key beside them
-module _ {F X : Type 0} (D : Folders F X) (folder : F) (items : List Item) where
-  abbrev pub AreRulesGivenBy : (left left' : Option (List ℕ)) → GivenRules → Type 0
-  AreRulesGivenBy left left' made = AreRulesGiven (reading_by (call_of D folder (all_given items))) (all_given items) (secrets_of made.secrets.items) made.rules left left'
-
-  abbrev pub AreRulesKeyedBy : (left left' : Option (List ℕ)) → KeyedRules → Type 0
-  AreRulesKeyedBy left left' made =
-      AreRuledLoaded (reading_by (call_of D folder (all_given items))) (all_given items) (load_in made) left left'
+-- those that some arguments ask for were read
+abbrev pub AreRulesGivenBy : {F X : Type 0} → Folders F X → F → List Item → (left left' : Option (List ℕ)) → GivenRules → Type 0
+AreRulesGivenBy D folder items left left' made =
+    AreRulesGiven (reading_by (call_of D folder (all_given items))) (all_given items) (secrets_of made.secrets.items) made.rules left left'
 
 -- the patterns that are searched for: all that occurs counts
 abbrev pub patterns_by_case : List Given → List (List ℕ) → Patterns
@@ -295,10 +288,11 @@ module _ {E : Type 0} (K : SinkGhosts E) where
     pub meanwhile : Errors E
     pub counted : TellsRunTotals K call.given load.secrets load.rules runs volume meanwhile errors'
 
-  -- what comes of a file: its redaction was written and its runs were counted, or a beginning was written; and where it was not read to
-  -- its end that is told
-  pub record LinedFile (work : RuledWork) (name : List ℕ) (result : Result Bool LineError) (counts counts' : List ℕ) (left left' held held' : Option (List ℕ)) (errors errors' : Errors E) : Type 0 where
-    pub whole : IfOk result (λ all. all ≡ true → RedactsRuled work name left left' held held' × CountsFileRuns work.holds work.ruling.covering name left left' counts counts')
+  -- what comes of a file: its redaction was written and its runs and bytes were counted, or a beginning was written; and where it was not
+  -- read to its end that is told
+  pub record LinedFile (work : RuledWork) (name : List ℕ) (result : Result Bool LineError) (counts counts' : List ℕ) (volume volume' : Volume) (left left' held held' : Option (List ℕ)) (errors errors' : Errors E) : Type 0 where
+    pub whole : IfOk result (λ all. all ≡ true → RedactsRuled work name left left' held held' × CountsFileRuns work.holds work.ruling.covering name left left' counts counts'
+        × AddsName work.holds name volume.bytes volume'.bytes left left')
     pub begun : WritesRuled work name left left' held held'
     pub told : TellsOfFiles K (name ∷ []) result errors errors'
 
@@ -331,15 +325,13 @@ module _ {E : Type 0} (K : SinkGhosts E) where
 
 module _ {R : Type 0} {Reads : Readers R} {W : Type 0} (Writes : Writers W) where
   -- what comes of an input, and of the file of a name
-  abbrev pub LinesDone : Result (Option Reason) LineError → (counts counts' : List ℕ)
-      → (input input' : FromRead R Reads) → (output output' : FromWrite W) → Ruling → Type 0
-  LinesDone result counts counts' input input' output output' ruling =
-      LinesOutcome ruling result counts counts' (bytes_left input) (bytes_left input') (output_bytes Writes output) (output_bytes Writes output')
+  pub record LinesDone (result : Result (Option Reason) LineError) (counts counts' : List ℕ) (volume volume' : Volume) (input input' : FromRead R Reads) (output output' : FromWrite W) (ruling : Ruling) : Type 0 where
+    pub is : LinesOutcome ruling result counts counts' volume volume' (bytes_left input) (bytes_left input') (output_bytes Writes output) (output_bytes Writes output')
 
   abbrev pub NamedDone : {F X : Type 0} → Folders F X → F → List ℕ → Result (Option Reason) LineError
-      → (counts counts' : List ℕ) → (input input' : FromRead R Reads) → (output output' : FromWrite W) → Ruling → Type 0
-  NamedDone D folder name result counts counts' input input' output output' ruling =
-      NamedOutcome (ruled_in D folder ruling) name result counts counts' (bytes_left input) (bytes_left input') (output_bytes Writes output) (output_bytes Writes output')
+      → (counts counts' : List ℕ) → (volume volume' : Volume) → (input input' : FromRead R Reads) → (output output' : FromWrite W) → Ruling → Type 0
+  NamedDone D folder name result counts counts' volume volume' input input' output output' ruling =
+      NamedOutcome (ruled_in D folder ruling) name result counts counts' volume volume' (bytes_left input) (bytes_left input') (output_bytes Writes output) (output_bytes Writes output')
 
 module _ {R : Type 0} {Reads : Readers R} {W E : Type 0} (Writes : Writers W) where
   -- what holds from one state of the streams to another
@@ -375,9 +367,9 @@ module _ {R : Type 0} {Reads : Readers R} {W E : Type 0} (Writes : Writers W) wh
 
     -- and of files by what covers lines
     abbrev pub DoesFile : {F X : Type 0} → Folders F X → F → List ℕ → Result Bool LineError
-        → (counts counts' : List ℕ) → (streams streams' : Streams R W E Reads) → Ruling → Type 0
-    DoesFile D folder name result counts counts' streams streams' ruling =
-        Between (LinedFile K (ruled_in D folder ruling) name result counts counts') streams streams'
+        → (counts counts' : List ℕ) → (volume volume' : Volume) → (streams streams' : Streams R W E Reads) → Ruling → Type 0
+    DoesFile D folder name result counts counts' volume volume' streams streams' ruling =
+        Between (LinedFile K (ruled_in D folder ruling) name result counts counts' volume volume') streams streams'
 
     abbrev pub DoesFiles : {F X : Type 0} → Folders F X → F → List (Bor (List ℕ)) → Result Bool LineError
         → (counts counts' : List ℕ) → (streams streams' : Streams R W E Reads) → Ruling → Type 0

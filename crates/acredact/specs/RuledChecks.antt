@@ -1,5 +1,5 @@
 -- What a check by rules sees in the lines of files, and what it writes of that.
-use Rattle.acredact.specs.Common.{Appends, AreLineRuns, Bor, Covering, Errors, FromRead, Keeps, MayBe, Occurrence, PositionLimit, Read, ReadFault, Readers, Rule, SinkGhosts, SourceGave, SourceGhosts, StartsWith, TellsSome, TooLong, Writers, as_shown, bytes_left, name_bytes, output_bytes, stream_lines}
+use Rattle.acredact.specs.Common.{Appends, AreLineRuns, Bor, Covering, Errors, FromRead, Keeps, MayBe, Occurrence, PositionLimit, Read, ReadFault, Readers, Rule, SinkGhosts, StartsWith, TellsSome, TooLong, Writers, as_shown, bytes_left, name_bytes, output_bytes, stream_lines}
 use Rattle.std.specs.Prelude.{◌≡◌, ◌⊎◌, ℕ, ◌+◌, ◌-◌, ◌<◌, ◌^◌, min, nat_lt, ◌&&◌, ◌||◌, not, Bool, true, false, List, [], ◌∷◌, ◌++◌, Option, None, Some, Result, Ok, Err, IfOk, codes, decimal, if◌then◌else◌, length, replicate, slice_get, slice_index_or, slice_set, string_bytes}
 use Rattle.std.specs.Borrow.{MutBor}
 use Rattle.aho_automaton.specs.declared.automaton.Automaton.{Ghosts as Automata}
@@ -215,18 +215,14 @@ pub record SeesAllLines (quest : LineQuest) (names : List (List ℕ)) (found : B
 abbrev pub BeginAllTelling : LineQuest → List (List ℕ) → (left left' held held' : Option (List ℕ)) → Type 0
 BeginAllTelling quest names left left' held held' = EachName (BeginsNamedTelling quest) names left left' held held'
 
--- what the end of the lines means for a file: one that cannot be read is told, and anything else ends the call
-abbrev pub look_of_lines : Result Bool LineError → Result Look LineError
-look_of_lines (Ok true) = Ok Found
-look_of_lines (Ok false) = Ok Clean
-look_of_lines (Err (Stream (Read fault))) = Ok (Unread ReadFault)
-look_of_lines (Err (Stream PositionLimit)) = Ok (Unread TooLong)
-look_of_lines (Err error) = Err error
-
--- whether something was found, where all lines were told
-abbrev pub found_of : Result (Unit {0}) LineError → Bool → Result Bool LineError
-found_of (Ok done) found = Ok found
-found_of (Err error) found = Err error
+-- what the end of the lines means for a file, by whether something was found in those that were told: one that cannot be read is told, and
+-- anything else ends the call
+abbrev pub look_of_lines : Result (Unit {0}) LineError → Bool → Result Look LineError
+look_of_lines (Ok done) true = Ok Found
+look_of_lines (Ok done) false = Ok Clean
+look_of_lines (Err (Stream (Read fault))) found = Ok (Unread ReadFault)
+look_of_lines (Err (Stream PositionLimit)) found = Ok (Unread TooLong)
+look_of_lines (Err error) found = Err error
 
 -- what comes of a text, and of the file of a name
 pub record LookedText (covering : Covering) (labels : Labels) (name : List ℕ) (result : Result Look LineError) (left left' held held' : Option (List ℕ)) : Type 0 where
@@ -339,32 +335,9 @@ StaysCovered G cover cover' = IfCovers G cover (IsCoveredBy G cover')
 abbrev pub IsAtFirst : Findings → Type 0
 IsAtFirst findings = (findings.line ≡ 1) × (findings.found ≡ false)
 
--- the stream has ended, and the runs of its lines were told
-pub record TellsGiven {R W : Type 0} (S : SourceGhosts R) (K : SinkGhosts W) (findings : Findings) (found : Bool) (source source' : R) (output output' : W) (covering : Covering) : Type 0 where
-  pub text : List ℕ
-  pub gives : SourceGave S source source' text true
-  pub runs : List (List Occurrence)
-  pub are : AreLineRuns covering [] (stream_lines text) runs
-  pub found_is : found ≡ is_some_line runs
-  pub told : Appends (K.taken output) (K.taken output') (lines_findings (labels_of findings.legend) findings.name.now 1 runs)
-
--- or a beginning of what tells of some first lines
-pub record BeginsGiven {R W : Type 0} (S : SourceGhosts R) (K : SinkGhosts W) (findings : Findings) (source source' : R) (output output' : W) (covering : Covering) : Type 0 where
-  pub given : List ℕ
-  pub ended : Bool
-  pub gives : SourceGave S source source' given ended
-  pub part : List ℕ
-  pub begins : BeginsFindings covering (labels_of findings.legend) findings.name.now given ended part
-  pub written : Appends (K.taken output) (K.taken output') part
-
 -- what is looked for in a folder
 abbrev pub quest_in : {F X : Type 0} → Folders F X → Checked F → Covering → LineQuest
 quest_in D checked covering = record { holds = D.holds checked.folder.now; covering = covering; labels = labels_of checked.legend }
-
--- what comes of the lines of a source
-pub record SaysLines {R W : Type 0} (S : SourceGhosts R) (K : SinkGhosts W) (findings : Findings) (result : Result Bool LineError) (source source' : R) (output output' : W) (covering : Covering) : Type 0 where
-  pub whole : IfOk result (λ found. TellsGiven S K findings found source source' output output' covering)
-  pub begun : BeginsGiven S K findings source source' output output' covering
 
 module _ {W : Type 0} (K : SinkGhosts W) where
   module _ {R : Type 0} {Reads : Readers R} where

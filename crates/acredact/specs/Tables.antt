@@ -1,7 +1,7 @@
 -- What the lines of a file of patterns and of a table hold.
 use Rattle.acredact.specs.Common.{All, Bor, ends_with_byte, flat_map, slice_split, strip_last}
 use Rattle.std.specs.Prelude.{◌≡◌, ℕ, ◌+◌, ◌-◌, ◌^◌, ◌≤◌, min, Bool, true, false, List, [], ◌∷◌, ◌++◌, Option, Some, None, Vec, codes, length, map, nat_eq, option_map, unwrap_or, if◌then◌else◌}
-use Rattle.std.specs.List.{AllZip}
+use Rattle.acredact.specs.Reads.{EachGives}
 use Rattle.acredact.specs.declared.patterns.Form.{Form}
 use Rattle.acredact.specs.declared.patterns.Place.{Place}
 use Rattle.acredact.specs.declared.patterns.Rule.{Rule}
@@ -86,10 +86,17 @@ pub record StandsHere (place : Place) (secret : Secret) : Type 0 where
   pub list_is : secret.list ≡ place.list
   pub line_is : secret.line ≡ place.line
 
--- secrets stand in one line each, behind some lines; a number stops at the greatest
-abbrev pub HaveLines : ℕ → List Secret → Type 0
-HaveLines before [] = Unit {0}
-HaveLines before (secret ∷ secrets) = (secret.line ≡ min (before + 1) (2 ^ 64 - 1)) × HaveLines (before + 1) secrets
+-- a line of a file gives the secret that it holds, numbered behind the lines before it; a number stops at the greatest
+pub record GivesLine (form : Form) (line : List ℕ) (secrets : List Secret) (before behind : ℕ) : Type 0 where
+  pub secret : Secret
+  pub are : secrets ≡ secret ∷ []
+  pub held : HoldsBy form line secret
+  pub numbered : secret.line ≡ min behind (2 ^ 64 - 1)
+  pub counted : behind ≡ before + 1
+
+-- and some lines give one each, in order
+abbrev pub AreOfLines : Form → List (List ℕ) → List Secret → Type 0
+AreOfLines form lines secrets = EachGives (GivesLine form) lines secrets 0 (length lines)
 
 -- what is written for a pattern: its own replacement, or a text where it has none
 abbrev pub piece_by : List ℕ → Secret → List ℕ
@@ -106,8 +113,7 @@ pub record IsAdded (Is : Secret → Type 0) (place : Place) (old new : List Secr
 pub record IsAddedList (form : Form) (old new : List Secret) (lines : List (List ℕ)) : Type 0 where
   pub more : List Secret
   pub grown : new ≡ old ++ more
-  pub held : AllZip (HoldsBy form) lines more
-  pub numbered : HaveLines 0 more
+  pub held : AreOfLines form lines more
 
 -- the same, of the rules before and after
 abbrev pub AddsLine : {Z : Type 0} → Bool → List ℕ → Place → (rules rules' : Vec Rule Z) → Type 0

@@ -1,6 +1,6 @@
 -- How often the text of each pattern was written, by the ranges that were replaced of each text, file after file.
-use Rattle.acredact.specs.Common.{FromRead, Occurrence, Readers, Reason, SinkGhosts, SourceGave, SourceGhosts, StreamError, bytes_left, name_bytes}
-use Rattle.std.specs.Prelude.{◌≡◌, ℕ, ◌-◌, ◌<◌, ◌^◌, min, Bool, true, List, [], ◌∷◌, ◌++◌, Option, None, Result, Ok, OnOk, length, slice_index}
+use Rattle.acredact.specs.Common.{Occurrence, Readers, SinkGhosts, SourceGave, SourceGhosts, StreamError, bytes_left, name_bytes}
+use Rattle.std.specs.Prelude.{◌≡◌, ℕ, ◌-◌, ◌<◌, ◌^◌, min, Bool, true, List, [], ◌∷◌, ◌++◌, Option, Result, Ok, OnOk, length, slice_index}
 use Rattle.aho_cover.specs.Counting.{CountsThese, runs_named}
 use Rattle.acredact.specs.Files.{Work, work_of}
 use Rattle.acredact.specs.Reads.{OfName, ReadsText}
@@ -59,21 +59,7 @@ module _ {R W : Type 0} (S : SourceGhosts R) (K : SinkGhosts W) (result : Result
     pub outcome : StreamOutcome S K r result source source' sink sink'
     pub counted : OnOk result (CountsOfStream S r source source' counts counts')
 
-module _ {R : Type 0} {Reads : Readers R} where
-  module _ {F X : Type 0} (D : Folders F X) (job : Job F) where
-    -- where the file of a name was read to its end, counts have grown by its ranges
-    abbrev pub CountsFile : List ℕ → Result (Option Reason) StreamError
-        → (input input' : FromRead R Reads) → (counts counts' : List ℕ) → Redactor → Type 0
-    CountsFile name result input input' counts counts' r =
-        result ≡ Ok None → CountsOfName (bytes_left input) (bytes_left input') counts counts' (work_of D job r) name
-
-    module _ {W E Z : Type 0} where
-      -- the same, where it is answered whether it was
-      abbrev pub CountsTold : List ℕ → Result Bool Z → (streams streams' : Streams R W E Reads) → (counts counts' : List ℕ) → Redactor → Type 0
-      CountsTold name result streams streams' counts counts' r =
-          result ≡ Ok true → CountsOfName (bytes_left streams.input) (bytes_left streams'.input) counts counts' (work_of D job r) name
-
-      -- and of all files
-      abbrev pub CountsJob : Result Bool Z → (streams streams' : Streams R W E Reads) → (counts counts' : List ℕ) → Redactor → Type 0
-      CountsJob result streams streams' counts counts' r =
-          result ≡ Ok true → CountsOfNames (bytes_left streams.input) (bytes_left streams'.input) counts counts' (work_of D job r) (name_bytes job.names.now)
+-- where all files of a job were read to their ends, counts have grown by their ranges
+abbrev pub CountsJob : {R W E Z F X : Type 0} {Reads : Readers R} → Folders F X → Job F → Result Bool Z → (streams streams' : Streams R W E Reads) → (counts counts' : List ℕ) → Redactor → Type 0
+CountsJob D job result streams streams' counts counts' r =
+    result ≡ Ok true → CountsOfNames (bytes_left streams.input) (bytes_left streams'.input) counts counts' (work_of D job r) (name_bytes job.names.now)

@@ -5,6 +5,7 @@ use Rattle.std.specs.List.{list_all, list_any, starts_with}
 use Rattle.aho_cover.specs.Words.{is_word_part}
 use Rattle.acredact.specs.Forms.{split_first}
 use Rattle.acredact.specs.Parts.{GivesPattern}
+use Rattle.acredact.specs.Reads.{EachGives}
 use Rattle.acredact.specs.Tables.{Secret, stripped_by}
 use Rattle.acredact.specs.declared.patterns.BadLine.{BadLine}
 use Rattle.acredact.specs.declared.patterns.Form.{Form}
@@ -98,6 +99,4 @@ abbrev pub GivesValue : (parts : Bool) → List ℕ → List Secret → Type 0
 GivesValue parts value secrets = MatchBool (no_bytes value) (secrets ≡ []) (GivesPattern parts value secrets)
 
 abbrev pub GiveEach : (parts : Bool) → List (List ℕ) → List Secret → Type 0
-GiveEach parts [] secrets = secrets ≡ []
-GiveEach parts (value ∷ values) secrets =
-    (first : List Secret) × (rest : List Secret) × (secrets ≡ first ++ rest) × GivesValue parts value first × GiveEach parts values rest
+GiveEach parts values secrets = EachGives {S = Unit {0}} (λ value some before after. GivesValue parts value some) values secrets tt tt

@@ -1,5 +1,5 @@
 -- How much of files was read: how many of them, and how many bytes.
-use Rattle.acredact.specs.Common.{Bor, FromRead, Readers, SourceGave, SourceGhosts, bytes_left, name_bytes}
+use Rattle.acredact.specs.Common.{Bor, Readers, SourceGave, SourceGhosts, bytes_left, name_bytes}
 use Rattle.std.specs.Prelude.{◌≡◌, ℕ, ◌+◌, ◌-◌, ◌^◌, min, true, List, [], ◌∷◌, Bool, Option, Result, Ok, if◌then◌else◌, is_some, length}
 use Rattle.aho_cover.specs.Counting.{grown_count}
 use Rattle.acredact.specs.Reads.{OfName, ReadsText}
@@ -36,21 +36,8 @@ module _ (holds : List ℕ → Option (List ℕ)) where
     pub bytes : AddsNames names volume.bytes volume'.bytes left left'
     pub files : volume'.files ≡ grown_count volume.files (length names)
 
--- by what an input had left and has left
-module _ {R : Type 0} {Reads : Readers R} where
-  abbrev pub AddsText : (volume volume' : Volume) → (input input' : FromRead R Reads) → Type 0
-  AddsText volume volume' input input' = AddsBytes volume.bytes volume'.bytes (bytes_left input) (bytes_left input')
-
-  abbrev pub AddsFile : (List ℕ → Option (List ℕ)) → List ℕ → (volume volume' : Volume) → (input input' : FromRead R Reads) → Type 0
-  AddsFile holds name volume volume' input input' = AddsName holds name volume.bytes volume'.bytes (bytes_left input) (bytes_left input')
-
 module _ {F X : Type 0} (D : Folders F X) {R W E Z : Type 0} {Reads : Readers R} where
-  -- a file that was read to its end was counted
-  abbrev pub OneVolume : F → List ℕ → Result Bool Z → (volume volume' : Volume) → (streams streams' : Streams R W E Reads) → Type 0
-  OneVolume folder name result volume volume' streams streams' = result ≡ Ok true
-      → AddsName (D.holds folder) name volume.bytes volume'.bytes (bytes_left streams.input) (bytes_left streams'.input)
-
-  -- and so were all files
+  -- all files that were read to their ends were counted
   abbrev pub AllVolume : F → List (Bor (List ℕ)) → Result Bool Z
       → (volume volume' : Volume) → (streams streams' : Streams R W E Reads) → Type 0
   AllVolume folder names result volume volume' streams streams' = result ≡ Ok true

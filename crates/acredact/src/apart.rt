@@ -233,10 +233,8 @@ fn tell_names_by<E: Sink>(errors: &mut Errors<'_, E>, told: Told, names: &[Vec<u
 fn tell_names<E: Sink>(errors: &mut Errors<'_, E>, names: &[Vec<u8>])
     ensures told { TellsBytes E.Sink errors.old errors.new (unnamed_lines (bytes_of_names names.now)) }
 {
-    let mut rest = names;
-    while let Some((name, behind)) = rest.split_first() {
+    for name in names {
         tell_shown(errors, PROGRAM, name.as_slice(), None, NO_TEXT);
-        rest = behind;
     }
 }
 

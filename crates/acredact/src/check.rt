@@ -1,13 +1,11 @@
 //! A check: whether something would be replaced in files. It writes nothing but warnings and failures.
 
-ghost use Rattle.std.specs.Prelude.{◌≡◌, IfErr, OnOk};
+ghost use Rattle.std.specs.Prelude.{◌≡◌, OnOk};
 ghost use Rattle.chromesquid.specs.Searcher.{ForItsPatterns};
 ghost use Rattle.acredact.specs.Arguments.{GivesNoPattern, all_given};
-ghost use Rattle.acredact.specs.Builds.{patterns_by_given};
-ghost use Rattle.acredact.specs.Checks.{ChecksGiven, EndsCheck, IsBuildFailure, SeesRules, SeesSearched};
+ghost use Rattle.acredact.specs.Checks.{ChecksGiven, EndsCheck, SeesSearched};
 ghost use Rattle.acredact.specs.Looks.{CanLook};
 ghost use Rattle.acredact.specs.Statuses.{check_status};
-ghost use Rattle.acredact.specs.Tables.{HaveNoEmpty, patterns_in, secrets_of};
 
 use crate::doubts::warn_of_lists;
 use crate::failure::{FAILED, Failure, report};
@@ -16,7 +14,6 @@ use crate::load::{lists_of, rules};
 use crate::look::{Searched, Verdict, look_at_files};
 use crate::mistakes::Mistake;
 use crate::options::{Item, Word, gives_pattern, has, words};
-use crate::patterns::Rule;
 use crate::prepare::ready_of;
 use chromesquid::{AhoCorasick, Automaton, FromRead, Sink};
 use std::alloc::{AllocError, Global};
@@ -80,38 +77,21 @@ fn check_given<'a, F: Folder, I: Read, E: Sink>(
     let rules = loaded.as_slice();
     let strict = has(given, Word::Strict);
     match warn_of_lists(errors, given, rules, strict) {
-        Ok(()) => check_rules(alloc, given, rules, folder, input, errors),
-        Err(failure) => Err(failure),
+        Ok(()) => {}
+        Err(failure) => return Err(failure),
     }
-}
-
-/// Looks for the patterns of these rules in each file.
-fn check_rules<'a, F: Folder, I: Read, E: Sink>(
-    alloc: Global,
-    given: &[Item<'a>],
-    rules: &[Rule],
-    folder: &F,
-    input: &mut FromRead<I>,
-    errors: &mut Errors<'_, E>,
-) -> Result<Verdict, Failure<'a>>
-    requires some { HaveNoEmpty (secrets_of rules.now) }
-    ensures sees { SeesRules E.Sink F.Folder folder.now (all_given given.now) rules.now
-        result input.old input.new errors.old errors.new }
-    ensures fails { IfErr result (IsBuildFailure
-        (patterns_by_given (all_given given.now) (patterns_in (secrets_of rules.now)))) }
-{
-    match ready_of(alloc, given, rules, false) {
-        Ok(ready) => {
-            let files = Searched {
-                alloc,
-                folder,
-                names: ready.names.as_slice(),
-                words: words(given),
-            };
-            Ok(look_by(&ready.searcher, &files, input, errors)?)
-        }
-        Err(failure) => Err(failure),
-    }
+    let ready = match ready_of(alloc, &*given, rules, false) {
+        Ok(ready) => ready,
+        Err(failure) => return Err(failure),
+    };
+    let files = Searched {
+        alloc,
+        folder,
+        names: ready.names.as_slice(),
+        words: words(given),
+    };
+    let verdict = look_by(&ready.searcher, &files, input, errors)?;
+    Ok(verdict)
 }
 
 /// Looks at each file by the automaton that the searcher holds.

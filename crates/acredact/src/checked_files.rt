@@ -2,7 +2,7 @@
 
 ghost use Rattle.std.specs.Prelude.{◌≡◌, OnOk, true};
 ghost use Rattle.secret_rules.specs.Ready.{CanCoverLines};
-ghost use Rattle.acredact.specs.RuledChecks.{IfCovers, IsAtFirst, LookedFile, LookedInput, SeesFile, SeesFiles, StaysCovered, SaysLines, found_of, look_of_lines};
+ghost use Rattle.acredact.specs.RuledChecks.{IfCovers, IsAtFirst, LookedFile, LookedInput, SeesFile, SeesFiles, StaysCovered, look_of_lines};
 
 use crate::failure::tell_output;
 use crate::files::{is_input, opened};
@@ -11,7 +11,7 @@ use crate::folder::Folder;
 use crate::legend::Legend;
 use crate::look::{Look, Verdict, both_seen, tell_look, verdict_of};
 use crate::teller::Teller;
-use chromesquid::{Automaton, FromRead, Sink, Source, StreamError};
+use chromesquid::{Automaton, FromRead, Sink, StreamError};
 use secret_rules::{LineCover, LineError, visit_lines};
 use std::alloc::Global;
 use std::io::Read;
@@ -55,19 +55,12 @@ pub fn check_files<A: Automaton, F: Folder, I: Read, W: Sink, E: Sink>(
         found: false,
         all: true,
     };
-    let mut rest = names;
-    while !rest.is_empty() {
-        let seen = check_told(cover, checked, rest[0], input, output, errors)?;
+    for name in names {
+        let seen = check_told(cover, checked, *name, input, output, errors)?;
         verdict = both_seen(verdict, seen);
-        rest = &rest[1..];
     }
     output.flush()?;
     Ok(verdict)
-}
-
-/// Whether the output goes to the file of this name, where something may be told there.
-fn is_told_to<F: Folder>(checked: &Checked<'_, '_, '_, F>, name: &str) -> bool {
-    checked.tells && checked.folder.is_output(name)
 }
 
 /// Looks at a file, and answers what is seen of it. One that was not read to its end is told, and so is one that the output goes to: it is
@@ -86,7 +79,7 @@ fn check_told<A: Automaton, F: Folder, I: Read, W: Sink, E: Sink>(
     ensures still { StaysCovered A.Automaton cover.old cover.new }
     ensures ready { CanCoverLines A.Automaton cover.new }
 {
-    if is_told_to(checked, name) {
+    if checked.tells && checked.folder.is_output(name) {
         tell_output(errors, name);
         return Ok(Verdict {
             found: false,
@@ -131,7 +124,7 @@ fn check_file<A: Automaton, F: Folder, I: Read, W: Sink>(
     }
 }
 
-/// Looks at what the input gives.
+/// Looks at what the input gives, and tells what is found in its lines.
 fn check_input<A: Automaton, I: Read, W: Sink>(
     cover: &mut LineCover<'_, '_, A>,
     findings: Findings<'_, '_, '_>,
@@ -146,85 +139,21 @@ fn check_input<A: Automaton, I: Read, W: Sink>(
     ensures ready { CanCoverLines A.Automaton cover.new }
 {
     input.restart();
-    look_of_lines(tell_lines(cover, findings, input, output))
-}
-
-/// Tells what is found in the lines that a source gives, and answers whether something is.
-fn tell_lines<A: Automaton, R: Source, W: Sink>(
-    cover: &mut LineCover<'_, '_, A>,
-    findings: Findings<'_, '_, '_>,
-    source: &mut R,
-    sink: &mut W,
-) -> Result<bool, LineError>
-    requires ready { CanCoverLines A.Automaton cover.old }
-    requires fresh { IsAtFirst findings }
-    ensures tells { IfCovers A.Automaton cover.old (SaysLines R.Source W.Sink findings.entry
-        result source.old source.new sink.old sink.new) }
-    ensures still { StaysCovered A.Automaton cover.old cover.new }
-    ensures ready { CanCoverLines A.Automaton cover.new }
-{
-    let told = tell_with(
-        cover,
-        source,
-        Teller {
-            output: sink,
-            findings,
-        },
-    );
-    let Told { output, done } = told;
-    let _output = output;
-    done
-}
-
-/// What comes of the lines of a source.
-#[derive(Drop)]
-struct Told<'o, W> {
-    /// Where they were told.
-    output: &'o mut W,
-    /// Whether something was found, if they were read to their end.
-    done: Result<bool, LineError>,
-}
-
-/// Has what tells of lines take those that a source gives.
-fn tell_with<'o, A: Automaton, R: Source, W: Sink>(
-    cover: &mut LineCover<'_, '_, A>,
-    source: &mut R,
-    teller: Teller<'o, '_, '_, '_, W>,
-) -> Told<'o, W>
-    requires ready { CanCoverLines A.Automaton cover.old }
-    requires fresh { IsAtFirst teller.findings }
-    ensures tells { IfCovers A.Automaton cover.old (SaysLines R.Source W.Sink teller.entry.findings
-        result.done source.old source.new teller.entry.output.now result.output.now) }
-    ensures same { result.output.ghost_name ≡ teller.entry.output.ghost_name }
-    ensures still { StaysCovered A.Automaton cover.old cover.new }
-    ensures ready { CanCoverLines A.Automaton cover.new }
-{
-    let mut teller = teller;
-    let done = visit_lines(cover, source, &mut teller);
+    let mut teller = Teller { output, findings };
+    let done = visit_lines(cover, input, &mut teller);
     let Teller { output, findings } = teller;
-    Told {
-        output,
-        done: found_of(done, findings.found),
-    }
+    let _output = output;
+    look_of_lines(done, findings.found)
 }
 
-/// Whether something was found, where all lines were told.
-fn found_of(done: Result<(), LineError>, found: bool) -> Result<bool, LineError>
-    ensures found { result ≡ found_of done found }
+/// What a file is found to be, by what is answered of its lines and whether something was found in those that were told; any other error
+/// ends the program.
+fn look_of_lines(done: Result<(), LineError>, found: bool) -> Result<Look, LineError>
+    ensures look { result ≡ look_of_lines done found }
 {
     match done {
-        Ok(()) => Ok(found),
-        Err(error) => Err(error),
-    }
-}
-
-/// What a file is found to be, by what is answered of its lines; any other error ends the program.
-fn look_of_lines(done: Result<bool, LineError>) -> Result<Look, LineError>
-    ensures look { result ≡ look_of_lines done }
-{
-    match done {
-        Ok(true) => Ok(Look::Found),
-        Ok(false) => Ok(Look::Clean),
+        Ok(()) if found => Ok(Look::Found),
+        Ok(()) => Ok(Look::Clean),
         Err(LineError::Stream(StreamError::Read(_))) => Ok(Look::Unread(Reason::ReadFault)),
         Err(LineError::Stream(StreamError::PositionLimit)) => {
             Ok(Look::Unread(Reason::PositionLimit))

@@ -4,17 +4,16 @@
 //! A pseudonym begins with `[`, ends with `]`, and between them it holds no other bytes than those of `redacted:` and hexadecimal digits. So
 //! it cannot spell a pattern with what stands beside it where each pattern holds a byte that is none of these, and neither `[` nor `]`.
 
-ghost use Rattle.std.specs.Prelude.{◌≡◌, MatchBool, IfNone, IfSome, IsOk, length, true};
+ghost use Rattle.std.specs.Prelude.{◌≡◌, IfNone, IfSome, IsOk, length};
 ghost use Rattle.aho_core.specs.Bytes.{folded_by};
 ghost use Rattle.aho_core.specs.Occurs.{OccursIn};
 ghost use Rattle.aho_core.specs.Patterns.{Patterns};
 ghost use Rattle.aho_core.specs.Replacement.{pieces_of};
 ghost use Rattle.aho_core.specs.Search.{plain_search};
 ghost use Rattle.aho_core.specs.declared.search.Anchored.TheVariants.{No};
-ghost use Rattle.aho_laws.specs.CoverLaws.{IsCleanPiece};
-ghost use Rattle.acredact.specs.Pieces.{HoldNone, IsFirstOrNone, IsFlawOrNone, IsHolder, IsJudgeOf, IsJudgedBy, IsMarked, StayMarked, WordsAreMarked, pieces_by};
+ghost use Rattle.acredact.specs.Pieces.{IsFlawOrNone, IsJudgeOf, IsJudgedBy, IsMarked, StayMarked, WordsAreMarked, pieces_by};
 ghost use Rattle.acredact.specs.Secrets.{IfOf, NoneOccurs};
-ghost use Rattle.acredact.specs.Spelling.{HoldsByte, IsFirstSpelled, IsUnlike, LiesInside, MayBeSpelled, StandsOutside, is_inside};
+ghost use Rattle.acredact.specs.Spelling.{IsFirstSpelled, holder_in, holds_byte, is_inside, lies_inside, may_be_spelled};
 ghost use Rattle.acredact.specs.Tables.{piece_by, secret_of};
 
 use crate::patterns::Rule;
@@ -76,28 +75,10 @@ pub fn unclean_of<A: Automaton>(
         return first_spelled(judge.words, judge.ignore_case);
     }
     let marks = marks_of(judge.words, judge.ignore_case);
-    first_unclean(automaton, judge, &marks)
-}
-
-/// The first pattern whose piece is not clean.
-fn first_unclean<A: Automaton>(
-    automaton: &A,
-    judge: &Judge<'_, '_>,
-    marks: &[bool],
-) -> Option<Unclean>
-    requires of { (p : Patterns) × A.is_of automaton.now p }
-    requires starts { IsOk (A.start automaton.now No) }
-    requires one_each { length judge.now.rules.now ≡ length judge.now.words.now }
-    requires sized { length marks.now ≡ 256 }
-    requires marked { WordsAreMarked judge.now.ignore_case (pieces_of judge.now.words.now) marks.now }
-    ensures first { IfOf A.Automaton automaton.now (λ p.
-        IsJudgeOf judge.now p →
-        IsFirstOrNone p (pieces_by judge.now) result) }
-{
-    let usual = flaw_of(automaton, judge, marks, judge.usual).is_none();
+    let usual = flaw_of(automaton, judge, &marks, judge.usual);
     let mut at = 0;
     while at < judge.rules.len() {
-        match flaw_of_rule(automaton, judge, marks, &judge.rules[at], usual) {
+        match flaw_of_rule(automaton, judge, &marks, &judge.rules[at], usual) {
             Some(flaw) => {
                 return Some(Unclean {
                     number: at + 1,
@@ -110,13 +91,13 @@ fn first_unclean<A: Automaton>(
     None
 }
 
-/// Why the piece of a rule is not clean, where it is not. The usual one is not looked at again where that is known to be clean.
+/// Why the piece of a rule is not clean, where it is not, by what was found of the usual one.
 fn flaw_of_rule<A: Automaton>(
     automaton: &A,
     judge: &Judge<'_, '_>,
     marks: &[bool],
     rule: &Rule,
-    usual: bool,
+    usual: Option<Flaw>,
 ) -> Option<Flaw>
     requires of { (p : Patterns) × A.is_of automaton.now p }
     requires starts { IsOk (A.start automaton.now No) }
@@ -124,19 +105,14 @@ fn flaw_of_rule<A: Automaton>(
     requires marked { WordsAreMarked judge.now.ignore_case (pieces_of judge.now.words.now) marks.now }
     requires usual { IfOf A.Automaton automaton.now (λ p.
         IsJudgeOf judge.now p →
-        usual ≡ true → IsCleanPiece p judge.now.usual.now) }
+        IsFlawOrNone p judge.now.usual.now usual) }
     ensures flaw { IfOf A.Automaton automaton.now (λ p.
         IsJudgeOf judge.now p →
         IsFlawOrNone p (piece_by judge.now.usual.now (secret_of rule.now)) result) }
 {
     match &rule.replacement {
         Some(own) => flaw_of(automaton, judge, marks, own.as_slice()),
-        None => {
-            if usual {
-                return None;
-            }
-            flaw_of(automaton, judge, marks, judge.usual)
-        }
+        None => usual,
     }
 }
 
@@ -189,34 +165,26 @@ fn found_in<A: Automaton>(automaton: &A, piece: &[u8]) -> Option<Match>
 fn holder_of(judge: &Judge<'_, '_>, marks: &[bool], byte: u8) -> Option<usize>
     requires sized { length marks.now ≡ 256 }
     requires marked { WordsAreMarked judge.now.ignore_case (pieces_of judge.now.words.now) marks.now }
-    ensures holder { IfSome result (IsHolder judge.now.ignore_case (pieces_of judge.now.words.now) byte) }
-    ensures none { IfNone result (HoldNone judge.now.ignore_case (pieces_of judge.now.words.now) byte) }
+    ensures holder { result ≡ holder_in judge.now.ignore_case (pieces_of judge.now.words.now) byte }
 {
     if !marks[folded(byte, judge.ignore_case) as usize] {
         return None;
     }
-    let mut at = 0;
-    while at < judge.words.len() {
-        if holds(judge.words[at], judge.ignore_case, byte) {
+    for (at, word) in judge.words.iter().enumerate() {
+        if holds(word, judge.ignore_case, byte) {
             return Some(at + 1);
         }
-        at += 1;
     }
     None
 }
 
 /// Whether a word holds a byte.
-pub fn holds(word: &[u8], ignore_case: bool, byte: u8) -> bool
-    ensures holds { MatchBool result (HoldsByte ignore_case word.now byte)
-        (HoldsByte ignore_case word.now byte → ⊥) }
+fn holds(word: &[u8], ignore_case: bool, byte: u8) -> bool
+    ensures holds { result ≡ holds_byte ignore_case word.now byte }
 {
     let wanted = folded(byte, ignore_case);
-    for other in word {
-        if folded(*other, ignore_case) == wanted {
-            return true;
-        }
-    }
-    false
+    word.iter()
+        .any(|other| folded(*other, ignore_case) == wanted)
 }
 
 /// The bytes that some word holds, as they are compared.
@@ -253,25 +221,23 @@ pub fn folded(byte: u8, ignore_case: bool) -> u8
 }
 
 /// The first pattern that a pseudonym can spell.
-pub fn first_spelled(words: &[&[u8]], ignore_case: bool) -> Option<Unclean>
+fn first_spelled(words: &[&[u8]], ignore_case: bool) -> Option<Unclean>
     ensures first { IsFirstSpelled ignore_case (pieces_of words.now) result }
 {
-    let mut at = 0;
-    while at < words.len() {
-        if may_be_spelled(words[at], ignore_case) {
+    for (at, word) in words.iter().enumerate() {
+        if may_be_spelled(word, ignore_case) {
             return Some(Unclean {
                 number: at + 1,
                 flaw: Flaw::Pseudonym,
             });
         }
-        at += 1;
     }
     None
 }
 
 /// Whether a pseudonym can spell a word.
 fn may_be_spelled(word: &[u8], ignore_case: bool) -> bool
-    ensures spelled { MatchBool result (MayBeSpelled ignore_case word.now) (IsUnlike ignore_case word.now) }
+    ensures spelled { result ≡ may_be_spelled ignore_case word.now }
 {
     holds(word, ignore_case, b'[')
         || holds(word, ignore_case, b']')
@@ -280,14 +246,10 @@ fn may_be_spelled(word: &[u8], ignore_case: bool) -> bool
 
 /// Whether a pseudonym can hold all bytes of a word between its first byte and its last.
 fn lies_inside(word: &[u8], ignore_case: bool) -> bool
-    ensures inside { MatchBool result (LiesInside ignore_case word.now) (StandsOutside ignore_case word.now) }
+    ensures inside { result ≡ lies_inside ignore_case word.now }
 {
-    for byte in word {
-        if !is_inside(folded(*byte, ignore_case)) {
-            return false;
-        }
-    }
-    true
+    word.iter()
+        .all(|byte| is_inside(folded(*byte, ignore_case)))
 }
 
 /// Whether a pseudonym can hold a byte between its first and its last.

@@ -1,10 +1,10 @@
 //! Lines of lists that may be meant otherwise than they stand there: with a blank at an end, or with quotes around them; and patterns
 //! that are too short for forms.
 
-ghost use Rattle.std.specs.Prelude.{◌≡◌, IfErr, None, OnErr, OnOk, false, true};
+ghost use Rattle.std.specs.Prelude.{◌≡◌, IfErr, OnErr, OnOk, false, true};
 ghost use Rattle.std.specs.List.{concat};
 ghost use Rattle.tool_parts.specs.Telling.{TellsBytes};
-ghost use Rattle.acredact.specs.Doubts.{AreUndoubted, IsDoubtFailure, RefusesDoubt, RefusesFirstDoubt, TellsDoubts, list_doubt_lines, doubt_in, doubt_lines, doubt_of, is_blank, list_name};
+ghost use Rattle.acredact.specs.Doubts.{AreUndoubted, IsDoubtFailure, RefusesFirstDoubt, TellsDoubts, list_doubt_lines, doubt_in, doubt_lines, doubt_of, is_blank, list_name};
 ghost use Rattle.acredact.specs.Arguments.{all_given};
 ghost use Rattle.acredact.specs.Short.{AreLongAsked};
 ghost use Rattle.acredact.specs.Tables.{secret_of, secrets_of};
@@ -60,39 +60,25 @@ fn refuse_doubtful<'a>(given: &[Item<'a>], rules: &[Rule]) -> Result<(), Failure
     ensures none { OnOk result (AreUndoubted (secrets_of rules.now)) }
     ensures refused { IfErr result (RefusesFirstDoubt (all_given given.now) (secrets_of rules.now)) }
 {
-    let mut rest = rules;
-    while let Some((rule, more)) = rest.split_first() {
-        match refuse_doubt(given, rule) {
-            Ok(()) => rest = more,
-            Err(failure) => return Err(failure),
+    for rule in rules {
+        match doubt_of(rule) {
+            Some(fault) => {
+                let number = rule.line;
+                let name = name_of_list(given, rule.list);
+                return Err(Failure::Line(name, BadLine { number, fault }));
+            }
+            None => {}
         }
     }
     Ok(())
-}
-
-/// Refuses a pattern, if it is one of a list and doubtful.
-fn refuse_doubt<'a>(given: &[Item<'a>], rule: &Rule) -> Result<(), Failure<'a>>
-    ensures none { OnOk result (doubt_of (secret_of rule.now) ≡ None) }
-    ensures refused { IfErr result (RefusesDoubt (all_given given.now) (secret_of rule.now)) }
-{
-    match doubt_of(rule) {
-        Some(fault) => {
-            let number = rule.line;
-            let name = name_of_list(given, rule.list);
-            Err(Failure::Line(name, BadLine { number, fault }))
-        }
-        None => Ok(()),
-    }
 }
 
 /// Tells of each pattern of a list that is doubtful.
 fn tell_doubtful<E: Sink>(errors: &mut Errors<'_, E>, given: &[Item<'_>], rules: &[Rule])
     ensures told { TellsBytes E.Sink errors.old errors.new (concat (list_doubt_lines (all_given given.now) (secrets_of rules.now))) }
 {
-    let mut rest = rules;
-    while let Some((rule, more)) = rest.split_first() {
+    for rule in rules {
         tell_doubt(errors, given, rule);
-        rest = more;
     }
 }
 

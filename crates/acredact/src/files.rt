@@ -1,19 +1,18 @@
 //! The redaction of files, one after another.
 
-ghost use Rattle.std.specs.Prelude.{◌≡◌, ◌&&◌, IfErr, IfOk, None, Ok, OnOk, false, true};
+ghost use Rattle.std.specs.Prelude.{◌≡◌, ◌&&◌, IfErr, IfOk, OnOk, true};
 ghost use Rattle.std.specs.Io.KnownBytes.{Keeps};
 ghost use Rattle.aho_core.specs.Patterns.{Patterns};
 ghost use Rattle.aho_backward.specs.Searcher.{IsBackwardOf};
-ghost use Rattle.aho_devices.specs.Counts.{counted};
 ghost use Rattle.tool_parts.specs.Names.{is_input};
 ghost use Rattle.tool_parts.specs.Streams.{bytes_left};
-ghost use Rattle.acredact.specs.Back.{DoesByPatterns, DoesJob, IfOfBoth};
-ghost use Rattle.acredact.specs.Bounds.{NumbersGiven, NumbersOfFile, NumbersRead};
-ghost use Rattle.acredact.specs.Faults.{is_unread, reading_of};
-ghost use Rattle.acredact.specs.Files.{CanDo, FileJob, TextDone, ToldOutcome, rule_for, work_of};
+ghost use Rattle.acredact.specs.Back.{DoesByPatterns, DoesJob, DoesNamed, DoesText, DoesTold, IfOfBoth};
+ghost use Rattle.acredact.specs.Bounds.{NumbersOfSource};
+ghost use Rattle.acredact.specs.Faults.{reading_of};
+ghost use Rattle.acredact.specs.Files.{CanDo, rule_for, work_of};
 ghost use Rattle.acredact.specs.Secrets.{IfOf, Redactor};
-ghost use Rattle.acredact.specs.Totals.{CountsFile, CountsOfText, CountsTold, DoesStream};
-ghost use Rattle.acredact.specs.Volumes.{AddsFile, AddsText, AddsStream, OneVolume, files_with};
+ghost use Rattle.acredact.specs.Totals.{DoesStream};
+ghost use Rattle.acredact.specs.Volumes.{AddsStream, files_with};
 ghost use Rattle.acredact.specs.Ways.{IfBy};
 
 use crate::back::Backing;
@@ -166,12 +165,10 @@ fn redact_flushed<X: Way, F: Folder, I: Read, W: Write, E: Sink>(
         result streams.old streams.new counts.old counts.new volume.old volume.new) }
 {
     let mut all = true;
-    let mut rest = job.names;
-    while !rest.is_empty() {
-        let whole = redact_told(way, job, rest[0], counts, volume, streams)?;
-        add_file(volume, whole);
+    for name in job.names {
+        let whole = redact_told(way, job, *name, counts, volume, streams)?;
+        add_file(&mut volume.files, whole);
         all = both(all, whole);
-        rest = &rest[1..];
     }
     streams.output.flush()?;
     Ok(all)
@@ -195,14 +192,8 @@ fn redact_told<X: Way, F: Folder, I: Read, W: Write, E: Sink>(
     streams: &mut Streams<'_, I, W, E>,
 ) -> Result<bool, StreamError>
     requires ready { (r : Redactor) × X.by way.old r }
-    ensures outcome { IfBy X.Way way.old (λ r. ToldOutcome W.Write E.Sink
-        (work_of F.Folder job.now r) name.now result streams.old streams.new) }
-    ensures counted { IfBy X.Way way.old (CountsTold F.Folder job.now name.now
-        result streams.old streams.new counts.old counts.new) }
-    ensures read { OneVolume F.Folder job.now.folder.now name.now result
-        volume.old volume.new streams.old streams.new }
-    ensures most { NumbersOfFile F.Folder job.now name.now counts.old counts.new
-        volume.old volume.new streams.old.input streams.new.input }
+    ensures outcome { IfBy X.Way way.old (λ r. DoesTold W.Write E.Sink (work_of F.Folder job.now r) name.now
+        result streams.old streams.new counts.old counts.new volume.old volume.new) }
     ensures files { volume.new.files ≡ volume.old.files }
     ensures still { IfBy X.Way way.old (X.by way.new) }
 {
@@ -238,14 +229,8 @@ fn redact_file<X: Way, F: Folder, I: Read, W: Write>(
     output: &mut FromWrite<W>,
 ) -> Result<Option<Reason>, StreamError>
     requires ready { (r : Redactor) × X.by way.old r }
-    ensures outcome { IfBy X.Way way.old (FileJob W.Write F.Folder job.now name.now
-        result input.old input.new output.old output.new) }
-    ensures counted { IfBy X.Way way.old (CountsFile F.Folder job.now name.now
-        result input.old input.new counts.old counts.new) }
-    ensures read { result ≡ Ok None → AddsFile (F.holds job.now.folder.now) name.now
-        volume.old volume.new input.old input.new }
-    ensures most { NumbersOfFile F.Folder job.now name.now counts.old counts.new
-        volume.old volume.new input.old input.new }
+    ensures outcome { IfBy X.Way way.old (λ r. DoesNamed W.Write output.old output.new counts.old counts.new
+        volume.old volume.new (bytes_left input.old) (bytes_left input.new) (work_of F.Folder job.now r) name.now result) }
     ensures files { volume.new.files ≡ volume.old.files }
     ensures still { IfBy X.Way way.old (X.by way.new) }
 {
@@ -279,7 +264,7 @@ pub fn is_input(name: &str) -> bool
     name == "-"
 }
 
-/// Redacts the input to its end, and answers why it cannot be read to that, where it cannot.
+/// Redacts the input to its end, counts its bytes, and answers why it cannot be read to that, where it cannot.
 fn redact_input<X: Way, I: Read, W: Write>(
     way: &mut X,
     counts: &mut [u64],
@@ -288,19 +273,23 @@ fn redact_input<X: Way, I: Read, W: Write>(
     output: &mut FromWrite<W>,
 ) -> Result<Option<Reason>, StreamError>
     requires ready { (r : Redactor) × X.by way.old r }
-    ensures outcome { IfBy X.Way way.old (λ r. TextDone W.Write r result
-        (bytes_left input.old) (bytes_left input.new) output.old output.new) }
-    ensures counted { result ≡ Ok None → IfBy X.Way way.old
-        (CountsOfText (bytes_left input.old) (bytes_left input.new) counts.old counts.new) }
-    ensures read { result ≡ Ok None → AddsText volume.old volume.new input.old input.new }
-    ensures most { NumbersRead counts.old counts.new volume.old.bytes volume.new.bytes
-        (bytes_left input.old) (bytes_left input.new) }
+    ensures outcome { IfBy X.Way way.old (λ r. DoesText W.Write output.old output.new counts.old counts.new
+        volume.old volume.new input.old input.new r result) }
     ensures files { volume.new.files ≡ volume.old.files }
     ensures still { IfBy X.Way way.old (X.by way.new) }
-    ensures failed { input.new.failures ≡ counted (is_unread result) input.old.failures }
 {
     input.restart();
-    reading_of(redact_metered(way, counts, volume, input, output))
+    let taken = redact_with::<Brand, X, FromRead<I>, FromWrite<W>>(
+        way,
+        counts,
+        Lent { source: input },
+        volume.bytes,
+        output,
+    );
+    volume.bytes = taken.bytes;
+    let Taken { lent, done, .. } = taken;
+    let _source = lent.source;
+    reading_of(done)
 }
 
 /// Redacts a source, and counts its bytes, of which all that it gives are known to be these.
@@ -319,8 +308,8 @@ fn redact_with<'s, K: Known, X: Way, S: Source, W: Sink>(
         lent.entry.source.now result.lent.source.now sink.old sink.new counts.old counts.new) }
     ensures read { OnOk result.done (AddsStream S.Source
         lent.entry.source.now result.lent.source.now bytes result.bytes) }
-    ensures most { NumbersGiven S.Source lent.entry.source.now result.lent.source.now
-        counts.old counts.new bytes result.bytes }
+    ensures most { NumbersOfSource S.Source counts.old counts.new bytes result.bytes
+        lent.entry.source.now result.lent.source.now }
     ensures still { IfBy X.Way way.old (X.by way.new) }
     ensures same { result.lent.source.ghost_name ≡ lent.entry.source.ghost_name }
 {
@@ -335,44 +324,12 @@ fn redact_with<'s, K: Known, X: Way, S: Source, W: Sink>(
     Taken { lent, bytes, done }
 }
 
-/// Redacts what the input gives, and counts its bytes.
-fn redact_metered<X: Way, I: Read, W: Write>(
-    way: &mut X,
-    counts: &mut [u64],
-    volume: &mut Volume,
-    input: &mut FromRead<I>,
-    output: &mut FromWrite<W>,
-) -> Result<(), StreamError>
-    requires ready { (r : Redactor) × X.by way.old r }
-    ensures done { IfBy X.Way way.old (DoesStream ⟦<FromRead<I> as Source>⟧ ⟦<FromWrite<W> as Sink>⟧ result
-        input.old input.new output.old output.new counts.old counts.new) }
-    ensures read { OnOk result (AddsStream ⟦<FromRead<I> as Source>⟧ input.old input.new
-        volume.old.bytes volume.new.bytes) }
-    ensures most { NumbersGiven ⟦<FromRead<I> as Source>⟧ input.old input.new
-        counts.old counts.new volume.old.bytes volume.new.bytes }
-    ensures files { volume.new.files ≡ volume.old.files }
-    ensures still { IfBy X.Way way.old (X.by way.new) }
-{
-    let taken = redact_with::<Brand, X, FromRead<I>, FromWrite<W>>(
-        way,
-        counts,
-        Lent { source: input },
-        volume.bytes,
-        output,
-    );
-    volume.bytes = taken.bytes;
-    let Taken { lent, done, .. } = taken;
-    let _source = lent.source;
-    done
-}
-
 /// One file more, if it was read to its end.
-pub fn add_file(volume: &mut Volume, whole: bool)
-    ensures files { volume.new.files ≡ files_with whole volume.old.files }
-    ensures bytes { volume.new.bytes ≡ volume.old.bytes }
+pub fn add_file(files: &mut u64, whole: bool)
+    ensures files { files.new ≡ files_with whole files.old }
 {
     if whole {
-        volume.files = volume.files.saturating_add(1);
+        *files = files.saturating_add(1);
     }
 }
 

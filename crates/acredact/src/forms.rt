@@ -1,8 +1,7 @@
 //! Forms of patterns: how a secret that is encoded gets into a log. Which patterns a form has is told by `secret_forms`.
 
-ghost use Rattle.std.specs.Prelude.{◌≡◌, ◌∷◌, ◌≤◌, [], IfOk, OnOk, Some, flat_map, length, map};
-ghost use Rattle.acredact.specs.Forms.{HaveForms, HideSecrets, HidesOnce, HidesSecret, HidesTwice, are_forms, asked_forms, asks_for, filled, form_called, form_secret, forms_asked, forms_from, forms_named, forms_of, is_all, is_asked, is_called, name_of, names_form, nested_by, nested_called, nested_named, once_patterns, twice_patterns};
-ghost use Rattle.acredact.specs.Parts.{AddsSome};
+ghost use Rattle.std.specs.Prelude.{◌++◌, ◌≡◌, IfOk, OnOk, Some};
+ghost use Rattle.acredact.specs.Forms.{AddsFormsOf, HaveForms, HideSecrets, HidesNestedForm, HidesOnce, HidesSecret, HidesTwice, are_forms, asked_forms, asks_for, each_twice, form_called, form_secret, forms_asked, forms_from, forms_named, forms_of, is_all, is_asked, is_called, names_form, nested_by, nested_called, nested_named, once_patterns, twice_patterns};
 ghost use Rattle.acredact.specs.Tables.{secret_of, secrets_of};
 ghost use Rattle.secret_forms.specs.Patterns.{pattern_bytes};
 
@@ -13,26 +12,11 @@ use std::alloc::{AllocError, Global};
 /// A pattern of fewer bytes has no forms.
 const SHORTEST: usize = 4;
 
-/// How a form is called.
-fn name_of(form: Form) -> &'static [u8]
-    ensures name { result.now ≡ name_of form }
-{
-    match form {
-        Form::Base64 => b"base64",
-        Form::Hex => b"hex",
-        Form::Url => b"url",
-        Form::Json => b"json",
-        Form::Xml => b"xml",
-        Form::Shell => b"shell",
-        Form::Lines => b"lines",
-    }
-}
-
 /// Whether a form is called so.
 fn is_called(name: &[u8], form: Form) -> bool
     ensures called { result ≡ is_called name.now form }
 {
-    name == name_of(form)
+    name == form.name().as_bytes()
 }
 
 /// The form that is called so.
@@ -213,11 +197,9 @@ fn forms_of_rules(alloc: Global, rules: &[Rule], asked: Asked<'_>) -> Result<Vec
 {
     let mut more = Vec::new(alloc);
     let mut number: usize = 0;
-    let mut rest = rules;
-    while let Some((rule, others)) = rest.split_first() {
+    for rule in rules {
         add_forms_of(alloc, &mut more, rule, number, asked)?;
         number += 1;
-        rest = others;
     }
     Ok(more)
 }
@@ -230,8 +212,8 @@ fn add_forms_of(
     number: usize,
     asked: Asked<'_>,
 ) -> Result<(), AllocError>
-    ensures added { OnOk result (AddsSome (λ some. some
-        ≡ forms_of (asked_forms asked.entry) number (secret_of rule.now)) more.old more.new) }
+    ensures added { OnOk result (secrets_of more.new.items
+        ≡ secrets_of more.old.items ++ forms_of (asked_forms asked.entry) number (secret_of rule.now)) }
     ensures hidden { OnOk result (HidesSecret (asked_forms asked.entry) (secret_of rule.now)) }
 {
     if rule.pattern.len() < SHORTEST {
@@ -249,9 +231,8 @@ fn add_once(
     number: usize,
     wanted: &[Form],
 ) -> Result<(), AllocError>
-    requires long { 4 ≤ length rule.now.pattern.items }
-    ensures added { OnOk result (AddsSome (λ some. some ≡ map (form_secret number (secret_of rule.now))
-        (filled (once_patterns wanted.now rule.now.pattern.items))) more.old more.new) }
+    ensures added { OnOk result (AddsFormsOf rule.now number
+        (once_patterns wanted.now rule.now.pattern.items) more.old more.new) }
     ensures hidden { OnOk result (HidesOnce wanted.now rule.now.pattern.items) }
 {
     match forms(alloc, rule.pattern.as_slice(), wanted) {
@@ -269,15 +250,12 @@ fn add_nested(
     number: usize,
     nested: &[Nested],
 ) -> Result<(), AllocError>
-    requires long { 4 ≤ length rule.now.pattern.items }
-    ensures added { OnOk result (AddsSome (λ some. some ≡ map (form_secret number (secret_of rule.now))
-        (filled (flat_map (twice_patterns rule.now.pattern.items) nested.now))) more.old more.new) }
+    ensures added { OnOk result (AddsFormsOf rule.now number
+        (each_twice rule.now.pattern.items nested.now) more.old more.new) }
     ensures hidden { OnOk result (HidesTwice nested.now rule.now.pattern.items) }
 {
-    let mut rest = nested;
-    while let Some((one, others)) = rest.split_first() {
+    for one in nested {
         add_twice(alloc, more, rule, number, *one)?;
-        rest = others;
     }
     Ok(())
 }
@@ -290,10 +268,9 @@ fn add_twice(
     number: usize,
     nested: Nested,
 ) -> Result<(), AllocError>
-    requires long { 4 ≤ length rule.now.pattern.items }
-    ensures added { OnOk result (AddsSome (λ some. some ≡ map (form_secret number (secret_of rule.now))
-        (filled (twice_patterns rule.now.pattern.items nested))) more.old more.new) }
-    ensures hidden { OnOk result (HidesTwice (nested ∷ []) rule.now.pattern.items) }
+    ensures added { OnOk result (AddsFormsOf rule.now number
+        (twice_patterns rule.now.pattern.items nested) more.old more.new) }
+    ensures hidden { OnOk result (HidesNestedForm rule.now.pattern.items nested) }
 {
     match nested_forms(alloc, rule.pattern.as_slice(), nested.inner, nested.outer) {
         Ok(patterns) => add_patterns(alloc, more, rule, number, patterns.as_slice()),
@@ -310,30 +287,12 @@ fn add_patterns(
     number: usize,
     patterns: &[Vec<u8>],
 ) -> Result<(), AllocError>
-    ensures added { OnOk result (AddsSome (λ some. some ≡ map (form_secret number (secret_of rule.now))
-        (filled (pattern_bytes patterns.now))) more.old more.new) }
+    ensures added { OnOk result (AddsFormsOf rule.now number (pattern_bytes patterns.now) more.old more.new) }
 {
-    let mut rest = patterns;
-    while !rest.is_empty() {
-        add_pattern(alloc, more, rule, number, rest[0].as_slice())?;
-        rest = &rest[1..];
-    }
-    Ok(())
-}
-
-/// Adds a rule for one of them, unless it is empty.
-fn add_pattern(
-    alloc: Global,
-    more: &mut Vec<Rule>,
-    rule: &Rule,
-    number: usize,
-    pattern: &[u8],
-) -> Result<(), AllocError>
-    ensures added { OnOk result (AddsSome (λ some. some ≡ map (form_secret number (secret_of rule.now))
-        (filled (pattern.now ∷ []))) more.old more.new) }
-{
-    if !pattern.is_empty() {
-        more.push(form_of(alloc, rule, number, pattern)?)?;
+    for pattern in patterns {
+        if !pattern.is_empty() {
+            more.push(form_of(alloc, rule, number, pattern.as_slice())?)?;
+        }
     }
     Ok(())
 }

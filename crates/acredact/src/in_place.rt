@@ -3,15 +3,14 @@
 ghost use Rattle.std.specs.Prelude.{◌≡◌, ◌≤◌, Ok, false, true};
 ghost use Rattle.chromesquid.specs.Searcher.{ForItsPatterns};
 ghost use Rattle.tool_parts.specs.Arguments.{texts};
+ghost use Rattle.tool_parts.specs.Names.{name_bytes};
 ghost use Rattle.tool_parts.specs.Streams.{bytes_left};
 ghost use Rattle.tool_parts.specs.Telling.{TellsSome};
 ghost use Rattle.acredact.specs.Arguments.{AreMistaken, IfAsked, all_given};
 ghost use Rattle.acredact.specs.Calls.{IsWrongLine, call_of};
-ghost use Rattle.acredact.specs.Files.{CanDo, redactor_of, work_of};
-ghost use Rattle.acredact.specs.InPlace.{CalledPlaces, IsSettled, PlaceOutcome, PlacesAsked, PlacesOutcome, PlacesStatus, ReadyPlaces};
+ghost use Rattle.acredact.specs.Files.{CanDo};
+ghost use Rattle.acredact.specs.InPlace.{CalledPlaces, IsSettled, PlaceOutcome, PlacesAsked, PlacesOutcome, PlacesStatus, work_for};
 ghost use Rattle.acredact.specs.Into.{TellsUnread};
-ghost use Rattle.acredact.specs.Loading.{AreSome, loaded_in};
-ghost use Rattle.acredact.specs.Ready.{IsReadyBy};
 
 use crate::arguments::items;
 use crate::counts::counts_of;
@@ -21,15 +20,14 @@ use crate::folder::Folder;
 use crate::mistakes::Mistake;
 use crate::options::{Item, counts, gives_pattern};
 use crate::outputs::Outputs;
-use crate::prepare::{Ready, job_of, prepare};
+use crate::prepare::{job_of, prepare};
 use crate::run::{redact_by, tell_counted};
-use crate::secrets::{Secrets, load};
+use crate::secrets::load;
 use crate::streams::Streams;
 use crate::summary::Volume;
 use chromesquid::{AhoCorasick, Automaton, FromWrite, Sink, StreamError};
 use std::alloc::Global;
 use std::io::Read;
-use tool_parts::errors::Errors;
 
 /// Replaces each file by its redaction, and answers the exit status: 0 where all were, and 2 where the arguments or the patterns are
 /// wrong, memory runs out, or a file cannot be read or replaced. Such a file stays as it was, and it is told why.
@@ -80,7 +78,7 @@ fn answer_places<F: Folder, O: Outputs, I: Read, E: Sink>(
     }
 }
 
-/// Loads all patterns, replaces each file by them, and answers whether all were replaced.
+/// Loads all patterns, replaces each file by them, tells the counts where they are asked for, and answers whether all were replaced.
 fn load_places<'a, F: Folder, O: Outputs, I: Read, E: Sink>(
     alloc: Global,
     given: &[Item<'a>],
@@ -102,29 +100,11 @@ fn load_places<'a, F: Folder, O: Outputs, I: Read, E: Sink>(
         Ok(ready) => ready,
         Err(failure) => return Err(failure),
     };
-    place_ready(alloc, given, &secrets, &ready, folder, outputs, streams)
-}
-
-/// Replaces each file by what is ready, tells the counts where they are asked for, and answers whether all were replaced.
-fn place_ready<'a, F: Folder, O: Outputs, I: Read, E: Sink>(
-    alloc: Global,
-    given: &[Item<'_>],
-    secrets: &Secrets,
-    ready: &Ready<'_>,
-    folder: &F,
-    outputs: &mut O,
-    streams: &mut Streams<'_, I, O::File, E>,
-) -> Result<bool, Failure<'a>>
-    requires some { AreSome secrets.now }
-    requires ready { IsReadyBy given.now secrets.now ready.now }
-    ensures outcome { ReadyPlaces O.File.Write E.Sink F.Folder O.Outputs
-        folder.now given.now (loaded_in secrets.now) result outputs.old outputs.new streams.old streams.new }
-{
     let rules = secrets.rules.as_slice();
     let mut counted = counts_of(alloc, rules, counts(given))?;
     let tally = counted.as_mut_slice();
     let mut volume = Volume { files: 0, bytes: 0 };
-    let job = job_of(alloc, given, secrets, ready, folder);
+    let job = job_of(alloc, given, &secrets, &ready, folder);
     let all = place_each(&ready.searcher, &job, tally, &mut volume, outputs, streams)?;
     tell_counted(alloc, all, given, rules, tally, volume, &mut streams.errors)
 }
@@ -140,15 +120,13 @@ fn place_each<F: Folder, O: Outputs, I: Read, E: Sink>(
 ) -> Result<bool, StreamError>
     requires ready { CanDo ⟦<AhoCorasick as Automaton>⟧ searcher.now job.now }
     ensures outcome { ForItsPatterns searcher.now (λ p. PlacesOutcome O.File.Write O.Outputs
-        (work_of F.Folder job.now (redactor_of job.now p)) E.Sink result
+        (work_for F.Folder job.now p) E.Sink (name_bytes job.now.names.now) result
         outputs.old outputs.new streams.old streams.new counts.old counts.new volume.old volume.new) }
 {
     let mut all = true;
-    let mut rest = job.names;
-    while !rest.is_empty() {
-        let whole = place_one(searcher, job, rest[0], counts, volume, outputs, streams)?;
+    for name in job.names {
+        let whole = place_one(searcher, job, *name, counts, volume, outputs, streams)?;
         all = both(all, whole);
-        rest = &rest[1..];
     }
     Ok(all)
 }
@@ -165,7 +143,7 @@ fn place_one<F: Folder, O: Outputs, I: Read, E: Sink>(
 ) -> Result<bool, StreamError>
     requires ready { CanDo ⟦<AhoCorasick as Automaton>⟧ searcher.now job.now }
     ensures outcome { ForItsPatterns searcher.now (λ p. PlaceOutcome O.File.Write O.Outputs
-        (work_of F.Folder job.now (redactor_of job.now p)) E.Sink name.now result
+        (work_for F.Folder job.now p) E.Sink name.now result
         outputs.old outputs.new streams.old streams.new counts.old counts.new volume.old volume.new) }
 {
     if is_input(name) {

@@ -7,8 +7,9 @@ use std::fs::{File, Files};
 use std::io::{ErrorKind, Read};
 use std::{fs, io};
 
-/// What stands behind the name of a file in the name of the new one, before two numbers.
-const MARK: &str = ".acredact-";
+/// What stands behind the name of a file in the name of the new one, before two numbers. It is long, so that nobody gives a file such a
+/// name by chance: what looks like it is removed.
+const MARK: &str = ".acredact-unfinished-";
 
 /// How many bytes of names are read of a folder at once. A name has 255 at most.
 const ROOM: usize = 8192;

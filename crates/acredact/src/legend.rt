@@ -2,7 +2,7 @@
 
 ghost use Rattle.std.specs.Prelude.{◌≡◌, OnOk};
 ghost use Rattle.acredact.specs.Counts.{PutsText};
-ghost use Rattle.acredact.specs.RuledChecks.{finding_line, given_label, label_of, labels_of, long_label, numbers_in, rule_label, rule_or_long, told_for};
+ghost use Rattle.acredact.specs.RuledChecks.{finding_line, label_of, labels_of, long_label, numbers_in, rule_or_long, told_for};
 
 use crate::counts::put_number;
 use crate::patterns::Rule;
@@ -59,43 +59,32 @@ pub fn put_finding(
     Ok(())
 }
 
-/// Puts what a number stands for.
+/// Puts what a number stands for: the number of a pattern from 1 on, or what is told of a rule.
 fn put_label(text: &mut Vec<u8>, legend: &Legend<'_, '_>, number: usize) -> Result<(), AllocError>
     ensures put { OnOk result (PutsText text.old text.new (label_of (labels_of legend.now) number)) }
 {
     let patterns = legend.secrets.len();
     if number < patterns {
-        return put_given(text, number);
+        text.extend_from_slice(b"pattern ")?;
+        return put_number(text, number.saturating_add(1) as u64);
     }
     put_rule(text, legend, number - patterns)
 }
 
-/// Puts the number of a pattern, from 1 on.
-fn put_given(text: &mut Vec<u8>, index: usize) -> Result<(), AllocError>
-    ensures put { OnOk result (PutsText text.old text.new (given_label index)) }
-{
-    text.extend_from_slice(b"pattern ")?;
-    put_number(text, index.saturating_add(1) as u64)
-}
-
-/// Puts the name of the rule of a number, or, where there is none, that a line is too long.
+/// Puts the name of the rule of a number, or that number from 1 on where the name is empty; where there is no rule, that a line is too long.
 fn put_rule(text: &mut Vec<u8>, legend: &Legend<'_, '_>, number: usize) -> Result<(), AllocError>
     ensures put { OnOk result (PutsText text.old text.new (rule_or_long (labels_of legend.now) number)) }
 {
     match legend.rules.get(number) {
-        Some(rule) => put_rule_name(text, rule.id.as_bytes(), number),
+        Some(rule) => {
+            let id = rule.id.as_bytes();
+            if id.is_empty() {
+                return put_number(text, number.saturating_add(1) as u64);
+            }
+            put_shown(text, id)
+        }
         None => put_long(text, legend.most),
     }
-}
-
-/// Puts the name of a rule, or its number from 1 on where that is empty.
-fn put_rule_name(text: &mut Vec<u8>, id: &[u8], number: usize) -> Result<(), AllocError>
-    ensures put { OnOk result (PutsText text.old text.new (rule_label id.now number)) }
-{
-    if id.is_empty() {
-        return put_number(text, number.saturating_add(1) as u64);
-    }
-    put_shown(text, id)
 }
 
 /// Puts that a line has more bytes than this.

@@ -21,7 +21,7 @@ use tool_parts::failure;
 /// What stands for a file in messages about the rule of a keyword.
 const AFTER: &str = "--after";
 
-/// The rules of all files and keywords that are given, in order.
+/// The rules of all files and keywords that are given, in order. Each expression is compiled when a line first needs it.
 ///
 /// # Errors
 ///
@@ -36,7 +36,10 @@ pub fn line_rules_of<'a, F: Folder, I: Read>(
     ensures sound { IfOk result AreSound }
 {
     match read_rules(lists, items, input) {
-        Ok(rules) => sound(lists.alloc, rules),
+        Ok(rules) => match Rules::new(lists.alloc, rules) {
+            Ok(rules) => Ok(rules),
+            Err(error) => Err(unsound(error)),
+        },
         Err(failure) => Err(failure),
     }
 }
@@ -51,14 +54,12 @@ fn read_rules<'a, F: Folder, I: Read>(
         rules.items input.old input.new) }
 {
     let mut rules = Vec::new(lists.alloc);
-    let mut rest = items;
-    while !rest.is_empty() {
+    for item in items {
         // Not by `?`: this error holds names.
-        match add_rules(lists, &mut rules, rest[0], input) {
+        match add_rules(lists, &mut rules, *item, input) {
             Ok(()) => {}
             Err(failure) => return Err(failure),
         }
-        rest = &rest[1..];
     }
     Ok(rules)
 }
@@ -131,18 +132,9 @@ fn add_text<'a, F>(
     ensures added { OnOk result (AddsThese (TellsRules text.now) rules.old rules.new) }
 {
     match rules_in(lists.alloc, text, lists.allow_empty) {
-        Ok(more) => Ok(append_rules(rules, more)?),
+        Ok(mut more) => Ok(rules.append(&mut more)?),
         Err(fault) => Err(RuledFailure::Text(name, fault)),
     }
-}
-
-/// Adds these rules.
-fn append_rules(rules: &mut Vec<LineRule>, more: Vec<LineRule>) -> Result<(), AllocError>
-    ensures appended { OnOk result (rules.new.items ≡ rules.old.items ++ more.items) }
-{
-    let mut more = more;
-    rules.append(&mut more)?;
-    Ok(())
 }
 
 /// Adds a rule.
@@ -169,17 +161,6 @@ fn no_rule<'a>(
     match bad_rule(alloc, number, rule, flaw) {
         Ok(bad) => RuledFailure::Text(name, TextFault::Rule(bad)),
         Err(_) => no_memory(),
-    }
-}
-
-/// These rules, by which lines can be covered. Each expression is compiled when a line first needs it.
-fn sound<'a>(alloc: Global, rules: Vec<LineRule>) -> Result<Rules, RuledFailure<'a>>
-    ensures rules { IfOk result (λ made. made ≡ rules.items) }
-    ensures sound { IfOk result AreSound }
-{
-    match Rules::new(alloc, rules) {
-        Ok(rules) => Ok(rules),
-        Err(error) => Err(unsound(error)),
     }
 }
 

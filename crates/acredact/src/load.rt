@@ -1,20 +1,18 @@
 //! The rules of all patterns, files and tables that are given.
 
-ghost use Rattle.std.specs.Prelude.{◌≡◌, Option, Some, IfErr, IfOk, OnOk, false};
+ghost use Rattle.std.specs.Prelude.{◌≡◌, IfErr, IfOk, OnOk, false};
 ghost use Rattle.aho_core.specs.Replacement.{pieces_of};
 ghost use Rattle.aho_devices.specs.Counts.{counted};
 ghost use Rattle.tool_parts.specs.Streams.{bytes_left};
 ghost use Rattle.acredact.specs.Arguments.{all_given, given_of, last_value};
 ghost use Rattle.acredact.specs.Calls.{rules_asked};
-ghost use Rattle.acredact.specs.Forms.{HaveForms, forms_asked};
 ghost use Rattle.acredact.specs.Loading.{AreGiven, AreRead, CannotLoad, CannotLoadAll, CannotLoadKey, CannotLoadOne, CannotRead, GivesEnvironment, GivesSecrets, GivesValues, HoldsListed, HoldsSecrets, HoldsVariables, HoldsWhole, IsEnvironmentFailure, IsFileFailure, IsKeyGiven, IsListedFailure, IsValuesFailure, IsVariablesFailure, IsWholeFailure, IsPatternFailure, IsTextFailure, IsTextReason, OptionGives, form_by, is_failed_text, key_in, reading_of_lists, rules_for};
 ghost use Rattle.acredact.specs.Parts.{AddsSome, ArePartsBy, GivesPattern};
 ghost use Rattle.acredact.specs.Reads.{OfName, ReadsText};
 ghost use Rattle.acredact.specs.Tables.{secrets_of};
-ghost use Rattle.acredact.specs.Values.{GiveEach, GivesValue};
+ghost use Rattle.acredact.specs.Values.{GivesValue};
 ghost use Rattle.acredact.specs.declared.options.Word.TheVariants.{Pseudonym};
-ghost use Rattle.acredact.specs.declared.failure.Failure.TheVariants.{Other, Pattern};
-ghost use Rattle.tool_parts.specs.declared.failure.Failure.TheVariants.{OutOfMemory as OutOfMemoryFailure};
+ghost use Rattle.acredact.specs.declared.failure.Failure.TheVariants.{Pattern};
 ghost use Rattle.acredact.specs.declared.patterns.LineFault.TheVariants.{OutOfMemory};
 
 use crate::failure::Failure;
@@ -99,32 +97,16 @@ pub fn rules<'a, F: Folder, I: Read>(
         (secrets_of rules.items) (bytes_left input.old) (bytes_left input.new)) }
     ensures fails { IfErr result (CannotLoadAll (reading_of_lists F.Folder lists.now) (all_given items.now)) }
 {
-    match read_rules(lists, items, input) {
-        Ok(rules) => with_forms(lists, rules),
-        Err(failure) => Err(failure),
-    }
-}
-
-/// These rules, and behind them those of their forms.
-fn with_forms<'a, F>(lists: &Lists<'_, '_, F>, rules: Vec<Rule>) -> Result<Vec<Rule>, Failure<'a>>
-    ensures formed { IfOk result (λ made. HaveForms (rules_for lists.now).forms rules.items made.items) }
-    ensures fails { IfErr result (λ failure. failure ≡ Other OutOfMemoryFailure) }
-{
+    let mut rules = match read_rules(lists, items, input) {
+        Ok(rules) => rules,
+        Err(failure) => return Err(failure),
+    };
     match lists.forms {
         None => Ok(rules),
-        Some(value) => with_asked(lists.alloc, rules, value),
-    }
-}
-
-/// These rules, and behind them those of the forms that a value names.
-fn with_asked<'a>(alloc: Global, rules: Vec<Rule>, value: &str) -> Result<Vec<Rule>, Failure<'a>>
-    ensures formed { IfOk result (λ made. HaveForms (forms_asked (Some value.now)) rules.items made.items) }
-    ensures fails { IfErr result (λ failure. failure ≡ Other OutOfMemoryFailure) }
-{
-    let mut rules = rules;
-    match add_forms(alloc, &mut rules, value) {
-        Ok(()) => Ok(rules),
-        Err(_) => Err(Failure::Other(failure::Failure::OutOfMemory)),
+        Some(value) => {
+            add_forms(lists.alloc, &mut rules, value)?;
+            Ok(rules)
+        }
     }
 }
 
@@ -144,16 +126,12 @@ fn read_rules<'a, F: Folder, I: Read>(
     ensures fails { IfErr result (CannotLoadOne (reading_of_lists F.Folder lists.now) (all_given items.now)) }
 {
     let mut rules = Vec::new(lists.alloc);
-    let mut number: usize = 0;
-    let mut rest = items;
-    while !rest.is_empty() {
+    for (number, item) in items.iter().enumerate() {
         // Not by `?`: this error holds names.
-        match add_item(lists, &mut rules, rest[0], number, input) {
+        match add_item(lists, &mut rules, *item, number, input) {
             Ok(()) => {}
             Err(failure) => return Err(failure),
         }
-        number = number.saturating_add(1);
-        rest = &rest[1..];
     }
     Ok(rules)
 }
@@ -249,26 +227,11 @@ fn add_values<'a, F>(
     if are_refused(lists.allow_empty, values) {
         return Err(Failure::NoValue(name));
     }
-    match add_each(lists, rules, values, list) {
-        Ok(()) => Ok(()),
-        Err(_) => Err(Failure::Other(failure::Failure::OutOfMemory)),
-    }
-}
-
-/// Adds the rules of these values, where they are not empty.
-fn add_each<F>(
-    lists: &Lists<'_, '_, F>,
-    rules: &mut Vec<Rule>,
-    values: &[&[u8]],
-    list: usize,
-) -> Result<(), LineFault>
-    ensures added { OnOk result (AddsSome
-        (GiveEach lists.now.parts (pieces_of values.now)) rules.old rules.new) }
-{
-    let mut rest = values;
-    while !rest.is_empty() {
-        add_value(lists, rules, rest[0], list)?;
-        rest = &rest[1..];
+    for value in values {
+        match add_value(lists, rules, value, list) {
+            Ok(()) => {}
+            Err(_) => return Err(Failure::Other(failure::Failure::OutOfMemory)),
+        }
     }
     Ok(())
 }

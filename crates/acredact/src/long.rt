@@ -25,8 +25,7 @@ pub fn option_of(name: &[u8]) -> Result<Word, Mistake<'_>>
 fn found_of(name: &[u8]) -> Found<Word>
     ensures found { result ≡ found_of_name name.now }
 {
-    let patterns = or_patterns(Found::Unknown, name);
-    or_output(patterns, name)
+    or_output(or_patterns(Found::Unknown, name), name)
 }
 
 /// What it means with the options that say what is replaced, and by what.

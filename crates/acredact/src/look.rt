@@ -1,11 +1,8 @@
 //! Whether some pattern occurs in files: what a check looks for.
 
-ghost use Rattle.std.specs.Prelude.{◌≡◌, ◌<◌, ◌≤◌, ℕ, IfErr, IfOk, false, length, slice_index, true};
+ghost use Rattle.std.specs.Prelude.{◌≡◌, ◌<◌, ◌≤◌, ℕ, IfErr, IfOk, MatchBool, false, length, slice_index, true};
 ghost use Rattle.std.specs.List.{concat};
-ghost use Rattle.aho_core.specs.Patterns.{Patterns};
 ghost use Rattle.aho_devices.specs.Counts.{counted};
-ghost use Rattle.aho_stream.specs.FindRuns.{FindsAlong};
-ghost use Rattle.aho_stream.specs.Iterators.{CanGoOn, automaton_of};
 ghost use Rattle.tool_parts.specs.Streams.{bytes_left};
 ghost use Rattle.tool_parts.specs.Telling.{TellsBytes};
 ghost use Rattle.acredact.specs.Checks.{IsLookOf, SeesSearched, look_lines, quest_of};
@@ -16,7 +13,7 @@ ghost use Rattle.acredact.specs.Secrets.{IfOf};
 use crate::failure::tell_unread;
 use crate::files::{is_input, opened};
 use crate::folder::Folder;
-use chromesquid::any::{PatternPieces, StreamCoverStart, StreamFindIter, StreamStart, cover_with};
+use chromesquid::any::{PatternPieces, StreamCoverStart, StreamStart, cover_with};
 use chromesquid::{Automaton, FromRead, Nowhere, Sink, Source, StreamError};
 use std::alloc::{AllocError, Global};
 use std::io::Read;
@@ -76,12 +73,10 @@ pub fn look_at_files<A: Automaton, F: Folder, I: Read, E: Sink>(
         found: false,
         all: true,
     };
-    let mut rest = files.names;
-    while !rest.is_empty() {
-        let look = look_at_file(automaton, files, rest[0], input)?;
-        tell_look(errors, rest[0], look);
+    for name in files.names {
+        let look = look_at_file(automaton, files, *name, input)?;
+        tell_look(errors, *name, look);
         verdict = both_seen(verdict, verdict_of(look));
-        rest = &rest[1..];
     }
     Ok(verdict)
 }
@@ -227,17 +222,13 @@ fn stands_in<A: Automaton, R: Source>(
 
 /// Whether some count is not zero.
 fn is_some_counted(counts: &[u64]) -> bool
-    ensures some { result ≡ true → (number : ℕ) × (number < length counts.now)
-        × (1 ≤ slice_index counts.now number) }
-    ensures none { result ≡ false → (number : ℕ) → number < length counts.now
-        → slice_index counts.now number ≡ 0 }
+    ensures { MatchBool result ((number : ℕ) × (number < length counts.now) × (1 ≤ slice_index counts.now number))
+        ((number : ℕ) → number < length counts.now → slice_index counts.now number ≡ 0) }
 {
-    let mut at = 0;
-    while at < counts.len() {
-        if counts[at] != 0 {
+    for count in counts {
+        if *count != 0 {
             return true;
         }
-        at += 1;
     }
     false
 }
@@ -259,23 +250,9 @@ fn occurs_in<A: Automaton, R: Source>(
     // Not by `try_stream_find_iter`, which does not say that a refusal leaves the source as it was.
     let start = StreamStart::new(alloc, automaton)?;
     let mut finds = start.finds(source);
-    let occurs = has_next(&mut finds);
+    let first = finds.next();
     let _source = finds.into_source();
-    occurs
-}
-
-/// Whether the iterator has a match to give.
-fn has_next<'a, 'r, A: Automaton, R: Source>(
-    finds: &mut StreamFindIter<'a, 'r, A, R>,
-) -> Result<bool, StreamError>
-    requires ready { CanGoOn A.Automaton finds.old.chunks }
-    requires along { (p : Patterns) → A.is_of (automaton_of finds.old.chunks) p → FindsAlong R.Source
-        ⟦<StreamFindIter<'a, 'r, A, R> as Iterator>⟧.next_gives p finds.old }
-    ensures same_source { finds.new.chunks.source.ghost_name ≡ finds.old.chunks.source.ghost_name }
-    ensures looks { (p : Patterns) → A.is_of (automaton_of finds.old.chunks) p →
-        LooksAt R.Source (sought p false) result finds.old.chunks.source.now finds.new.chunks.source.now }
-{
-    match finds.next() {
+    match first {
         None => Ok(false),
         Some(Ok(_)) => Ok(true),
         Some(Err(error)) => Err(error),

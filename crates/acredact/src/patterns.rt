@@ -280,7 +280,10 @@ pub fn add_lines(
     let mut left = lines_of(text);
     while let Some(rest) = left {
         let (line, more) = part_of(rest, b'\n');
-        add_numbered(alloc, rules, line, form, Place { list, line: number })?;
+        match add_listed(alloc, rules, line, form, Place { list, line: number }) {
+            Ok(()) => {}
+            Err(fault) => return Err(BadLine { number, fault }),
+        }
         number = number.saturating_add(1);
         left = more;
     }
@@ -295,27 +298,6 @@ pub fn lines_of(text: &[u8]) -> Option<&[u8]>
         return None;
     }
     Some(without_last(text, b'\n'))
-}
-
-/// Adds the rule of the line of this number.
-fn add_numbered(
-    alloc: Global,
-    rules: &mut Vec<Rule>,
-    line: &[u8],
-    form: Form,
-    place: Place,
-) -> Result<(), BadLine>
-    ensures added { OnOk result (AddsOf form line.now place rules.old rules.new) }
-    ensures number { IfErr result (λ bad. bad.number ≡ place.line) }
-    ensures fault { IfErr result (λ bad. IsLineFaultBy form line.now bad.fault) }
-{
-    match add_listed(alloc, rules, line, form, place) {
-        Ok(()) => Ok(()),
-        Err(fault) => Err(BadLine {
-            number: place.line,
-            fault,
-        }),
-    }
 }
 
 /// Adds the rule of the line of a file.

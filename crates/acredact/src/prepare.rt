@@ -197,12 +197,10 @@ pub fn names<'a>(alloc: Global, given: &[Item<'a>]) -> Result<Vec<&'a str>, Allo
     ensures names { IfOk result (λ files. name_bytes files.items ≡ names_asked (all_given given.now)) }
 {
     let mut files = Vec::new(alloc);
-    let mut rest = given;
-    while !rest.is_empty() {
-        if is_same(Word::File, rest[0].word) {
-            files.push(rest[0].value)?;
+    for item in given {
+        if is_same(Word::File, item.word) {
+            files.push(item.value)?;
         }
-        rest = &rest[1..];
     }
     if files.is_empty() {
         files.push("-")?;

@@ -46,8 +46,8 @@ fn add_folded(hasher: &mut Sha256, bytes: &[u8])
     ensures added { (message : List ℕ) → Holds256 hasher.old message
         → Holds256 hasher.new (message ++ as_compared true bytes.now) }
 {
-    'bytes: for at in 0..bytes.len() {
-        hasher.update(&[folded(bytes[at], true)]);
+    for byte in bytes {
+        hasher.update(&[folded(*byte, true)]);
     }
 }
 

@@ -20,11 +20,11 @@ use crate::patterns::{Rule, replacements_of};
 use crate::prepare::{key_by, text_of};
 use crate::ruled_failure::{RuledFailure, tell_long, tell_ruled};
 use crate::ruled_files::{Lined, cover_files, line_cover};
-use crate::ruled_load::{load_keyed, ready_for_lines};
+use crate::ruled_load::{GivenRules, load_rules, ready_for_lines};
 use crate::run_counts::tell_runs;
 use crate::run_pieces::RunPieces;
 use crate::run_summary::last_of;
-use crate::secrets::key_bytes;
+use crate::secrets::{key_bytes, load_key};
 use crate::streams::Streams;
 use crate::summary::Volume;
 use chromesquid::any::Pieces;
@@ -69,18 +69,22 @@ fn redact_given<'a, F: Folder, I: Read, W: Write, E: Sink>(
         result streams.old streams.new }
     ensures flushed { OnOk result (streams.new.output.device.flushed ≡ true) }
 {
-    let rules = match load_keyed(alloc, given, folder, &mut streams.input) {
-        Ok(rules) => rules,
+    let GivenRules { secrets, rules } = match load_rules(alloc, given, folder, &mut streams.input) {
+        Ok(loaded) => loaded,
         Err(failure) => return Err(failure),
     };
-    let key = key_bytes(&rules.secrets);
-    let secrets = rules.secrets.rules.as_slice();
+    let keyed = match load_key(alloc, given, secrets, folder, &mut streams.input) {
+        Ok(keyed) => keyed,
+        Err(failure) => return Err(RuledFailure::Plain(failure)),
+    };
+    let key = key_bytes(&keyed);
+    let secrets = keyed.rules.as_slice();
     match ready_for_lines(alloc, given, secrets, &mut streams.errors) {
         Ok(ready) => redact_by(
             alloc,
             given,
             secrets,
-            &rules.rules,
+            &rules,
             key,
             folder,
             &ready.searcher,
@@ -194,10 +198,8 @@ fn texts_of<'r>(
 {
     let usual = text_of(given);
     let mut texts = replacements_of(alloc, secrets, usual)?;
-    let mut rest = line_rules;
-    while !rest.is_empty() {
-        texts.push(own_text(&rest[0], usual))?;
-        rest = &rest[1..];
+    for rule in line_rules {
+        texts.push(own_text(rule, usual))?;
     }
     texts.push(usual)?;
     Ok(texts)

@@ -1,10 +1,10 @@
 //! The redaction of files line by line, one after another.
 
-ghost use Rattle.std.specs.Prelude.{◌≡◌, IfOk, IfSome, None, Ok, OnOk, true};
+ghost use Rattle.std.specs.Prelude.{◌≡◌, IfOk, IfSome, OnOk, true};
 ghost use Rattle.secret_rules.specs.OpenLines.{CanSearch};
 ghost use Rattle.secret_rules.specs.Ready.{CanCoverLines, most_of, rules_of, searched_automaton, words_of};
 ghost use Rattle.acredact.specs.Ruled.{AreSearchedBy, DoesFile, DoesFiles, IfLined, IsAnyLined, LeavesLined, LinesDone, NamedDone, StaysLined, unread_of};
-ghost use Rattle.acredact.specs.Volumes.{AddsFile, AddsStream, AddsText, AllVolume, OneVolume};
+ghost use Rattle.acredact.specs.Volumes.{AddsStream, AllVolume};
 
 use crate::failure::{tell_output, tell_unread};
 use crate::files::{add_file, both, is_input, opened};
@@ -107,12 +107,10 @@ pub fn cover_files<A: Automaton, P: Pieces, F: Folder, I: Read, W: Write, E: Sin
     ensures flushed { OnOk result (streams.new.output.device.flushed ≡ true) }
 {
     let mut all = true;
-    let mut rest = names;
-    while !rest.is_empty() {
-        let whole = cover_told(lined, folder, rest[0], counts, volume, streams)?;
-        add_file(volume, whole);
+    for name in names {
+        let whole = cover_told(lined, folder, *name, counts, volume, streams)?;
+        add_file(&mut volume.files, whole);
         all = both(all, whole);
-        rest = &rest[1..];
     }
     streams.output.flush()?;
     Ok(all)
@@ -130,8 +128,7 @@ fn cover_told<A: Automaton, P: Pieces, F: Folder, I: Read, W: Write, E: Sink>(
 ) -> Result<bool, LineError>
     requires ready { IsAnyLined A.Automaton P.Pieces lined.old }
     ensures outcome { IfLined A.Automaton P.Pieces lined.old (DoesFile W.Write E.Sink F.Folder
-        folder.now name.now result counts.old counts.new streams.old streams.new) }
-    ensures read { OneVolume F.Folder folder.now name.now result volume.old volume.new streams.old streams.new }
+        folder.now name.now result counts.old counts.new volume.old volume.new streams.old streams.new) }
     ensures files { volume.new.files ≡ volume.old.files }
     ensures still { StaysLined A.Automaton P.Pieces lined.old lined.new }
 {
@@ -168,9 +165,7 @@ fn cover_file<A: Automaton, P: Pieces, F: Folder, I: Read, W: Write>(
 ) -> Result<Option<Reason>, LineError>
     requires ready { IsAnyLined A.Automaton P.Pieces lined.old }
     ensures outcome { IfLined A.Automaton P.Pieces lined.old (NamedDone W.Write F.Folder
-        folder.now name.now result counts.old counts.new input.old input.new output.old output.new) }
-    ensures read { result ≡ Ok None → AddsFile (F.holds folder.now) name.now
-        volume.old volume.new input.old input.new }
+        folder.now name.now result counts.old counts.new volume.old volume.new input.old input.new output.old output.new) }
     ensures files { volume.new.files ≡ volume.old.files }
     ensures still { StaysLined A.Automaton P.Pieces lined.old lined.new }
 {
@@ -186,7 +181,7 @@ fn cover_file<A: Automaton, P: Pieces, F: Folder, I: Read, W: Write>(
     }
 }
 
-/// Redacts the input to its end, and answers why it cannot be read to that, where it cannot.
+/// Redacts the input to its end, counts its bytes, and answers why it cannot be read to that, where it cannot.
 fn cover_input<A: Automaton, P: Pieces, I: Read, W: Write>(
     lined: &mut Lined<'_, '_, A, P>,
     counts: &mut [u64],
@@ -196,31 +191,11 @@ fn cover_input<A: Automaton, P: Pieces, I: Read, W: Write>(
 ) -> Result<Option<Reason>, LineError>
     requires ready { IsAnyLined A.Automaton P.Pieces lined.old }
     ensures outcome { IfLined A.Automaton P.Pieces lined.old (LinesDone W.Write
-        result counts.old counts.new input.old input.new output.old output.new) }
-    ensures read { result ≡ Ok None → AddsText volume.old volume.new input.old input.new }
+        result counts.old counts.new volume.old volume.new input.old input.new output.old output.new) }
     ensures files { volume.new.files ≡ volume.old.files }
     ensures still { StaysLined A.Automaton P.Pieces lined.old lined.new }
 {
     input.restart();
-    unread_of(cover_metered(lined, counts, volume, input, output))
-}
-
-/// Redacts what the input gives, and counts its bytes.
-fn cover_metered<A: Automaton, P: Pieces, I: Read, W: Write>(
-    lined: &mut Lined<'_, '_, A, P>,
-    counts: &mut [u64],
-    volume: &mut Volume,
-    input: &mut FromRead<I>,
-    output: &mut FromWrite<W>,
-) -> Result<(), LineError>
-    requires ready { IsAnyLined A.Automaton P.Pieces lined.old }
-    ensures leaves { LeavesLined A.Automaton P.Pieces ⟦<FromRead<I> as Source>⟧ ⟦<FromWrite<W> as Sink>⟧ lined.old
-        result counts.old counts.new input.old input.new output.old output.new }
-    ensures read { OnOk result (AddsStream ⟦<FromRead<I> as Source>⟧ input.old input.new
-        volume.old.bytes volume.new.bytes) }
-    ensures files { volume.new.files ≡ volume.old.files }
-    ensures still { StaysLined A.Automaton P.Pieces lined.old lined.new }
-{
     let taken = cover_with::<Brand, A, P, FromRead<I>, FromWrite<W>>(
         lined,
         counts,
@@ -231,7 +206,7 @@ fn cover_metered<A: Automaton, P: Pieces, I: Read, W: Write>(
     volume.bytes = taken.bytes;
     let Taken { lent, done, .. } = taken;
     let _source = lent.source;
-    done
+    unread_of(done)
 }
 
 /// Redacts a source, and counts its bytes, of which all that it gives are known to be these.

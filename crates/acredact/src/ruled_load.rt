@@ -5,7 +5,7 @@ ghost use Rattle.secret_rules.specs.OpenLines.{CanSearch};
 ghost use Rattle.tool_parts.specs.Streams.{bytes_left};
 ghost use Rattle.acredact.specs.Arguments.{all_given};
 ghost use Rattle.acredact.specs.Doubts.{TellsDoubts};
-ghost use Rattle.acredact.specs.Ruled.{AreRulesGivenBy, AreRulesKeyedBy, IsReadyForLines};
+ghost use Rattle.acredact.specs.Ruled.{AreRulesGivenBy, IsReadyForLines};
 ghost use Rattle.acredact.specs.Tables.{HaveNoEmpty, secrets_of};
 
 use crate::doubts::tell_of_lists;
@@ -16,7 +16,6 @@ use crate::options::{Item, Word, has};
 use crate::patterns::{Rule, patterns_of, split_at};
 use crate::prepare::names;
 use crate::ruled_failure::RuledFailure;
-use crate::secrets::{Secrets, load_key};
 use chromesquid::{AhoCorasick, Automaton, BuildError, FromRead, MatchKind, Sink};
 use secret_rules::Rules;
 use std::alloc::Global;
@@ -29,15 +28,6 @@ use tool_parts::errors::Errors;
 pub struct GivenRules {
     /// The patterns.
     pub secrets: Vec<Rule>,
-    /// The rules.
-    pub rules: Rules,
-}
-
-/// The same with the key of pseudonyms.
-#[derive(Drop)]
-pub struct KeyedRules {
-    /// The patterns, and the key, where there is one.
-    pub secrets: Secrets,
     /// The rules.
     pub rules: Rules,
 }
@@ -71,25 +61,6 @@ pub fn load_rules<'a, F: Folder, I: Read>(
     }
 }
 
-/// Loads all patterns and rules, and the key of pseudonyms, where they are asked for.
-pub fn load_keyed<'a, F: Folder, I: Read>(
-    alloc: Global,
-    given: &[Item<'a>],
-    folder: &F,
-    input: &mut FromRead<I>,
-) -> Result<KeyedRules, RuledFailure<'a>>
-    ensures loaded { IfOk result (AreRulesKeyedBy F.Folder folder.now given.now (bytes_left input.old) (bytes_left input.new)) }
-{
-    let GivenRules { secrets, rules } = match load_rules(alloc, given, folder, input) {
-        Ok(loaded) => loaded,
-        Err(failure) => return Err(failure),
-    };
-    match load_key(alloc, given, secrets, folder, input) {
-        Ok(secrets) => Ok(KeyedRules { secrets, rules }),
-        Err(failure) => Err(RuledFailure::Plain(failure)),
-    }
-}
-
 /// Tells of doubtful patterns of lists, and makes ready what searches for all patterns.
 pub fn ready_for_lines<'a, E: Sink>(
     alloc: Global,
@@ -116,14 +87,10 @@ pub fn ready_for_lines<'a, E: Sink>(
 
 /// The number, from 1 on, of the first pattern that holds a line end, if one does.
 fn line_end_in(secrets: &[Rule]) -> Option<usize> {
-    let mut number: usize = 1;
-    let mut rest = secrets;
-    while !rest.is_empty() {
-        if split_at(rest[0].pattern.as_slice(), b'\n').is_some() {
-            return Some(number);
+    for (at, secret) in secrets.iter().enumerate() {
+        if split_at(secret.pattern.as_slice(), b'\n').is_some() {
+            return Some(at + 1);
         }
-        number = number.saturating_add(1);
-        rest = &rest[1..];
     }
     None
 }

@@ -1,24 +1,22 @@
 //! A call of the program over its arguments, files and streams.
 
-ghost use Rattle.std.specs.Prelude.{◌≡◌, ◌⊎◌, ◌<◌, ◌≤◌, IfErr, IfOk, OnErr, OnOk, false, true};
+ghost use Rattle.std.specs.Prelude.{◌≡◌, ◌<◌, ◌≤◌, IfErr, IfOk, OnOk, false, true};
 ghost use Rattle.chromesquid.specs.Searcher.{ForItsPatterns};
 ghost use Rattle.tool_parts.specs.Arguments.{texts};
 ghost use Rattle.tool_parts.specs.Streams.{WritesBytes};
 ghost use Rattle.tool_parts.specs.Telling.{Tells, TellsBytes, TellsSome};
-ghost use Rattle.acredact.specs.Arguments.{AreMistaken, AsksToRedact, GivesNoPattern, IfAsked, IfChecking, IfNoCheck, IfRight, IfRuled, IfRulesCheck, IsCheck, RefusesUnclean, all_given, any_check_asked, counts_asked, counts_given, has};
+ghost use Rattle.acredact.specs.Arguments.{AreMistaken, AsksAnyCheck, AsksToRedact, GivesNoPattern, IfAsked, IfChecking, IfNoCheck, IfRight, IfRuled, IfRulesCheck, IsCheck, RefusesUnclean, all_given, counts_asked, counts_given, has};
 ghost use Rattle.acredact.specs.Back.{DoesByPatterns};
-ghost use Rattle.acredact.specs.Calls.{AskedOutcome, BeginsAsked, CountsAsked, HidesAsked, IsCountsFailure, IsCountsLine, IsPrintFailure, IsWrongLine, LeavesNoneAsked, NumbersToldAsked, OutputFails, ReadyOutcome, RedactsAsked, TellsAsked, TellsAnyCounts, WarnsAsked};
+ghost use Rattle.acredact.specs.Calls.{AskedOutcome, BeginsAsked, CountsAsked, HidesAsked, IsCountsFailure, IsCountsLine, IsPrintFailure, IsWrongLine, LeavesNoneAsked, NumbersToldAsked, OutputFails, RedactsAsked, TellsAsked, TellsAnyCounts, WarnsAsked};
 ghost use Rattle.acredact.specs.Checks.{MatchedAsked, TellsListsAsked, TellsUncheckedAsked, UnmatchedAsked};
-ghost use Rattle.acredact.specs.Counts.{PutsText, lines_of_rules, secret_lines};
+ghost use Rattle.acredact.specs.Counts.{lines_of_rules, secret_lines};
 ghost use Rattle.acredact.specs.Files.{CanDo};
-ghost use Rattle.acredact.specs.Loading.{AreSome, loaded_in};
-ghost use Rattle.acredact.specs.Ready.{IsReadyBy};
 ghost use Rattle.acredact.specs.RuledChecks.{ListsByRules, RuledClean, RuledFindingsBegin, RuledFound};
 ghost use Rattle.acredact.specs.Ruled.{NotesAsked, RuledAsked, RuledBegins, RuledCountsAsked, RuledTells};
-ghost use Rattle.acredact.specs.Statuses.{IsIdle, SaysOfCall, SaysOfRedaction};
+ghost use Rattle.acredact.specs.Statuses.{IsIdle, SaysOfCall};
 ghost use Rattle.acredact.specs.Sums.{sums_of};
 ghost use Rattle.acredact.specs.Tables.{secrets_of};
-ghost use Rattle.acredact.specs.Summaries.{counts_told_by, summary_told_by, totals_text};
+ghost use Rattle.acredact.specs.Summaries.{totals_text};
 ghost use Rattle.acredact.specs.declared.options.Word.TheVariants.{Forms, Summary};
 
 use crate::arguments::items;
@@ -31,10 +29,10 @@ use crate::help::{HELP, VERSION};
 use crate::mistakes::Mistake;
 use crate::options::{Item, Word, asks_rules, checks, checks_by_rules, counts, gives_pattern, has};
 use crate::patterns::Rule;
-use crate::prepare::{Ready, job_of, prepare};
+use crate::prepare::{job_of, prepare};
 use crate::ruled::redact_by_rules;
 use crate::ruled_check::check_by_rules;
-use crate::secrets::{Secrets, load};
+use crate::secrets::load;
 use crate::streams::Streams;
 use crate::summary::{Volume, put_summary};
 use crate::sums::sums_of;
@@ -112,8 +110,8 @@ pub fn run<F: Folder, I: Read, W: Write, E: Sink>(
     // or 1 nothing is told but of patterns of lists that may be meant otherwise, and where these are refused there is none.
     ensures unchecked { IfChecking arguments.now (λ given. result ≡ 2
         → TellsUncheckedAsked F.Folder folder.now given streams.old streams.new E.Sink) }
-    ensures check_quiet { IfChecking arguments.now (λ given. result < 2
-        → TellsListsAsked F.Folder folder.now given streams.old streams.new E.Sink) }
+    ensures check_quiet { IfChecking arguments.now (λ all. result < 2
+        → TellsListsAsked F.Folder folder.now all streams.old streams.new E.Sink) }
     ensures check_unwritten { IfChecking arguments.now (λ _.
         streams.new.output ≡ streams.old.output) }
 
@@ -196,9 +194,10 @@ fn answer<F: Folder, I: Read, W: Write, E: Sink>(
 ) -> u8
     ensures says { SaysOfCall W.Write E.Sink F.Folder folder.now (all_given given.now)
         result streams.old streams.new }
-    ensures flushed { any_check_asked (all_given given.now) ≡ false → result ≡ 0
+    ensures flushed { (AsksAnyCheck (all_given given.now) → ⊥) → result ≡ 0
         → streams.new.output.device.flushed ≡ true }
-    ensures bound { any_check_asked (all_given given.now) ≡ false → (result ≡ 0) ⊎ (result ≡ 2) }
+    ensures bound { result ≤ 2 }
+    ensures one { result ≡ 1 → AsksAnyCheck (all_given given.now) }
 {
     if checks_by_rules(given) {
         return check_by_rules(alloc, given, folder, streams);
@@ -215,21 +214,6 @@ fn answer<F: Folder, I: Read, W: Write, E: Sink>(
             &mut streams.errors,
         );
     }
-    redact_plain(alloc, given, folder, streams)
-}
-
-/// Does what the options and files ask for, where that is no check and there are no rules, and answers the exit status.
-fn redact_plain<F: Folder, I: Read, W: Write, E: Sink>(
-    alloc: Global,
-    given: &[Item<'_>],
-    folder: &F,
-    streams: &mut Streams<'_, I, W, E>,
-) -> u8
-    ensures says { SaysOfRedaction W.Write E.Sink F.Folder folder.now (all_given given.now)
-        result streams.old streams.new }
-    ensures flushed { result ≡ 0 → streams.new.output.device.flushed ≡ true }
-    ensures bound { (result ≡ 0) ⊎ (result ≡ 2) }
-{
     match redact_asked(alloc, given, folder, streams) {
         Ok(true) => 0,
         Ok(false) => FAILED,
@@ -237,7 +221,7 @@ fn redact_plain<F: Folder, I: Read, W: Write, E: Sink>(
     }
 }
 
-/// Does what the options and files ask for, and answers whether all files were read.
+/// Redacts what the options and files ask for, without rules, and answers whether all files were read.
 fn redact_asked<'a, F: Folder, I: Read, W: Write, E: Sink>(
     alloc: Global,
     given: &[Item<'a>],
@@ -269,7 +253,13 @@ fn redact_asked<'a, F: Folder, I: Read, W: Write, E: Sink>(
         Ok(ready) => ready,
         Err(failure) => return Err(failure),
     };
-    redact_ready(alloc, given, &secrets, &ready, folder, streams)
+    let rules = secrets.rules.as_slice();
+    let mut counted = counts_of(alloc, rules, counts(given))?;
+    let tally = counted.as_mut_slice();
+    let mut volume = Volume { files: 0, bytes: 0 };
+    let job = job_of(alloc, given, &secrets, &ready, folder);
+    let all = redact_by(&ready.searcher, &job, tally, &mut volume, streams)?;
+    tell_counted(alloc, all, given, rules, tally, volume, &mut streams.errors)
 }
 
 /// Writes a text whole, and answers that nothing was left out.
@@ -282,30 +272,6 @@ fn print<'a, W: Write>(output: &mut FromWrite<W>, text: &[u8]) -> Result<bool, F
     write_whole(output, text)?;
     output.flush()?;
     Ok(true)
-}
-
-/// Redacts all files by what is ready, tells the counts where they are asked for, and answers whether all files were read.
-fn redact_ready<'a, F: Folder, I: Read, W: Write, E: Sink>(
-    alloc: Global,
-    given: &[Item<'_>],
-    secrets: &Secrets,
-    ready: &Ready<'_>,
-    folder: &F,
-    streams: &mut Streams<'_, I, W, E>,
-) -> Result<bool, Failure<'a>>
-    requires some { AreSome secrets.now }
-    requires ready { IsReadyBy given.now secrets.now ready.now }
-    ensures outcome { ReadyOutcome W.Write E.Sink F.Folder folder.now (all_given given.now)
-        (loaded_in secrets.now) result streams.old streams.new }
-    ensures flushed { OnOk result (streams.new.output.device.flushed ≡ true) }
-{
-    let rules = secrets.rules.as_slice();
-    let mut counted = counts_of(alloc, rules, counts(given))?;
-    let tally = counted.as_mut_slice();
-    let mut volume = Volume { files: 0, bytes: 0 };
-    let job = job_of(alloc, given, secrets, ready, folder);
-    let all = redact_by(&ready.searcher, &job, tally, &mut volume, streams)?;
-    tell_counted(alloc, all, given, rules, tally, volume, &mut streams.errors)
 }
 
 /// Tells the counts, where they are asked for, and answers whether all files were read.
@@ -351,49 +317,26 @@ fn tell_totals<E: Sink>(
     tally: &[u64],
     volume: Volume,
 ) -> Result<(), AllocError>
+    requires asked { counts_given given.now ≡ true }
     ensures told { OnOk result (TellsBytes E.Sink errors.old errors.new
         (totals_text (all_given given.now) (lines_of_rules rules.now)
         (sums_of (secrets_of rules.now) tally.now) volume)) }
-    ensures untold { OnErr result (errors.new ≡ errors.old) }
+    ensures lines { Tells E.Sink (IsCountsLine (all_given given.now) (secrets_of rules.now))
+        errors.old errors.new }
+    ensures these { Tells E.Sink (λ line. line ≡ totals_text (all_given given.now)
+        (secret_lines (secrets_of rules.now)) (sums_of (secrets_of rules.now) tally.now) volume)
+        errors.old errors.new }
 {
     let sums = sums_of(alloc, rules, tally)?;
     let sums = sums.as_slice();
     let mut text = Vec::new(alloc);
-    put_asked_counts(&mut text, given, rules, sums)?;
-    put_asked_summary(&mut text, given, sums, volume)?;
-    errors.write(&[text.as_slice()]);
-    Ok(())
-}
-
-/// The lines of the counts, if they are asked for.
-fn put_asked_counts(
-    text: &mut Vec<u8>,
-    given: &[Item<'_>],
-    rules: &[Rule],
-    tally: &[u64],
-) -> Result<(), AllocError>
-    ensures put { OnOk result (PutsText text.old text.new
-        (counts_told_by (all_given given.now) (lines_of_rules rules.now) tally.now)) }
-{
     if has(given, Word::Count) {
-        return put_counts(text, rules, tally);
+        put_counts(&mut text, rules, sums)?;
     }
-    Ok(())
-}
-
-/// The summary, if it is asked for.
-fn put_asked_summary(
-    text: &mut Vec<u8>,
-    given: &[Item<'_>],
-    tally: &[u64],
-    volume: Volume,
-) -> Result<(), AllocError>
-    ensures put { OnOk result (PutsText text.old text.new
-        (summary_told_by (all_given given.now) tally.now volume)) }
-{
     if has(given, Word::Summary) {
-        return put_summary(text, volume, tally);
+        put_summary(&mut text, volume, sums)?;
     }
+    errors.write(&[text.as_slice()]);
     Ok(())
 }
 

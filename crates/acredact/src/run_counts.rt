@@ -1,8 +1,8 @@
 //! How many runs have the number of each pattern and of each rule, and how that and a summary are told.
 
-ghost use Rattle.std.specs.Prelude.{◌≡◌, IfOk, OnErr, OnOk, drop};
+ghost use Rattle.std.specs.Prelude.{◌≡◌, IfOk, OnOk, drop, true};
 ghost use Rattle.tool_parts.specs.Telling.{Tells, TellsBytes};
-ghost use Rattle.acredact.specs.Arguments.{all_given};
+ghost use Rattle.acredact.specs.Arguments.{all_given, counts_given};
 ghost use Rattle.acredact.specs.Counts.{PutsText, lines_of_rules};
 ghost use Rattle.acredact.specs.RunCounts.{IsRunsLine, TellsAnyRuns, objects_told_by, rule_counts_text, runs_text, runs_told_by};
 
@@ -66,9 +66,10 @@ fn write_runs<E: Sink>(
     volume: Volume,
     errors: &mut Errors<'_, E>,
 ) -> Result<(), AllocError>
+    requires asked { counts_given given.now ≡ true }
     ensures told { OnOk result (TellsBytes E.Sink errors.old errors.new
         (runs_text (all_given given.now) secrets.now line_rules.now tally.now volume)) }
-    ensures untold { OnErr result (errors.new ≡ errors.old) }
+    ensures lines { Tells E.Sink (IsRunsLine (all_given given.now)) errors.old errors.new }
 {
     let sums = sums_of(alloc, secrets, tally)?;
     let sums = sums.as_slice();

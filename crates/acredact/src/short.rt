@@ -32,11 +32,9 @@ fn tell_each<E: Sink>(errors: &mut Errors<'_, E>, rules: &[Rule])
     ensures told { TellsBytes E.Sink errors.old errors.new (concat (short_lines 1 (secrets_of rules.now))) }
 {
     let mut number: usize = 1;
-    let mut rest = rules;
-    while let Some((rule, more)) = rest.split_first() {
+    for rule in rules {
         tell_if_short(errors, rule, number);
         number += 1;
-        rest = more;
     }
 }
 
@@ -67,13 +65,11 @@ fn refuse_first<'a>(rules: &[Rule]) -> Result<(), Failure<'a>>
     ensures refused { IfErr result (RefusesShort (secrets_of rules.now)) }
 {
     let mut number: usize = 1;
-    let mut rest = rules;
-    while let Some((rule, more)) = rest.split_first() {
+    for rule in rules {
         if is_formless(rule) {
             return Err(Failure::Short(number));
         }
         number += 1;
-        rest = more;
     }
     Ok(())
 }

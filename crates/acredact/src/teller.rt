@@ -1,11 +1,11 @@
 //! A visitor of lines that tells by which patterns and rules something is covered in them.
 
-ghost use Rattle.std.specs.Prelude.{◌≡◌, IfErr, IfOk, OnErr, OnOk};
+ghost use Rattle.std.specs.Prelude.{◌≡◌, IfErr, OnErr, OnOk};
 ghost use Rattle.std.specs.Io.KnownBytes.{Appends};
 ghost use Rattle.aho_devices.specs.Counts.{AppendsBeginning};
 ghost use Rattle.secret_rules.specs.Visitors.{IsVisitRefusal};
 ghost use Rattle.acredact.specs.Counts.{PutsText};
-ghost use Rattle.acredact.specs.RuledChecks.{findings_behind, findings_of, is_new, next_finding, runs_findings, with_new};
+ghost use Rattle.acredact.specs.RuledChecks.{findings_of, is_new, next_finding, runs_findings, with_new};
 
 use crate::findings::Findings;
 use crate::legend::{numbers_in, put_finding, told_for};
@@ -31,23 +31,16 @@ impl<W: Sink> LineVisitor for Teller<'_, '_, '_, '_, W> {
 
     fn visit(&mut self, _line: &[u8], _end: &[u8], runs: &[Match]) -> Result<(), StreamError> {
         tell_runs(&mut *self.output, &self.findings, runs)?;
-        self.findings = behind(self.findings, runs);
+        self.findings = Findings {
+            line: self.findings.line.saturating_add(1),
+            found: self.findings.found || !runs.is_empty(),
+            ..self.findings
+        };
         Ok(())
     }
 }
 
-/// What was found with one more line, which has these runs.
-fn behind<'n, 's, 'r>(findings: Findings<'n, 's, 'r>, runs: &[Match]) -> Findings<'n, 's, 'r>
-    ensures behind { result ≡ findings_behind findings.entry runs.now }
-{
-    Findings {
-        line: findings.line.saturating_add(1),
-        found: findings.found || !runs.is_empty(),
-        ..findings
-    }
-}
-
-/// Tells of the runs of a line.
+/// Tells of the runs of a line: of each number once.
 fn tell_runs<W: Sink>(
     output: &mut W,
     findings: &Findings<'_, '_, '_>,
@@ -62,18 +55,10 @@ fn tell_runs<W: Sink>(
     if runs.is_empty() {
         return Ok(());
     }
-    let text = told_text(findings, runs)?;
-    write_whole(output, text.as_slice())
-}
-
-/// What is told of the runs of a line: of each number once.
-fn told_text(findings: &Findings<'_, '_, '_>, runs: &[Match]) -> Result<Vec<u8>, AllocError>
-    ensures text { IfOk result (λ text. text.items ≡ findings_of findings.now runs.now) }
-{
     let mut text = Vec::new(findings.alloc);
     let mut came = vec![in findings.alloc; false; numbers_in(&findings.legend)]?;
     put_runs(&mut text, came.as_mut_slice(), findings, runs)?;
-    Ok(text)
+    write_whole(output, text.as_slice())
 }
 
 /// Puts what is told of some runs, where runs of these numbers came before.
@@ -85,11 +70,9 @@ fn put_runs(
 ) -> Result<(), AllocError>
     ensures put { OnOk result (PutsText text.old text.new (runs_findings findings.now came.old runs.now)) }
 {
-    let mut rest = runs;
-    while !rest.is_empty() {
-        let number = told_for(&findings.legend, rest[0].pattern().as_usize());
+    for run in runs {
+        let number = told_for(&findings.legend, run.pattern().as_usize());
         put_run(text, came, findings, number)?;
-        rest = &rest[1..];
     }
     Ok(())
 }

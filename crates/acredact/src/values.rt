@@ -5,7 +5,7 @@ ghost use Rattle.std.specs.List.{filter_map};
 ghost use Rattle.aho_core.specs.Replacement.{pieces_of};
 ghost use Rattle.acredact.specs.Reads.{bytes_of_names};
 ghost use Rattle.acredact.specs.Tables.{lines_in, stripped_by};
-ghost use Rattle.acredact.specs.Values.{are_refused, behind_equals, fault_of_line, fault_of_value, first_fault, is_named, is_no_variable, is_some_value, is_value_text, is_variable_name, lacks_value, lent, value_in_line, value_of_entry, values_with, whole_in};
+ghost use Rattle.acredact.specs.Values.{are_refused, behind_equals, fault_of_line, first_fault, is_named, is_no_variable, is_some_value, is_value_text, is_variable_name, lent, value_in_line, value_of_entry, values_with, whole_in};
 
 use crate::patterns::{
     BadLine, Form, LineFault, ends_in_return, lines_of, part_of, stripped_by, without_last,
@@ -17,12 +17,8 @@ pub fn is_variable_name(name: &str) -> bool
     ensures is { result ≡ is_variable_name name.now }
 {
     let text = without_last(name.as_bytes(), b'*');
-    for byte in text {
-        if !byte.is_ascii_alphanumeric() && *byte != b'_' {
-            return false;
-        }
-    }
-    true
+    text.iter()
+        .all(|byte| byte.is_ascii_alphanumeric() || *byte == b'_')
 }
 
 /// Whether a variable has this name, or one that begins so, where the name ends in a star.
@@ -111,16 +107,6 @@ fn is_no_variable(line: &[u8]) -> bool
     true
 }
 
-/// The value in a line of a file of variables: what stands behind its first equals sign.
-fn value_in_line(line: &[u8]) -> Option<&[u8]>
-    ensures value { lent result ≡ value_in_line line.entry.now }
-{
-    if is_no_variable(line) {
-        return None;
-    }
-    behind_equals(line)
-}
-
 /// What stands behind the first equals sign of a text, where there is one.
 fn behind_equals(text: &[u8]) -> Option<&[u8]>
     ensures behind { lent result ≡ behind_equals text.entry.now }
@@ -141,7 +127,10 @@ pub fn values_in_text<'t>(
     let mut left = lines_of(text);
     while let Some(rest) = left {
         let (line, more) = part_of(rest, b'\n');
-        push_value(&mut values, value_in_line(stripped_by(form, line)))?;
+        let line = stripped_by(form, line);
+        if !is_no_variable(line) {
+            push_value(&mut values, behind_equals(line))?;
+        }
         left = more;
     }
     Ok(values)
@@ -157,14 +146,7 @@ fn fault_of_line(allow_empty: bool, line: &[u8]) -> Option<LineFault>
     if ends_in_return(line) {
         return Some(LineFault::CarriageReturn);
     }
-    fault_of_value(allow_empty, behind_equals(line))
-}
-
-/// What is wrong with the value of a line, if something is.
-fn fault_of_value(allow_empty: bool, value: Option<&[u8]>) -> Option<LineFault>
-    ensures fault { result ≡ fault_of_value allow_empty (lent value.entry) }
-{
-    match value {
+    match behind_equals(line) {
         Some(value) => {
             if value.is_empty() && !allow_empty {
                 return Some(LineFault::EmptyValue);
@@ -203,13 +185,9 @@ pub fn whole_in(form: Form, text: &[u8]) -> &[u8]
 pub fn are_refused(allow_empty: bool, values: &[&[u8]]) -> bool
     ensures refused { result ≡ are_refused allow_empty (pieces_of values.now) }
 {
-    !allow_empty && lacks_value(values)
-}
-
-/// Whether there is no value, or one is empty.
-fn lacks_value(values: &[&[u8]]) -> bool
-    ensures lacks { result ≡ lacks_value (pieces_of values.now) }
-{
+    if allow_empty {
+        return false;
+    }
     for value in values {
         if value.is_empty() {
             return true;

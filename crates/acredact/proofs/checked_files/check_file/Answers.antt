@@ -2,7 +2,7 @@
 use Rattle.std.proofs.Common.{◌≡◌, ◌∙◌, false, sym, true}
 use Rattle.acredact.specs.RuledChecks.{quest_in}
 use Rattle.acredact.proofs.LookedFiles.{looked_file, named_none}
-use Rattle.acredact.proofs.RuledFiles.{read_input, read_opened}
+use Rattle.acredact.proofs.OneFile.{read_input, read_opened}
 use Rattle.acredact.proofs.checked_files.check_file.Goals as goal
 
 pub returns-then-is_input-clause-looked : goal.returns-then-is_input-clause-looked

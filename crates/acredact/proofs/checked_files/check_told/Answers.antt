@@ -10,8 +10,8 @@ use Rattle.acredact.proofs.LookedFiles.{look_told, named_none}
 use Rattle.acredact.proofs.Statuses.{tells_one}
 use Rattle.acredact.proofs.checked_files.check_told.Goals as goal
 
-pub returns-then-is_told_to-clause-sees : goal.returns-then-is_told_to-clause-sees
-returns-then-is_told_to-clause-sees g c = λ covering covered. record {
+pub returns-then-is_output-clause-sees : goal.returns-then-is_output-clause-sees
+returns-then-is_output-clause-sees g c = λ covering covered. record {
   whole = λ (is : false ≡ true). absurd (cc);
   begun = named_none (quest_in g.F.Folder c.args.checked.now covering) c.args.name.now _ _;
   told = tells_one g.E.Sink (IsUnreadLine (c.args.name.now ∷ [])) _ _ (output_line c.args.name.now) (c.args.name.now, inl refl, inr refl) c.tell_output.ensures.told;

@@ -1,12 +1,8 @@
--- The words before the place of the loop cannot be spelled.
+-- None of the words before the place of the loop can be spelled.
 use Rattle.acredact.proofs.Common.{pieces_of}
-use Rattle.std.proofs.Common.{ℕ, ◌-◌, ◌<◌, ◌≤◌, get_or, length}
-use Rattle.std.specs.Prelude.{[]}
-use Rattle.acredact.specs.Spelling.{IsUnlike}
+use Rattle.std.proofs.Common.{◌≡◌, ◌+◌, drop}
+use Rattle.acredact.specs.Spelling.{first_number, first_spelled, may_be_spelled}
 use Rattle.acredact.proofs.clean.first_spelled.Given as goal
 
 abbrev pub invariant-loop-at : goal.invariant-loop-at
-invariant-loop-at l = (l.at ≤ length l.fn.words) × ((number : ℕ) → number < l.at → IsUnlike l.fn.ignore_case (get_or (pieces_of l.fn.words) number []))
-
-abbrev pub decreases-loop-at : goal.decreases-loop-at
-decreases-loop-at l = length l.fn.words - l.at
+invariant-loop-at l = first_spelled l.fn.ignore_case (pieces_of l.fn.words) ≡ first_number (may_be_spelled l.fn.ignore_case) (l.at + 1) (pieces_of (drop l.at l.fn.words))

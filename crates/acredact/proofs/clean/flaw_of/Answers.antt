@@ -18,5 +18,5 @@ pub returns-in-None-found_in : goal.returns-in-None-found_in
 returns-in-None-found_in g c =
     let some : 0 < length c.args.piece.now = search rules in
     record {
-      flaw = λ p of are. clean_by p c.args.judge.now.ignore_case (pieces_of c.args.judge.now.words.now) are c.args.piece.now _ _ some refl refl c.in-None.ensures.none c.in-None-holder_of.ensures.none (c.in-None-found_in.ensures.none p of);
+      flaw = λ p of are. clean_by p c.args.judge.now.ignore_case (pieces_of c.args.judge.now.words.now) are c.args.piece.now _ _ some refl refl c.in-None.ensures.holder c.in-None-holder_of.ensures.holder (c.in-None-found_in.ensures.none p of);
     }

@@ -1,15 +1,10 @@
--- One word more does not hold the byte.
-use Rattle.std.proofs.Common.{List, ℕ, below_more, arith, subst}
-use Rattle.acredact.specs.Spelling.{HoldsByte}
-use Rattle.acredact.proofs.Flaws.{piece_is, pieces_count}
+-- Where the byte is not marked no word holds it.
+use Rattle.acredact.proofs.Common.{pieces_of}
+use Rattle.std.proofs.Common.{rules, ◌≡◌, false, get_or, sym}
+use Rattle.acredact.proofs.Flaws.{unmarked}
 use Rattle.acredact.proofs.clean.holder_of.Goals as goal
 
-pub loop-at-preserved : goal.loop-at-preserved
-loop-at-preserved c = (
-  omega (arith, c.loop-at-test.true),
-  below_more _ _ c.loop-at.invariant.1 (λ held.
-      c.if-holds.ensures.holds (subst (λ (l : List ℕ). HoldsByte c.args.judge.now.ignore_case l c.args.byte) (piece_is c.args.judge.now.words.now c.loop-at.at _ c.loop-at-test.true) held)),
-)
-
-pub returns-clause-none : goal.returns-clause-none
-returns-clause-none c = λ number numbered. c.loop-at.invariant.1 number (omega (arith, numbered, pieces_count c.args.judge.now.words.now, c.loop-at-test.false))
+pub returns-then-not-marks-folded : goal.returns-then-not-marks-folded
+returns-then-not-marks-folded c =
+    let none : get_or c.args.marks.now c.folded.result false ≡ false = search rules in
+    record { holder = sym (unmarked c.args.judge.now.ignore_case c.args.byte c.folded.result c.args.marks.now c.folded.ensures.folded none 1 (pieces_of c.args.judge.now.words.now) c.requires.marked) }

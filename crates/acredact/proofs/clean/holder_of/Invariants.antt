@@ -1,12 +1,9 @@
 -- The words before the place of the loop do not hold the byte.
 use Rattle.acredact.proofs.Common.{pieces_of}
-use Rattle.std.proofs.Common.{ℕ, ◌-◌, ◌<◌, ◌≤◌, get_or, length}
-use Rattle.std.specs.Prelude.{[]}
-use Rattle.acredact.specs.Spelling.{HoldsByte}
+use Rattle.std.proofs.Common.{◌≡◌, ◌+◌, drop}
+use Rattle.acredact.specs.Spelling.{first_number, holder_in, holds_byte}
 use Rattle.acredact.proofs.clean.holder_of.Given as goal
 
 abbrev pub invariant-loop-at : goal.invariant-loop-at
-invariant-loop-at l = (l.at ≤ length l.fn.judge.words.now) × ((number : ℕ) → number < l.at → HoldsByte l.fn.judge.ignore_case (get_or (pieces_of l.fn.judge.words.now) number []) l.fn.byte → ⊥)
-
-abbrev pub decreases-loop-at : goal.decreases-loop-at
-decreases-loop-at l = length l.fn.judge.words.now - l.at
+invariant-loop-at l = holder_in l.fn.judge.ignore_case (pieces_of l.fn.judge.words.now) l.fn.byte
+    ≡ first_number (λ word. holds_byte l.fn.judge.ignore_case word l.fn.byte) (l.at + 1) (pieces_of (drop l.at l.fn.judge.words.now))

@@ -1,12 +1,13 @@
 -- The bytes before the place of the loop are marked, and what was marked stays so.
 use Rattle.acredact.proofs.Common.{folded_by}
-use Rattle.std.proofs.Common.{◌≡◌, ℕ, ◌<◌, get_or}
+use Rattle.std.proofs.Common.{◌≡◌, get_or}
+use Rattle.std.specs.List.{AllWithin}
 use Rattle.std.specs.Prelude.{false, true}
 use Rattle.acredact.specs.Pieces.{StayMarked}
 use Rattle.acredact.proofs.clean.mark.Given as goal
 
 abbrev pub invariant-loop-byte : goal.invariant-loop-byte
 invariant-loop-byte l = record {
-  marked : (place : ℕ) → place < l.byte-index → get_or l.marks (folded_by l.ignore_case (get_or l.word place 0)) false ≡ true;
+  marked : AllWithin (λ byte. get_or l.marks (folded_by l.fn.ignore_case byte) false ≡ true) l.fn.word 0 l.byte-index;
   stay : StayMarked l.initial.marks l.marks;
 }

@@ -1,56 +1,26 @@
 -- The file is that of the input, or of the folder.
-use Rattle.acredact.proofs.Common.{Keeps-refl, output_bytes}
-use Rattle.std.proofs.Common.{◌∙◌, inr, sym, refl}
-use Rattle.acredact.specs.Bounds.{NumbersRead}
+use Rattle.acredact.proofs.Common.{Keeps-refl}
+use Rattle.std.proofs.Common.{◌≡◌, ◌∙◌, inr, refl, sym}
+use Rattle.std.specs.Prelude.{None, Ok, Some}
 use Rattle.acredact.specs.Files.{work_of}
-use Rattle.acredact.specs.Totals.{HasRanges}
-use Rattle.acredact.proofs.Bounded.{no_numbers, opened_numbers}
-use Rattle.acredact.proofs.OneFile.{comes_input, comes_opened, of_input}
-use Rattle.acredact.proofs.Metering.{input_bytes, opened_bytes}
-use Rattle.acredact.proofs.Totals.{opened_counts}
+use Rattle.acredact.proofs.Bounded.{no_numbers}
+use Rattle.acredact.proofs.Jobs.{named_does}
+use Rattle.acredact.proofs.OneFile.{read_input, read_opened}
 use Rattle.acredact.proofs.files.redact_file.Goals as goal
 
 pub returns-then-is_input-clause-outcome : goal.returns-then-is_input-clause-outcome
 returns-then-is_input-clause-outcome g c = λ red by.
-    let text = c.redact_input.ensures.outcome red by in
-    record { comes = comes_input (work_of g.F.Folder c.args.job.now red) c.args.name.now _ _ _ _ c.redact_input.result (sym c.is_input.ensures.is ∙ c.if-is_input.true) text.comes; fails = text.fails }
+    named_does g.W.Write (work_of g.F.Folder c.args.job.now red) (read_input (sym c.is_input.ensures.is ∙ c.if-is_input.true)) (c.redact_input.ensures.outcome red by)
 
 pub returns-in-Ok-clause-outcome : goal.returns-in-Ok-clause-outcome
 returns-in-Ok-clause-outcome g c = λ red by.
-    let text = c.redact_input-in-Ok.ensures.outcome red by in
-    record {
-      comes = comes_opened (work_of g.F.Folder c.args.job.now red) c.args.name.now _ _ _ _ c.redact_input-in-Ok.result (sym c.is_input.ensures.is ∙ c.if-is_input.false) refl _ _ c.in-Ok.ensures.told text.comes;
-      fails = text.fails;
-    }
+    named_does g.W.Write (work_of g.F.Folder c.args.job.now red) (read_opened (sym c.is_input.ensures.is ∙ c.if-is_input.false) c.in-Ok.ensures.told) (c.redact_input-in-Ok.ensures.outcome red by)
 
 pub returns-in-Err-clause-outcome : goal.returns-in-Err-clause-outcome
-returns-in-Err-clause-outcome g c = λ red by.
-    record { comes = inr (c.in-Err.ensures.refused, refl, Keeps-refl (output_bytes g.W.Write c.args.output.now)); fails = record { write_failed = refl; took_nothing = refl; only = tt } }
-
-pub returns-then-is_input-clause-counted : goal.returns-then-is_input-clause-counted
-returns-then-is_input-clause-counted g c = λ red by whole.
-    let (ranges, has, counted) = c.redact_input.ensures.counted whole red by in
-    (ranges, of_input (g.F.Folder.holds c.args.job.now.folder.now) c.args.name.now (HasRanges red ranges) _ _ (sym c.is_input.ensures.is ∙ c.if-is_input.true) has, counted)
-
-pub returns-in-Ok-clause-counted : goal.returns-in-Ok-clause-counted
-returns-in-Ok-clause-counted g c = λ red by whole.
-    opened_counts (work_of g.F.Folder c.args.job.now red) c.args.name.now _ _ _ _ (sym c.is_input.ensures.is ∙ c.if-is_input.false) refl _ _ c.in-Ok.ensures.told (c.redact_input-in-Ok.ensures.counted whole red by)
-
-pub returns-then-is_input-clause-read : goal.returns-then-is_input-clause-read
-returns-then-is_input-clause-read g c = λ whole.
-    input_bytes (g.F.Folder.holds c.args.job.now.folder.now) c.args.name.now _ _ _ _ (sym c.is_input.ensures.is ∙ c.if-is_input.true) (c.redact_input.ensures.read whole)
-
-pub returns-in-Ok-clause-read : goal.returns-in-Ok-clause-read
-returns-in-Ok-clause-read g c = λ whole.
-    opened_bytes (g.F.Folder.holds c.args.job.now.folder.now) c.args.name.now _ _ _ _ (sym c.is_input.ensures.is ∙ c.if-is_input.false) refl _ _ c.in-Ok.ensures.told (c.redact_input-in-Ok.ensures.read whole)
-
-pub returns-then-is_input-clause-most : goal.returns-then-is_input-clause-most
-returns-then-is_input-clause-most g c =
-    of_input (g.F.Folder.holds c.args.job.now.folder.now) c.args.name.now (NumbersRead c.args.counts.now c.redact_input.new.counts c.args.volume.now.bytes c.redact_input.new.volume.bytes) _ _ (sym c.is_input.ensures.is ∙ c.if-is_input.true) c.redact_input.ensures.most
-
-pub returns-in-Ok-clause-most : goal.returns-in-Ok-clause-most
-returns-in-Ok-clause-most g c =
-    opened_numbers (g.F.Folder.holds c.args.job.now.folder.now) c.args.name.now _ _ _ _ _ _ (sym c.is_input.ensures.is ∙ c.if-is_input.false) refl _ _ c.in-Ok.ensures.told c.redact_input-in-Ok.ensures.most
-
-pub returns-in-Err-clause-most : goal.returns-in-Err-clause-most
-returns-in-Err-clause-most g c = no_numbers (g.F.Folder.holds c.args.job.now.folder.now) c.args.name.now _ c.args.counts.now _
+returns-in-Err-clause-outcome g c = λ red by. record {
+  comes = inr (c.in-Err.ensures.refused, refl, Keeps-refl _);
+  fails = record { write_failed = refl; took_nothing = refl; only = tt };
+  ranges = λ (is : Ok (Some c.in-Err.reason) ≡ Ok None). absurd (cc);
+  read = λ (is : Ok (Some c.in-Err.reason) ≡ Ok None). absurd (cc);
+  most = no_numbers (g.F.Folder.holds c.args.job.now.folder.now) c.args.name.now _ c.args.counts.now _;
+}

@@ -1,29 +1,49 @@
 -- A file that was not read to its end is told, and so is one that the output goes to.
-use Rattle.std.proofs.Common.{rules, ◌≡◌, refl, subst}
-use Rattle.std.specs.Prelude.{Bool, Err}
-use Rattle.acredact.specs.Files.{work_of}
+use Rattle.acredact.proofs.Common.{Keeps-refl, tells-nothing}
+use Rattle.std.proofs.Common.{[], rules, ◌≡◌, inl, inr, refl, true}
+use Rattle.std.specs.Prelude.{Err, Ok}
+use Rattle.acredact.specs.Files.{unread_line, work_of}
+use Rattle.acredact.specs.Messages.{output_line}
 use Rattle.acredact.proofs.Bounded.{no_numbers}
-use Rattle.acredact.proofs.Done.{told_cut, told_output, told_unread, told_whole}
+use Rattle.acredact.proofs.Done.{told_line}
 use Rattle.acredact.proofs.files.redact_told.Goals as goal
 
 pub returns-then-is_output-clause-outcome : goal.returns-then-is_output-clause-outcome
 returns-then-is_output-clause-outcome g c = λ red by.
-    told_output g.W.Write g.E.Sink (work_of g.F.Folder c.args.job.now red) c.args.name.now c.args.streams.now c.tell_output.new.errors
-    (subst (λ (b : Bool). g.F.Folder.meets c.args.job.now.folder.now c.args.name.now b) c.if-is_output.true c.is_output.ensures) c.tell_output.ensures.told
-
-pub returns-then-is_output-clause-most : goal.returns-then-is_output-clause-most
-returns-then-is_output-clause-most g c = no_numbers (g.F.Folder.holds c.args.job.now.folder.now) c.args.name.now _ c.args.counts.now _
+    told_line g.W.Write g.E.Sink (work_of g.F.Folder c.args.job.now red) c.args.name.now (output_line c.args.name.now) _ _ _ _ _ _
+    (inr (inr (refl, rw c.if-is_output.true at c.is_output.ensures, refl, Keeps-refl _))) c.tell_output.ensures.told (record { write_failed = refl; took_nothing = refl; only = tt })
+    (no_numbers (g.F.Folder.holds c.args.job.now.folder.now) c.args.name.now _ c.args.counts.now _)
 
 pub returns-in_err-redact_file-clause-outcome : goal.returns-in_err-redact_file-clause-outcome
 returns-in_err-redact_file-clause-outcome g c =
-    let is : c.from_residual.result ≡ Err c.in_err-redact_file.field-0.0 = search rules in
-    λ red by. rw is (told_cut g.W.Write g.E.Sink (work_of g.F.Folder c.args.job.now red) _ _ _ _ (c.in_err-redact_file.ensures.outcome red by) refl)
+    let is : c.from_residual.result ≡ Err c.in_err-redact_file.field-0.0 = search rules in λ red by.
+    let file = c.in_err-redact_file.ensures.outcome red by in
+    rw is
+    (record {
+      done = tt;
+      cut = (file.comes, tells-nothing g.E.Sink _);
+      quiet = λ (is : Err c.in_err-redact_file.field-0.0 ≡ Ok true). absurd (cc);
+      fails = record { write_failed = file.fails.write_failed; took_nothing = file.fails.took_nothing; only = file.fails.only };
+      ranges = λ (is : Err c.in_err-redact_file.field-0.0 ≡ Ok true). absurd (cc);
+      read = λ (is : Err c.in_err-redact_file.field-0.0 ≡ Ok true). absurd (cc);
+      most = file.most;
+    })
 
 pub returns-in-None-clause-outcome : goal.returns-in-None-clause-outcome
-returns-in-None-clause-outcome g c = λ red by. told_whole g.W.Write g.E.Sink (work_of g.F.Folder c.args.job.now red) _ _ _
-    (subst (λ (b : Bool). g.F.Folder.meets c.args.job.now.folder.now c.args.name.now b) c.if-is_output.false c.is_output.ensures)
-    (rw c.in-None.is at (c.in_ok-redact_file.ensures.outcome red by)) refl
+returns-in-None-clause-outcome g c = λ red by.
+    let file = rw c.in-None.is at (c.in_ok-redact_file.ensures.outcome red by) in
+    record {
+      done = ([], refl, (inl (refl, rw c.if-is_output.false at c.is_output.ensures, file.comes), tells-nothing g.E.Sink _));
+      cut = tt;
+      quiet = λ is. refl;
+      fails = record { write_failed = file.fails.write_failed; took_nothing = file.fails.took_nothing; only = tt };
+      ranges = λ is. file.ranges refl;
+      read = λ is. file.read refl;
+      most = file.most;
+    }
 
 pub returns-in-Some-clause-outcome : goal.returns-in-Some-clause-outcome
-returns-in-Some-clause-outcome g c = λ red by. told_unread g.W.Write g.E.Sink (work_of g.F.Folder c.args.job.now red) c.args.name.now c.in-Some.reason c.args.streams.now (record c.args.streams.now { input = c.redact_file.new.input; output = c.redact_file.new.output }) _
-    (rw c.in-Some.is at (c.in_ok-redact_file.ensures.outcome red by)) refl c.tell_unread.ensures.told
+returns-in-Some-clause-outcome g c = λ red by.
+    let file = rw c.in-Some.is at (c.in_ok-redact_file.ensures.outcome red by) in
+    told_line g.W.Write g.E.Sink (work_of g.F.Folder c.args.job.now red) c.args.name.now (unread_line c.args.name.now c.in-Some.reason) _ _ _ _ _ _
+    (inr (inl (c.in-Some.reason, refl, file.comes))) c.tell_unread.ensures.told (record { write_failed = file.fails.write_failed; took_nothing = file.fails.took_nothing; only = tt }) file.most

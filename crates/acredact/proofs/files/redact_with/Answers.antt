@@ -26,10 +26,8 @@ returns g c =
         gives = gave_by _ g.S.Source _ meter c.args.lent.source.now meter.lent.source.now reads refl refl stream.text _ stream.gives;
         added = metered_added meter.settled g.K.Known.whole (g.S.Source.remaining c.args.lent.source.now) (g.S.Source.remaining meter.lent.source.now) g.K.Known.start c.args.bytes meter.bytes stream.text whole start stream.gives.bytes meter.metered;
       }) (run.ensures.done red by).outcome.redacted;
-      most =
-          let most = run.ensures.most in
-          numbers_of g.S.Source c.args.lent.source.now meter.lent.source.now c.args.counts.now run.new.counts meter.settled g.K.Known.whole g.K.Known.start c.args.bytes meter.bytes most.given most.ended
-          whole start most.gives.bytes most.gives.end meter.metered most.counted;
+      most = numbers_of meter.settled g.K.Known.whole (g.S.Source.remaining c.args.lent.source.now) (g.S.Source.remaining meter.lent.source.now) c.args.counts.now run.new.counts g.K.Known.start c.args.bytes meter.bytes
+          run.ensures.most.given whole start run.ensures.most.gives.bytes meter.metered run.ensures.most.counted;
       still = run.ensures.still;
       same = meter.same ∙ c.requires.name;
     }

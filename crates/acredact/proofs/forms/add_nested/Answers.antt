@@ -1,22 +1,35 @@
 -- One form of a form more.
-use Rattle.acredact.proofs.Common.{All-head, All-nil, nil_from_length}
-use Rattle.std.proofs.Common.{rules, ◌≡◌, [], ◌∷◌, length}
-use Rattle.acredact.specs.Forms.{HidesNestedForm}
-use Rattle.acredact.proofs.FormRules.{all_next, nested_next}
+use Rattle.acredact.proofs.Common.{Nested, common_steps, flat_map, map-append}
+use Rattle.std.proofs.Common.{◌≡◌, ◌+◌, ◌∙◌, ◌∷◌, ◌++◌, ap, append_assoc, arith, drop, get_or, length, map, subst, sym}
+use Rattle.std.specs.Prelude.{nat_lt}
+use Rattle.std.proofs.lemmas.List.{get_or_default}
+use Rattle.std.proofs.lemmas.List.Elements.{AllWithin-more, filter-append}
+use Rattle.secret_forms.specs.declared.form.Form.TheVariants.{Base64}
+use Rattle.acredact.specs.Forms.{HidesNestedForm, filled, form_secret, twice_patterns}
+use Rattle.acredact.specs.Tables.{secret_of, secrets_of}
 use Rattle.acredact.proofs.forms.add_nested.Goals as goal
+
+-- any form of a form
+abbrev other : Nested
+other = record { inner = Base64; outer = Base64 }
 
 pub loop-one-preserved : goal.loop-one-preserved
 loop-one-preserved c =
     let inv = c.loop-one.invariant in
-    let cut : c.loop-one.rest.now ≡ c.in-Some.one.now ∷ c.in-Some.others.now = search rules in
-    let added = c.in_ok-add_twice.ensures.added in
-    let Hides = HidesNestedForm c.args.rule.now.pattern.items in
+    let pattern = c.args.rule.now.pattern.items in
+    let nested = c.args.nested.now in
+    let at = c.loop-one.one-index in
+    let secret = form_secret c.args.number (secret_of c.args.rule.now) in
+    let old = secrets_of c.loop-one.more.items in
+    let first = twice_patterns pattern (get_or nested at other) in
+    let rest = flat_map (twice_patterns pattern) (drop (at + 1) nested) in
+    let cut : drop at nested ≡ get_or nested at other ∷ drop (at + 1) nested = grind (arith, common_steps, c.loop-one-test.true) in
+    let both = ap (map secret) (filter-append (λ p. nat_lt 0 (length p)) first rest) ∙ map-append secret (filled first) (filled rest) in
     record {
-      made = nested_next _ _ c.loop-one.rest.now _ c.in-Some.one.now _ _ _ added.more cut inv.made added.grown added.of;
-      hidden = λ others. inv.hidden (all_next Hides _ _ c.in-Some.one.now cut (All-head Hides c.in-Some.one.now [] c.in_ok-add_twice.ensures.hidden) others);
+      made = ap (λ l. l ++ map secret (filled rest)) c.in_ok-add_twice.ensures.added ∙ append_assoc old (map secret (filled first)) (map secret (filled rest)) ∙ ap (λ l. old ++ l) (sym both) ∙ (rw cut at inv.made);
+      hidden = AllWithin-more (HidesNestedForm pattern) nested 0 at inv.hidden
+          (λ d. subst (HidesNestedForm pattern) (get_or_default nested at other d c.loop-one-test.true) c.in_ok-add_twice.ensures.hidden);
     }
 
 pub returns-clause-hidden : goal.returns-clause-hidden
-returns-clause-hidden c =
-    let none : length c.loop-one.rest.now ≡ 0 = search rules in
-    c.loop-one.invariant.hidden (rw (nil_from_length c.loop-one.rest.now none) (All-nil (HidesNestedForm c.args.rule.now.pattern.items)))
+returns-clause-hidden c = λ k d within. c.loop-one.invariant.hidden k d (omega arith) (omega (arith, within, c.loop-one-test.false))

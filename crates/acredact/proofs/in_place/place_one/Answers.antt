@@ -1,9 +1,9 @@
 -- A new file is made, filled, and takes the place; or the file stays as it was.
 use Rattle.acredact.proofs.Common.{bytes_left, is_input}
 use Rattle.std.proofs.Common.{rules, ◌≡◌, inl, inr, refl, true, false}
-use Rattle.acredact.specs.Files.{redactor_of, work_of}
-use Rattle.acredact.specs.InPlace.{IsSparedLine}
-use Rattle.acredact.proofs.PlacedCalls.{all_redacted, place_settled, told_of_one}
+use Rattle.acredact.specs.InPlace.{IsSparedLine, work_for}
+use Rattle.acredact.proofs.PlacedCalls.{place_settled}
+use Rattle.acredact.proofs.RedactedCalls.{all_redacted, files_told}
 use Rattle.acredact.proofs.Statuses.{tells_one}
 use Rattle.acredact.proofs.Totals.{one_counts}
 use Rattle.acredact.proofs.in_place.place_one.Goals as goal
@@ -29,9 +29,9 @@ returns-in-Ok g c =
       outcome = λ p of.
           let does = run.ensures.done p of in
           let files = does.outcome in
-          let work = work_of g.F.Folder c.args.job.now (redactor_of c.args.job.now p) in
+          let work = work_for g.F.Folder c.args.job.now p in
           place_settled g.O.File.Write g.E.Sink g.O.Outputs work c.args.name.now run.result c.settle.result c.args.outputs.now c.make.new.self c.settle.new.outputs c.args.streams.now run.new.streams c.settle.new.streams
-          c.args.counts.now run.new.counts c.args.volume.now run.new.volume _ (told_of_one g.O.File.Write g.E.Sink _ c.args.name.now refl run.result _ _ files)
+          c.args.counts.now run.new.counts c.args.volume.now run.new.volume _ (files_told g.O.File.Write g.E.Sink _ _ _ run.result files)
           (λ all puts. (
             (
               run.new.streams.output,
@@ -46,7 +46,7 @@ returns-in-Ok g c =
               },
               bytes_left c.args.streams.now.input,
               bytes_left run.new.streams.input,
-              all_redacted g.O.File.Write g.E.Sink _ run.result _ _ files all,
+              all_redacted g.O.File.Write g.E.Sink _ _ _ run.result files all,
             ),
             files.quiet all,
             one_counts work c.args.name.now _ _ _ _ (does.counted all),

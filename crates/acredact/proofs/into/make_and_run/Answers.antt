@@ -1,6 +1,6 @@
 -- The new file is made and filled, or it is told why not.
 use Rattle.acredact.proofs.Common.{is_input, texts}
-use Rattle.std.proofs.Common.{rules, ◌≡◌, inl, inr, refl, true, false, arith}
+use Rattle.std.proofs.Common.{rules, ◌≡◌, inl, inr, refl, true, arith}
 use Rattle.acredact.specs.Arguments.{IsCheck}
 use Rattle.acredact.specs.Calls.{IsLineOf, call_of}
 use Rattle.acredact.specs.Into.{IsOutputLine, TakesPlace}

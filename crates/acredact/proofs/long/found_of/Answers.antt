@@ -1,6 +1,7 @@
 -- The options of one list after those of the other.
-use Rattle.acredact.proofs.LongNames.{found_all}
+use Rattle.acredact.specs.Long.{found_of_name}
 use Rattle.acredact.proofs.long.found_of.Goals as goal
 
 pub returns : goal.returns
-returns c = record { found = found_all c.args.name.now _ _ c.or_patterns-patterns.ensures.found c.or_output.ensures.found }
+unfolding found_of_name
+returns c = record { found = cc (c.or_patterns.ensures.found, c.or_output.ensures.found) }

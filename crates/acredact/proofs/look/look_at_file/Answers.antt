@@ -3,7 +3,7 @@ use Rattle.acredact.proofs.Common.{IfOk-weaker}
 use Rattle.std.proofs.Common.{◌∙◌, refl, sym}
 use Rattle.acredact.specs.Checks.{quest_of}
 use Rattle.acredact.proofs.Checks.{look_file, look_refused}
-use Rattle.acredact.proofs.RuledFiles.{read_input, read_opened}
+use Rattle.acredact.proofs.OneFile.{read_input, read_opened}
 use Rattle.acredact.proofs.look.look_at_file.Goals as goal
 
 pub returns-then-is_input : goal.returns-then-is_input

@@ -1,9 +1,10 @@
--- Memory alone may be wanting before the search.
+-- Memory alone may be wanting before the search, and then it is as the first call of the iterator answers.
 use Rattle.acredact.proofs.Common.{Memory}
-use Rattle.std.proofs.Common.{rules, ◌≡◌, ◌∙◌, false, ap}
-use Rattle.std.specs.Prelude.{Err}
-use Rattle.acredact.specs.Looks.{sought}
-use Rattle.acredact.proofs.Looks.{looks_memory}
+use Rattle.std.proofs.Common.{rules, ◌≡◌, ◌∙◌, false, true, ap}
+use Rattle.std.specs.Prelude.{Err, Ok, Some}
+use Rattle.acredact.specs.Looks.{LooksAt, sought}
+use Rattle.acredact.proofs.Looks.{looks_error, looks_memory, looks_none, looks_some}
+use Rattle.acredact.proofs.OneFile.{so_there}
 use Rattle.acredact.proofs.look.occurs_in.Goals as goal
 
 pub returns-in_err-start : goal.returns-in_err-start
@@ -22,3 +23,32 @@ finds-finds-requires g c =
       «open» = c.in_ok-start.ensures.begun.0;
       below = c.in_ok-start.ensures.begun.1;
     }
+
+pub returns-in-None : goal.returns-in-None
+returns-in-None g c = record {
+  looks = λ p of.
+      let it = c.finds-finds in
+      let rest = c.next-first.new.self in
+      so_there rest.chunks.source.now _ (λ there. LooksAt g.R.Source (sought p false) (Ok false) c.args.source.now there) (search rules)
+      (rw (ap (λ s. s.now) it.ensures.of.0) at (looks_none g.A.Automaton g.R.Source p it.result rest (it.ensures.along p (rw c.in_ok-start.ensures.of of)) it.ensures.ready (rw c.in-None.is at c.next-first.ensures.steps)));
+}
+
+pub returns-in-Some-Ok : goal.returns-in-Some-Ok
+returns-in-Some-Ok g c = record {
+  looks = λ p of.
+      let it = c.finds-finds in
+      let rest = c.next-first.new.self in
+      so_there rest.chunks.source.now _ (λ there. LooksAt g.R.Source (sought p false) (Ok true) c.args.source.now there) (search rules)
+      (rw (ap (λ s. s.now) it.ensures.of.0) at (looks_some g.A.Automaton g.R.Source p it.result rest (it.ensures.along p (rw c.in_ok-start.ensures.of of)) it.ensures.ready _
+      (rw (c.in-Some-Ok.is ∙ ap Some c.in-Some-Ok.field-0-is) at c.next-first.ensures.steps)));
+}
+
+pub returns-in-Some-Err : goal.returns-in-Some-Err
+returns-in-Some-Err g c = record {
+  looks = λ p of.
+      let it = c.finds-finds in
+      let rest = c.next-first.new.self in
+      so_there rest.chunks.source.now _ (λ there. LooksAt g.R.Source (sought p false) (Err c.in-Some-Err.error) c.args.source.now there) (search rules)
+      (rw (ap (λ s. s.now) it.ensures.of.0) at (looks_error g.A.Automaton g.R.Source p it.result rest (it.ensures.along p (rw c.in_ok-start.ensures.of of)) it.ensures.ready c.in-Some-Err.error
+      (rw (c.in-Some-Err.is ∙ ap Some c.in-Some-Err.field-0-is) at c.next-first.ensures.steps)));
+}

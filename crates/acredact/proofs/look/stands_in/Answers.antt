@@ -48,5 +48,5 @@ returns g c =
           let lengths = (g.met.A.Automaton.laws _ _ of).lengths_are in
           looks_counted g.R.Source p (g.A.Automaton.is_of start.automaton.now) (subst (λ (a : g.row.A.Denot). g.A.Automaton.is_of a p) (sym c.in_ok-start.ensures.of) of) (some_of g.A.Automaton _ p lengths c.requires.ready.begins) _ _ zeros c.cover_with.new.counts
           (ap length are ∙ length-replicate {A = ℕ} c.patterns_len.result 0 ∙ c.patterns_len.ensures.len ∙ ap length lengths ∙ length-map p.words length) (all_zero zeros c.patterns_len.result are) whole
-          c.is_some_counted.result c.is_some_counted.ensures.some c.is_some_counted.ensures.none call.ensures.errors.read_failed;
+          c.is_some_counted.result c.is_some_counted.ensures call.ensures.errors.read_failed;
     }

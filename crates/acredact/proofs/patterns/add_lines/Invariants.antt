@@ -1,13 +1,14 @@
 -- The lines in front of what is left are added.
 use Rattle.std.proofs.Common.{ℕ, List, ◌≡◌, ◌+◌, ◌-◌, ◌^◌, ◌++◌, length}
 use Rattle.std.specs.Prelude.{min}
-use Rattle.acredact.specs.Tables.{IsAddedList, lines_in, parts_left, secrets_of}
+use Rattle.acredact.specs.Tables.{GivesLine, lines_in, parts_left, secrets_of}
+use Rattle.acredact.proofs.Loaded.{GivenSoFar}
 use Rattle.acredact.proofs.patterns.add_lines.Given as goal
 
 abbrev pub invariant-loop-left : goal.invariant-loop-left
 invariant-loop-left l = (front : List (List ℕ))
     × (lines_in l.fn.text ≡ front ++ parts_left 10 l.left)
-    × IsAddedList l.fn.form (secrets_of l.initial.rules.items) (secrets_of l.rules.items) front
+    × GivenSoFar (GivesLine l.fn.form) (lines_in l.fn.text) 0 (parts_left 10 l.left) (length front) (secrets_of l.initial.rules.items) (secrets_of l.rules.items)
     × (l.number ≡ min (length front + 1) (2 ^ 64 - 1))
 
 abbrev pub decreases-loop-left : goal.decreases-loop-left

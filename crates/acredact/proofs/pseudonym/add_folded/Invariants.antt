@@ -5,5 +5,5 @@ use Rattle.std.specs.Prelude.{true}
 use Rattle.acredact.specs.Pseudonyms.{as_compared}
 use Rattle.acredact.proofs.pseudonym.add_folded.Given as goal
 
-abbrev pub invariant-bytes : goal.invariant-bytes
-invariant-bytes l = (message : List ℕ) → Holds256 l.initial.hasher message → Holds256 l.hasher (message ++ as_compared true (take l.at l.bytes))
+abbrev pub invariant-loop-byte : goal.invariant-loop-byte
+invariant-loop-byte l = (message : List ℕ) → Holds256 l.initial.hasher message → Holds256 l.hasher (message ++ as_compared true (take l.byte-index l.fn.bytes))

@@ -1,6 +1,6 @@
 -- The files are redacted by what was loaded.
 use Rattle.acredact.proofs.Common.{TellsBytes, bytes_left, length-map, pieces_of}
-use Rattle.std.proofs.Common.{rules, ◌≡◌, ◌∙◌, List, ℕ, ap, length, refl, sym, subst, true}
+use Rattle.std.proofs.Common.{◌≡◌, ◌∙◌, List, ℕ, ap, length, refl, sym, subst, true}
 use Rattle.std.specs.Prelude.{Ok, replicate}
 use Rattle.secret_rules.specs.declared.rule.Rule.{Rule as LineRule}
 use Rattle.acredact.specs.Arguments.{all_given}

@@ -1,6 +1,6 @@
 -- The files are looked at by what was loaded.
 use Rattle.acredact.proofs.Common.{Keeps-refl}
-use Rattle.std.proofs.Common.{rules, ◌∙◌, inl, refl}
+use Rattle.std.proofs.Common.{◌∙◌, inl, refl}
 use Rattle.acredact.specs.Arguments.{all_given}
 use Rattle.acredact.specs.Calls.{call_of}
 use Rattle.acredact.specs.Ruled.{patterns_by_case}

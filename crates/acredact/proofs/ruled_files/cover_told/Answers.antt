@@ -27,7 +27,7 @@ pub returns-in-None-clause-outcome : goal.returns-in-None-clause-outcome
 returns-in-None-clause-outcome g c = λ ruling lined.
     let file = rw c.in-None.is at (c.in_ok-cover_file.ensures.outcome ruling lined) in
     record {
-      whole = λ is. ((rw c.if-is_output.false at c.is_output.ensures, file.whole refl), file.counted refl);
+      whole = λ is. ((rw c.if-is_output.false at c.is_output.ensures, file.whole refl), file.counted refl, file.read refl);
       begun = file.begun;
       told = refl;
     }

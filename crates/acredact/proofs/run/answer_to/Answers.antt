@@ -7,11 +7,11 @@ use Rattle.acredact.specs.Calls.{IsWrongLine, call_of}
 use Rattle.acredact.specs.Ruled.{IsRuledTold}
 use Rattle.acredact.specs.declared.failure.Failure.TheVariants.{Arguments}
 use Rattle.acredact.specs.declared.ruled_failure.RuledFailure.TheVariants.{Plain}
-use Rattle.acredact.proofs.Calls.{call_refused, tells_same}
+use Rattle.acredact.proofs.Calls.{call_refused}
 use Rattle.acredact.proofs.Checks.{check_refused, says_failed, status_ended}
 use Rattle.acredact.proofs.Given.{memory_alone, same_given}
-use Rattle.acredact.proofs.Statuses.{bound_by, flushed_by, one_by, status_failed, tells_one}
-use Rattle.acredact.proofs.RuledCalls.{outcome_early, ruled_failed}
+use Rattle.acredact.proofs.Statuses.{status_failed, tells_one}
+use Rattle.acredact.proofs.RuledCalls.{ruled_two}
 use Rattle.acredact.proofs.run.answer_to.Goals as goal
 
 pub returns-in-Ok : goal.returns-in-Ok
@@ -23,12 +23,9 @@ returns-in-Ok g c =
       idle = λ wrong. let clash : None ≡ Some items = sym wrong ∙ mine in absurd (cc);
       tells_wrong = λ wrong. let clash : None ≡ Some items = sym wrong ∙ mine in absurd (cc);
       says = λ given right. rw (same_given (all_asked (texts c.args.arguments.now)) given items right mine) at c.answer.ensures.says;
-      flushed = λ redacts zero. flushed_by items (λ asks. redacts (items, mine, asks)) (λ none. c.answer.ensures.flushed none zero);
-      bound = bound_by items c.answer.result (λ asks. elim asks [
-        | inl checks ↦ (c.answer.ensures.says.checked checks).says.bound
-        | inr checks ↦ (c.answer.ensures.says.ruled_check checks).says.bound
-      ]) c.answer.ensures.bound;
-      one = λ is. (items, mine, one_by items c.answer.result c.answer.ensures.bound is);
+      flushed = λ redacts zero. c.answer.ensures.flushed (λ asks. redacts (items, mine, asks)) zero;
+      bound = c.answer.ensures.bound;
+      one = λ is. (items, mine, c.answer.ensures.one is);
     }
 
 pub returns-in-Err : goal.returns-in-Err
@@ -44,6 +41,7 @@ returns-in-Err g c =
           let left = bytes_left c.args.streams.now.input in
           let old = c.args.streams.now.errors in
           let failure = Arguments c.in-Err.mistake in
+          let ended = tells_one g.E.Sink (IsRuledTold call) old c.report.new.errors told.0 (inr (inl (Plain failure, told.1))) told.2 in
           rw c.report.ensures.failed
           (record {
             redacted = λ asks. status_failed g.W.Write g.E.Sink call c.args.streams.now c.args.streams.now (λ none. record { unread = refl; unwritten = refl }) failure c.report.new.errors told.0
@@ -54,9 +52,9 @@ returns-in-Err g c =
               says = status_ended g.E.Sink call left left old failure old c.report.new.errors told.0 (check_refused g.E.Sink call left left old failure (inl (inl (memory given right)))) told.1 told.2;
               unwritten = refl;
             };
-            ruled = λ asks. ruled_failed g.E.Sink call (Plain failure) told.0 _ _ _ _ _ _ _ (outcome_early g.E.Sink call (inl (Keeps-refl _)) (tells_same g.E.Sink (IsRuledTold call) _ _ refl)) told.1 told.2;
+            ruled = λ asks. ruled_two g.E.Sink call (inl (Keeps-refl _)) ended;
             ruled_check = λ asks. record {
-              says = says_failed _ _ _ _ (tells_one g.E.Sink (IsRuledTold call) _ _ told.0 (inr (inl (Plain failure, told.1))) told.2);
+              says = says_failed _ _ _ _ ended;
               begins = inl (Keeps-refl _);
               unwritten = λ summary. refl;
               flushed = λ summary (less : 2 < 2). absurd (omega arith);

@@ -1,12 +1,21 @@
--- No option gives a pattern; or what comes of the files comes behind what is told of patterns of lists and of pieces.
-use Rattle.acredact.proofs.Common.{bytes_left}
-use Rattle.std.proofs.Common.{rules, ◌≡◌, false, inl, inr, refl}
-use Rattle.acredact.specs.Arguments.{all_given}
-use Rattle.acredact.specs.Calls.{call_of, gives_pattern}
-use Rattle.acredact.specs.Loading.{loaded_in}
-use Rattle.acredact.proofs.Calls.{call_refused, load_fails}
+-- No option gives a pattern; or what comes of the files, and then the counts, come behind what is told of patterns of lists and of pieces.
+use Rattle.acredact.proofs.Common.{Failure, Other, OutOfMemory, bytes_left, failure_of_stream}
+use Rattle.std.proofs.Common.{rules, ◌≡◌, ◌∙◌, ap, false, inl, inr, refl}
+use Rattle.std.specs.Prelude.{Bool, Err, Ok, OnOk, Result}
+use Rattle.acredact.specs.Arguments.{all_given, counts_asked}
+use Rattle.acredact.specs.Bounds.{NumbersOfAll}
+use Rattle.acredact.specs.Calls.{call_of, gives_pattern, names_asked}
+use Rattle.acredact.specs.Counts.{zeros}
+use Rattle.acredact.specs.Files.{FilesOutcome, Work}
+use Rattle.acredact.specs.Loading.{key_in, loaded_in}
+use Rattle.acredact.specs.Summaries.{no_volume}
+use Rattle.acredact.specs.Totals.{CountsOfNames}
+use Rattle.acredact.specs.Volumes.{ReadsVolume}
+use Rattle.acredact.proofs.Calls.{call_refused, job_does, load_fails, passed_on}
+use Rattle.acredact.proofs.Limits.{bounded_from}
 use Rattle.acredact.proofs.Ready.{gives_none}
-use Rattle.acredact.proofs.Warned.{call_unready, call_warned}
+use Rattle.acredact.proofs.RedactedCalls.{call_cut, call_memory, call_told}
+use Rattle.acredact.proofs.Warned.{call_unready}
 use Rattle.acredact.proofs.run.redact_asked.Goals as goal
 
 pub returns-then-not-gives_pattern-clause-outcome : goal.returns-then-not-gives_pattern-clause-outcome
@@ -24,8 +33,57 @@ returns-in-Err-prepare-clause-outcome g c = λ asks.
     call_unready g.W.Write g.E.Sink (call_of g.F.Folder c.args.folder.now (all_given c.args.given.now)) (bytes_left c.args.streams.now.input) (loaded_in c.in-Ok.secrets) _ c.in-Err-prepare.failure _ _ _ c.in-Ok.ensures.loaded
     c.in-Err-prepare.ensures.fails c.in-Err-prepare.ensures.untold
 
+pub redact_by-requires : goal.redact_by-requires
+redact_by-requires g c = record { ready = c.job_of-job.ensures.can c.in-Ok.ensures.some c.in-Ok-prepare.ensures.ready }
+
+pub returns-in_err-counted-clause-outcome : goal.returns-in_err-counted-clause-outcome
+returns-in_err-counted-clause-outcome g c = λ asks.
+    let call = call_of g.F.Folder c.args.folder.now (all_given c.args.given.now) in
+    let begun = record c.args.streams.now { input = c.load.new.input; errors = c.prepare.new.errors } in
+    let is : c.from_residual.result ≡ Err (Other OutOfMemory) = passed_on c.from_residual.result (Other OutOfMemory) c.from_residual.ensures.1 in
+    rw is
+    (call_memory g.W.Write g.E.Sink call (bytes_left c.args.streams.now.input) (loaded_in c.in-Ok.secrets) begun c.in-Ok.ensures.loaded c.args.streams.now.errors c.in-Ok-prepare.ensures.told)
+
+pub returns-in_err-all-clause-outcome : goal.returns-in_err-all-clause-outcome
+returns-in_err-all-clause-outcome g c = λ asks.
+    let call = call_of g.F.Folder c.args.folder.now (all_given c.args.given.now) in
+    let load = loaded_in c.in-Ok.secrets in
+    let begun = record c.args.streams.now { input = c.load.new.input; errors = c.prepare.new.errors } in
+    let is : c.from_residual-in_err-all.result ≡ Err (Other (failure_of_stream c.in_err-all.field-0.0)) = passed_on c.from_residual-in_err-all.result (Other (failure_of_stream c.in_err-all.field-0.0)) c.from_residual-in_err-all.ensures.1 in
+    let files = job_does g.F.Folder c.args.folder.now call.given load c.job_of-job.result (c.job_of-job.ensures.job c.in-Ok-prepare.ensures.ready)
+    (λ (w : Work). FilesOutcome g.W.Write g.E.Sink w (Err c.in_err-all.field-0.0) begun c.redact_by.new.streams) (c.in_err-all.ensures.done _ c.in-Ok-prepare.ensures.ready.of).outcome in
+    rw is
+    (call_cut g.W.Write g.E.Sink call (bytes_left c.args.streams.now.input) load begun c.in-Ok.ensures.loaded c.args.streams.now.errors c.in-Ok-prepare.ensures.told c.redact_by.new.streams c.in_err-all.field-0.0 files)
+
 pub returns-clause-outcome : goal.returns-clause-outcome
 returns-clause-outcome g c = λ asks.
-    let left = bytes_left c.args.streams.now.input in
-    call_warned g.W.Write g.E.Sink (call_of g.F.Folder c.args.folder.now (all_given c.args.given.now)) left (loaded_in c.in-Ok.secrets) (record c.args.streams.now { input = c.load.new.input; errors = c.prepare.new.errors })
-    c.redact_ready.new.streams c.args.streams.now.errors c.redact_ready.result c.in-Ok.ensures.loaded c.in-Ok-prepare.ensures.told (c.redact_ready.ensures.outcome left c.in-Ok.ensures.loaded)
+    let call = call_of g.F.Folder c.args.folder.now (all_given c.args.given.now) in
+    let items = c.in-Ok.secrets.rules.items in
+    let begun = record c.args.streams.now { input = c.load.new.input; errors = c.prepare.new.errors } in
+    let value = c.as_slice-rules.ensures.value in
+    let as_asked = λ (P : Work → Type 0) (done : P _). job_does g.F.Folder c.args.folder.now call.given (loaded_in c.in-Ok.secrets) c.job_of-job.result (c.job_of-job.ensures.job c.in-Ok-prepare.ensures.ready) P done in
+    let old = bytes_left c.load.new.input in
+    let new = bytes_left c.redact_by.new.streams.input in
+    let counts = c.redact_by.new.counts in
+    let volume = c.redact_by.new.volume in
+    let none : c.as_mut_slice-tally.result.now ≡ zeros (counts_asked call.given) items =
+    c.as_mut_slice-tally.ensures.value ∙ c.in_ok-counted.ensures.counts ∙ ap (λ (b : Bool). zeros b c.as_slice-rules.result.now) c.counts.ensures.counts ∙ ap (zeros (counts_asked call.given)) value in
+    let does = c.in_ok-all.ensures.done _ c.in-Ok-prepare.ensures.ready.of in
+    let files = as_asked (λ w. FilesOutcome g.W.Write g.E.Sink w (Ok c.in_ok-all.all) begun c.redact_by.new.streams) does.outcome in
+    let numbers = as_asked (λ w. NumbersOfAll w.holds w.names c.as_mut_slice-tally.result.now counts no_volume volume old new) does.most in
+    call_told g.W.Write g.E.Sink call (bytes_left c.args.streams.now.input) items (key_in c.in-Ok.secrets.key) begun c.redact_by.new.streams c.in-Ok.ensures.loaded c.args.streams.now.errors c.in-Ok-prepare.ensures.told counts volume
+    c.in_ok-all.all c.tell_counted.result c.tell_counted.new.errors files
+    (λ whole. (
+      rw none at (as_asked (λ w. CountsOfNames old new c.as_mut_slice-tally.result.now counts w w.names) (does.counted (ap Ok whole))),
+      as_asked (λ w. ReadsVolume w.holds w.names no_volume volume old new) (does.read (ap Ok whole)),
+    ))
+    c.tell_counted.ensures.all (rw value at c.tell_counted.ensures.told) c.tell_counted.ensures.fails (rw value at c.tell_counted.ensures.lines)
+    (bounded_from call.holds (names_asked call.given) (counts_asked call.given) items counts volume _ _ (rw none at numbers))
+    (rw value at c.tell_counted.ensures.these)
+
+on_either : {P : Type 0} (result : Result Bool Failure) → P → OnOk result P
+on_either (Ok all) is = is
+on_either (Err failure) is = tt
+
+pub returns-clause-flushed : goal.returns-clause-flushed
+returns-clause-flushed g c = on_either c.tell_counted.result (c.in_ok-all.ensures.done _ c.in-Ok-prepare.ensures.ready.of).flushed

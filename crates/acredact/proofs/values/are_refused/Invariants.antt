@@ -3,7 +3,7 @@ use Rattle.acredact.proofs.Common.{pieces_of}
 use Rattle.std.proofs.Common.{◌≡◌, drop}
 use Rattle.std.specs.List.{list_any}
 use Rattle.acredact.specs.Values.{no_bytes}
-use Rattle.acredact.proofs.values.lacks_value.Given as goal
+use Rattle.acredact.proofs.values.are_refused.Given as goal
 
 abbrev pub invariant-loop-value : goal.invariant-loop-value
 invariant-loop-value l = list_any no_bytes (pieces_of l.fn.values) ≡ list_any no_bytes (pieces_of (drop l.value-index l.fn.values))
