@@ -26,10 +26,12 @@ import ctypes
 import io
 import itertools
 import logging
+import operator
 import os
 import select
 import struct
 import threading
+import types
 import weakref
 from bisect import bisect_right
 from typing import Any, Iterable, Iterator, List, Mapping, NamedTuple, Optional, Sequence, Tuple, Union, overload
@@ -42,6 +44,7 @@ except ImportError:  # it was not built: ctypes serves small calls too
 __all__ = [
     "AhoCorasick",
     "BuildError",
+    "Coverer",
     "FormError",
     "LogFilter",
     "Match",
@@ -191,11 +194,11 @@ class _Lent:
         ctypes.pythonapi.PyBuffer_Release(ctypes.byref(self._view))
 
 
-_DONE, _FOUND, _NO_MEMORY, _NO_ROOM, _TOO_SHORT = 0, 1, 5, 11, 15
+_DONE, _FOUND, _NO_MEMORY, _NO_ROOM, _ENDED, _TOO_SHORT = 0, 1, 5, 11, 12, 15
 _TOO_MANY_STATES, _TOO_MANY_PATTERNS, _TOO_LONG = 7, 8, 9
 _WHY_REFUSED = {
     3: "the searcher was not built for such a search",
-    12: "the stream has ended",
+    _ENDED: "the stream has ended",
     13: "2^63 - 1 bytes were pushed to the stream, and no more may be",
     14: "a pattern is empty, and neither streams nor covers are answered for such a one",
 }
@@ -228,8 +231,10 @@ def _library() -> ctypes.CDLL:
     named = os.environ.get("CHROMESQUID_LIBRARY")
     folders = [named] if named else [here, os.path.dirname(os.path.dirname(here))]
     wide = ["glibc-hwcaps/x86-64-v3/libchromesquid.so.0"] if _has_avx2() else []
-    places = (os.path.join(folder, name) for folder in folders for name in (*wide, *names))
-    for place in [*filter(os.path.exists, places)] or [names[0]]:  # which the loader looks for
+    places = [it for it in (os.path.join(folder, name) for folder in folders for name in (*wide, *names)) if os.path.exists(it)]
+    if named and not places:
+        raise ImportError(f"CHROMESQUID_LIBRARY is {named!r}, and no folder that holds {names[0]}")
+    for place in places or [names[0]]:  # which the loader looks for
         try:
             return ctypes.CDLL(place)
         except OSError as error:
@@ -292,8 +297,14 @@ def version() -> Tuple[int, int, int]:
 __version__ = ".".join(map(str, version()))
 
 
+def _text(given: Any) -> str:
+    """The characters of a text themselves: a class of its own may answer otherwise for its length or its bytes, and what only passes for a
+    text tells them by str."""
+    return given if type(given) is str else "".join([given if issubclass(type(given), str) else str(given)])
+
+
 def _pattern_bytes(pattern: Haystack) -> bytes:
-    return pattern.encode(*_ENCODING) if isinstance(pattern, str) else bytes(memoryview(pattern))
+    return _text(pattern).encode(*_ENCODING) if isinstance(pattern, str) else bytes(memoryview(pattern))
 
 
 def _slices(items: Sequence[bytes]) -> Any:
@@ -303,7 +314,7 @@ def _slices(items: Sequence[bytes]) -> Any:
 
 def _borrowed(haystack: Bytes) -> Any:
     """The bytes of a buffer as the library takes them. They are copied only where they have to be."""
-    if isinstance(haystack, bytes):
+    if type(haystack) is bytes:  # one of a class of its own may tell another length than it has
         return haystack
     view = memoryview(haystack)
     if not view.c_contiguous or view.nbytes == 0:
@@ -360,14 +371,14 @@ class AhoCorasick:
         words = [_pattern_bytes(it) for it in given]
         self._patterns: Tuple[Union[str, bytes], ...] = tuple(given) if texts else tuple(words)
         self._of_texts = texts > 0 or not given
-        self._items = None if items is None else _items_of(items, self._patterns)
-        self._kind, self._ignore_case, self._prefilter = kind, bool(ignore_case), bool(prefilter)
+        self.__items = None if items is None else _items_of(items, self._patterns)
+        self.__kind, self._ignore_case, self._prefilter = kind, bool(ignore_case), bool(prefilter)
         self._longest = max(map(len, words), default=0)
         self._handle = _Handle()
         self._begin_process()
-        _searchers.add(self)
-        self._rest = automaton, max_index, max_pattern, max_len
-        limits = [_limit(it) for it in self._rest[1:]]
+        _searchers[id(self)] = self
+        self.__rest = automaton, max_index, max_pattern, max_len
+        limits = [_limit(it) for it in self.__rest[1:]]
         size, number = ctypes.sizeof(_Options), _AUTOMATA[automaton]
         options, error = _Options(size, _KINDS[kind], 0, self._ignore_case, self._prefilter, number, *limits), _Error()
         status = _build(_slices(words), len(words), ctypes.byref(options), ctypes.byref(self._handle), ctypes.byref(error))
@@ -385,12 +396,12 @@ class AhoCorasick:
     @property
     def items(self) -> Tuple[Any, ...]:
         """The values that were given for the patterns, by their numbers; the patterns where none were."""
-        return self._patterns if self._items is None else self._items
+        return self._patterns if self.__items is None else self.__items
 
     @property
     def kind(self) -> str:
         """Which of several matches is found."""
-        return self._kind
+        return self.__kind
 
     def memory_usage(self) -> int:
         """How many bytes the searcher holds, by the stated sizes of its parts. This object holds the patterns besides."""
@@ -406,7 +417,7 @@ class AhoCorasick:
                 return answer
         given = self._bytes_of(haystack)
         if len(given) < _SHORT and type(given) is bytes:
-            status = _is_match_short(self._search()[0], given, len(given))
+            status = _is_match_short(self._reference(), given, len(given))
         else:
             status = _is_match(self._reference(), given, len(given))
         if status == _FOUND:
@@ -421,15 +432,22 @@ class AhoCorasick:
             if answer is not NotImplemented:
                 return answer
         given = self._bytes_of(haystack)
-        handle, found, into = self._search()
+        own = self.__own
+        # The room for a match is taken out while it is used: a handler of a signal, or a finalizer, may search meanwhile in the same thread.
+        try:
+            into = own.into.pop()
+        except (AttributeError, IndexError):
+            own.into, into = [], ctypes.byref(_Match())
         if len(given) < _SHORT and type(given) is bytes:
-            status = _find_short(handle, given, len(given), into)
+            status = _find_short(self._reference(), given, len(given), into)
         else:
-            status = _find(self._reference(), given, len(given), ctypes.byref(found))
-        if status == _DONE:
+            status = _find(self._reference(), given, len(given), into)
+        found = into._obj
+        match = Match(found.pattern, found.start, found.end) if status == _FOUND else None
+        own.into.append(into)
+        if match is None:
+            _check(status)
             return None
-        _check(status, _FOUND)
-        match = Match(found.pattern, found.start, found.end)
         return next(self._characters([match], given)) if _is_wide(haystack) else match
 
     def find_iter(self, haystack: Haystack) -> Iterator[Match]:
@@ -446,8 +464,8 @@ class AhoCorasick:
         end in a few times as many bytes as the longest pattern has are held at once, 24 bytes for each.
 
         The kind has to be "standard": else SearchError is raised."""
-        if self._kind != "standard":
-            raise SearchError(f"overlapping matches are those of kind standard, and this searcher is of kind {self._kind}")
+        if self.__kind != "standard":
+            raise SearchError(f"overlapping matches are those of kind standard, and this searcher is of kind {self.__kind}")
         if self._small is not None:
             answer = self._small.overlapping(haystack)
             if answer is not NotImplemented:
@@ -465,8 +483,8 @@ class AhoCorasick:
         """
         if isinstance(haystack, str):
             raise TypeError("places in an array count bytes, so the haystack is not a str")
-        if overlapping and self._kind != "standard":
-            raise SearchError(f"overlapping matches are those of kind standard, and this searcher is of kind {self._kind}")
+        if overlapping and self.__kind != "standard":
+            raise SearchError(f"overlapping matches are those of kind standard, and this searcher is of kind {self.__kind}")
         given, count, view = _borrowed(haystack), ctypes.c_size_t(), memoryview(room)
         if view.readonly or view.itemsize != 8 or view.format not in _NUMBERS:
             raise TypeError("the room is a buffer of whole numbers of 64 bits that can be written")
@@ -490,13 +508,11 @@ class AhoCorasick:
             >>> [match.start for match in AhoCorasick([b"sam"]).stream(io.BytesIO(b"frodo, sam"))]
             [7]
 
-        Raises SearchError where a pattern is empty."""
-        return self._stream(Stream(self), _pieces_of(reader))
+        Where the reader fails, or has nothing for now (BlockingIOError), its error is raised, and SearchError from then on: what was read is
+        gone, so a further call does not go on there. Push pieces to a `Stream` where one has to go on.
 
-    def _stream(self, stream: "Stream", pieces: Iterator[Haystack]) -> Iterator[Match]:
-        for piece in pieces:
-            yield from stream.push(piece)
-        yield from stream.end()
+        Raises SearchError where a pattern is empty."""
+        return _Told(Stream(self), _pieces_of(reader))
 
     def stream_replace_all(self, reader: Any, writer: Any, replace_with: Replacements) -> None:
         """Writes what a reader gives, as `stream` reads it, with each match replaced as by `replace_all`. The writer has a method
@@ -507,6 +523,9 @@ class AhoCorasick:
             >>> AhoCorasick(["sam"]).stream_replace_all(io.StringIO("frodo, sam"), there, ["S"])
             >>> there.getvalue()
             'frodo, S'
+
+        Where reader or writer fails, or has nothing for now (BlockingIOError), what was read and not written is gone: a second call does not go on
+        there. Push pieces to a `Replacer` where one has to go on.
 
         Raises ReplacementError where there is not one replacement for each pattern, and SearchError where a pattern is empty."""
         replacer, pieces = Replacer(self, replace_with), _pieces_of(reader)
@@ -554,18 +573,18 @@ class AhoCorasick:
         The replacements are those of `replace_all`. Raises ReplacementError where there is not one for each pattern, and SearchError where
         the kind is not "standard" or a pattern is empty."""
         pieces = self._pieces(replace_with, isinstance(haystack, str))
-        if self._kind != "standard":
-            raise SearchError(f"covers are of kind standard, and this searcher is of kind {self._kind}")
+        if self.__kind != "standard":
+            raise SearchError(f"covers are of kind standard, and this searcher is of kind {self.__kind}")
         return self._written(_cover_all, haystack, pieces)
 
     def __reduce__(self) -> Tuple[Any, ...]:
-        given = self._patterns, self._kind, self._ignore_case, self._prefilter, *self._rest
+        given = self._patterns, self.__kind, self._ignore_case, self._prefilter, *self.__rest
         made = (_rebuilt, given) if type(self) is AhoCorasick else (_rebuilt_as, (type(self), *given))
-        more = {name: value for name, value in vars(self).items() if name not in _BUILT or name == "_items" and value is not None}
-        return (*made, more) if more else made
+        state = _state_of(self, _BUILT if self.__items is None else _BUILT - {"_AhoCorasick__items"})
+        return (*made, state) if state else made
 
     def __repr__(self) -> str:
-        return f"<AhoCorasick of {len(self._patterns)} patterns, {self._kind}>"
+        return f"<AhoCorasick of {len(self._patterns)} patterns, {self.__kind}>"
 
     def _pieces(self, replace_with: Replacements, of_text: Optional[bool]) -> List[Haystack]:
         """The replacements by their patterns' numbers: of type str or not, as is said, or all alike. None of them is printed."""
@@ -589,42 +608,35 @@ class AhoCorasick:
         if not isinstance(replace_with, (list, tuple)):
             kind = type(replace_with).__name__
             raise ReplacementError(f"the replacements are a list, a tuple, or a mapping from each pattern to its own, and no {kind}")
-        if len(replace_with) != len(self._patterns):
-            raise ReplacementError(f"there are {len(replace_with)} replacements for {len(self._patterns)} patterns")
-        return list(replace_with)
+        pieces = list(replace_with)
+        if len(pieces) != len(self._patterns):
+            raise ReplacementError(f"there are {len(pieces)} replacements for {len(self._patterns)} patterns")
+        return pieces
 
     def _begin_process(self) -> None:
-        self._lock, self._own = threading.Lock(), threading.local()
+        # A handler of a signal, or a finalizer, may search while its own thread holds the lock.
+        self.__lock, self.__own = threading.RLock(), threading.local()
 
     def _reference(self) -> Any:
         """This thread's own handle: no handle is used by two calls at a time. A process that was forked makes its own anew."""
         try:
-            return self._own.reference
+            return self.__own.reference
         except AttributeError:
             reference = ctypes.byref(_Handle())
-            with self._lock:
+            with self.__lock:
                 _check(_share(ctypes.byref(self._handle), reference))
-            self._own.reference = reference
-            return reference
-
-    def _search(self) -> Any:
-        """This thread's own handle and room for a match, as a short search takes them, and the match."""
-        try:
-            return self._own.search
-        except AttributeError:
-            handle, found = self._reference()._obj, _Match()
-            self._own.search = ctypes.c_void_p(ctypes.addressof(handle)), found, ctypes.c_void_p(ctypes.addressof(found))
-            return self._own.search
+            return self.__own.__dict__.setdefault("reference", reference)
 
     def _bytes_of(self, haystack: Haystack) -> Any:
         if not isinstance(haystack, str):
             return _borrowed(haystack)
         if not self._of_texts:
             raise TypeError("a text is searched for patterns of type str, and these are bytes")
+        text = _text(haystack)
         try:
-            return haystack.encode()
+            return text.encode()
         except UnicodeEncodeError:  # it has lone surrogates
-            return haystack.encode(*_ENCODING)
+            return text.encode(*_ENCODING)
 
     def _listed(self, function: Any, batches: Any, haystack: Haystack) -> Iterator[Match]:
         given = self._bytes_of(haystack)
@@ -637,16 +649,17 @@ class AhoCorasick:
         """All matches of a short haystack, None where they are many."""
         found, count = self._room(_FEW), ctypes.c_size_t()
         _check(function(self._reference(), given, len(given), found, _FEW, ctypes.byref(count)))
+        written = memoryview(found)[: min(count.value, _FEW) * _MATCH.size].tobytes()
+        self.__own.room = found
         if count.value > _FEW:
             return None
-        written = memoryview(found)[: count.value * _MATCH.size].tobytes()
         return map(tuple.__new__, _EACH_A_MATCH, _MATCH.iter_unpack(written))
 
     def _finds(self, given: Any) -> Iterator[Iterator[Match]]:
         """The matches of iteration, some at a time. A piece of the haystack is searched as if it were the whole, and of its matches those are
         given that no byte behind it changes: under "standard" all, else those that begin so far before its end that no longer pattern
         can begin there or before."""
-        size, longest, leftmost = len(given), max(self._longest, 1), self._kind != "standard"
+        size, longest, leftmost = len(given), max(self._longest, 1), self.__kind != "standard"
         place, last, step = 0, -1, _STEP_FIRST  # where the search goes on, and where the last match ended
         while True:
             end = min(size, place + step + longest)
@@ -690,17 +703,14 @@ class AhoCorasick:
         found, count = self._room(matches), ctypes.c_size_t()
         _check(function(self._reference(), _address(given) + begin, end - begin, found, matches, ctypes.byref(count)))
         written = memoryview(found)[: min(count.value, matches) * _MATCH.size].tobytes()
+        if matches <= _ROOM_LAST:
+            self.__own.room = found
         return memoryview(written).cast("N"), count.value
 
     def _room(self, matches: int) -> Any:
-        """Room for so many matches, or for more: this thread's own, if that is enough."""
-        own = getattr(self._own, "room", None)
-        if own is not None and len(own) >= matches * _MATCH.size:
-            return own
-        room = (ctypes.c_char * (matches * _MATCH.size))()
-        if matches <= _ROOM_LAST:
-            self._own.room = room
-        return room
+        """Room for so many matches, or for more: this thread's own, if that is enough. It is taken out, as that of `find` is."""
+        own = self.__own.__dict__.pop("room", None)
+        return own if own is not None and len(own) >= matches * _MATCH.size else (ctypes.c_char * (matches * _MATCH.size))()
 
     def _characters(self, matches: Iterable[Match], text: bytes) -> Iterator[Match]:
         """Matches of a text's UTF-8, which come by their ends, with the places of characters. One that lies inside a character, as
@@ -711,12 +721,12 @@ class AhoCorasick:
                 continue
             passed += len(text[at : it.end].decode(*_ENCODING))
             at = it.end
-            yield Match(it.pattern, passed - len(self._patterns[it.pattern]), passed)
+            yield Match(it.pattern, passed - str.__len__(self._patterns[it.pattern]), passed)
 
     def _replaced(self, text: str, replace_with: Sequence[Any]) -> str:
         parts: List[str] = []
-        copied = 0
-        for it in self.find_iter(text):
+        text, copied = _text(text), 0
+        for it in AhoCorasick.find_iter(self, text):
             parts += text[copied : it.start], replace_with[it.pattern]
             copied = it.end
         return "".join([*parts, text[copied:]])
@@ -767,17 +777,46 @@ def _pieces_of(reader: Any) -> Iterator[Haystack]:
     return _read(reader)
 
 
+class _Told:
+    """The matches of a stream. One that was cut off by an error of its reader does not end: each further match is an error."""
+
+    def __init__(self, stream: "Stream", pieces: Iterator[Haystack]) -> None:
+        self._ends: List[bool] = []
+        self._matches = _told(stream, pieces, self._ends)
+
+    def __iter__(self) -> Iterator[Match]:
+        return self
+
+    def __next__(self) -> Match:
+        for match in self._matches:
+            return match
+        if not self._ends:
+            raise SearchError("the stream was cut off by an error, and cannot go on")
+        raise StopIteration
+
+
+def _told(stream: "Stream", pieces: Iterator[Haystack], ends: List[bool]) -> Iterator[Match]:
+    for piece in pieces:
+        yield from stream.push(piece)
+    yield from stream.end()
+    ends.append(True)
+
+
+def _is_empty(piece: Any) -> bool:
+    return not (_text(piece) if isinstance(piece, str) else memoryview(piece).nbytes)
+
+
 def _read(reader: Any) -> Iterator[Haystack]:
     # As the reader of a buffered pipe or socket gives what is there, so that a match is told as soon as it came. A reader of codecs has the
     # `read1` of the bytes below it, and others refuse theirs.
     prompt = isinstance(reader, io.BufferedIOBase) and type(reader).read1 is not io.BufferedIOBase.read1
     read = reader.read1 if prompt else getattr(reader, "read", None)
     for piece in iter(lambda: read(_PIECE), reader) if read else iter(reader):
-        if read and piece is not None and not len(piece):
+        if read and piece is not None and _is_empty(piece):
             if not _may_wait(reader):
                 return
             piece = read(_PIECE) if _is_ready(reader) else None
-            if piece is not None and not len(piece):
+            if piece is not None and _is_empty(piece):
                 return
         if piece is None:
             raise BlockingIOError("the reader has nothing for now")
@@ -807,6 +846,8 @@ def _write(writer: Any, part: Union[str, bytes]) -> None:
             return
         if taken is None:
             raise BlockingIOError("the writer takes nothing for now")
+        if not 0 <= taken <= len(part):
+            raise OSError(f"the writer took {taken} of {len(part)}")
         part = part[taken:]
 
 
@@ -840,7 +881,7 @@ def _in_turn(batches: Iterator[Iterator[Match]]) -> Iterator[Match]:
 
 def _is_wide(haystack: Haystack) -> bool:
     """Whether places of characters are others than those of bytes."""
-    return isinstance(haystack, str) and not haystack.isascii()
+    return isinstance(haystack, str) and not _text(haystack).isascii()
 
 
 def _check(status: int, *good: int) -> None:
@@ -857,9 +898,11 @@ def _check(status: int, *good: int) -> None:
 
 def _limit(limit: Optional[int]) -> int:
     """A limit as the library takes it."""
-    if limit is not None and limit < 0:
+    most = ctypes.c_size_t(-1).value
+    given = most if limit is None else operator.index(limit)
+    if given < 0:
         raise ValueError(f"a limit is not {limit}")
-    return ctypes.c_size_t(-1).value if limit is None else min(limit, ctypes.c_size_t(-1).value)
+    return min(given, most)
 
 
 def _build_error(error: _Error) -> BuildError:
@@ -869,8 +912,28 @@ def _build_error(error: _Error) -> BuildError:
     return BuildError(room.raw[: size.value].decode(), pattern, error.requested, error.max)
 
 
+def _state_of(it: Any, without: Iterable[str]) -> Any:
+    """What an object holds by names, but some, and in the slots of its class, as pickle and copy put it into a new one: or else what its class says
+    by a `__getstate__` of its own."""
+    said = getattr(type(it), "__getstate__", None)
+    if said is not getattr(object, "__getstate__", None):
+        state = it.__getstate__()
+        return {name: state[name] for name in state if name not in without} if isinstance(state, dict) else state
+    named, held = {name: value for name, value in vars(it).items() if name not in without}, _slots_of(it)
+    return (named, held) if held else named
+
+
+def _slots_of(it: Any) -> Any:
+    """What an object holds in the slots of its class."""
+    kinds = [vars(kind) for kind in type(it).__mro__ if "__slots__" in vars(kind)]
+    names = [name for kind in kinds for name, slot in kind.items() if isinstance(slot, types.MemberDescriptorType)]
+    return {name: getattr(it, name) for name in names if hasattr(it, name)}
+
+
 # What an AhoCorasick is built with anew; what else it has is copied.
-_BUILT = frozenset("_patterns _of_texts _items _kind _ignore_case _prefilter _longest _handle _lock _own _rest _small".split())
+_BUILT = frozenset(f"_{it}" for it in "patterns of_texts ignore_case prefilter longest handle small".split()).union(
+    f"_AhoCorasick__{it}" for it in "items kind lock own rest".split()
+)
 
 
 def _rebuilt_as(
@@ -894,8 +957,22 @@ def _rebuilt(*given: Any) -> AhoCorasick:
     return _rebuilt_as(AhoCorasick, *given)
 
 
+@contextlib.contextmanager
+def _alone(lock: Any) -> Iterator[None]:
+    """A call on a stream, which has it alone. One that is cut off by an error leaves it locked for good: what it had taken is gone."""
+    if not lock.acquire(blocking=False):
+        raise SearchError("the stream is used by another call, or one was cut off by an error: it cannot go on")
+    try:
+        yield
+    except SearchError:  # by which nothing was taken
+        lock.release()
+        raise
+    lock.release()
+
+
 class Stream:
-    """The search of a stream whose pieces are pushed as they come. It is used by one thread at a time.
+    """The search of a stream whose pieces are pushed as they come. One call at a time may use it, else it raises SearchError, and so it does
+    once a call was cut off, as by KeyboardInterrupt.
 
         >>> stream = Stream(AhoCorasick(["samwise", "sam"], kind="leftmost-longest"))
         >>> stream.push("frodo, sam"), stream.push("wise"), stream.end()
@@ -904,12 +981,12 @@ class Stream:
     Raises SearchError where a pattern is empty."""
 
     def __init__(self, searcher: AhoCorasick) -> None:
-        self._searcher, self._handle = searcher, _StreamHandle()
+        self._searcher, self._handle, self._lock = searcher, _StreamHandle(), threading.Lock()
         self._found, self._taken = _Match(), ctypes.c_size_t()
         # Of a text the bytes from `_at` on are kept, before which so many bytes and characters stand.
         self._of_text: Optional[bool] = None
         self._tail, self._at, self._passed = bytearray(), 0, 0
-        self._most = max((len(_pattern_bytes(it)) for it in searcher.patterns), default=0) + 1
+        self._most = searcher._longest + 1
         _check(_stream_new(searcher._reference(), ctypes.byref(self._handle)))
 
     def push(self, piece: Haystack) -> List[Match]:
@@ -918,28 +995,34 @@ class Stream:
         text = isinstance(piece, str)
         if self._of_text not in (None, text):
             raise TypeError("the pieces of a stream are all of type str, or all of bytes")
-        self._of_text = text
-        rest = memoryview(self._searcher._bytes_of(piece) if isinstance(piece, str) else piece)
-        rest = (rest if rest.c_contiguous else memoryview(rest.tobytes())).cast("B")
+        rest = self._rest(piece)
         matches: List[Match] = []
-        while len(rest):
-            taken = self._push(rest)
-            if text:
-                self._tail += rest[:taken]
-            rest = rest[taken:]
-            matches += self._certain()
+        with _alone(self._lock):
+            self._of_text = text
+            while len(rest):
+                taken = self._push(rest)
+                if text:
+                    self._tail += rest[:taken]
+                rest = rest[taken:]
+                matches += self._certain()
         return matches
 
     def end(self) -> List[Match]:
         """The matches that are left, where nothing more is pushed."""
-        self._end()
-        return list(self._certain())
+        with _alone(self._lock):
+            self._end()
+            return list(self._certain())
 
     def __reduce__(self) -> Any:
         raise TypeError("a stream cannot be copied or pickled: its bytes are gone")
 
     def _reference(self) -> Any:
         return ctypes.byref(self._handle)
+
+    def _rest(self, piece: Haystack) -> memoryview:
+        """The bytes of a piece."""
+        rest = memoryview(self._searcher._bytes_of(piece) if isinstance(piece, str) else piece)
+        return (rest if rest.c_contiguous else memoryview(rest.tobytes())).cast("B")
 
     def _push(self, rest: memoryview) -> int:
         _check(_stream_push(self._reference(), _borrowed(rest), len(rest), ctypes.byref(self._taken)))
@@ -961,7 +1044,7 @@ class Stream:
 
     def _in_characters(self, match: Match) -> Match:
         self._pass(match.end)
-        return Match(match.pattern, self._passed - len(self._searcher.patterns[match.pattern]), self._passed)
+        return Match(match.pattern, self._passed - str.__len__(self._searcher._patterns[match.pattern]), self._passed)
 
     def _pass(self, place: int) -> None:
         """Counts the characters of a text before a place, and keeps what is behind."""
@@ -973,7 +1056,7 @@ class Stream:
 
 
 class Replacer:
-    """The replacement of a stream whose pieces are pushed as they come. It is used by one thread at a time.
+    """The replacement of a stream whose pieces are pushed as they come, by one call at a time, as to a `Stream`.
 
         >>> replacer = Replacer(AhoCorasick(["samwise", "sam"], kind="leftmost-longest"), ["S", "s"])
         >>> replacer.push("frodo, sam") + replacer.push("wise and") + replacer.end()
@@ -1006,18 +1089,19 @@ class Replacer:
             self._of_text = isinstance(piece, str)
         if isinstance(piece, str) != self._of_text:
             raise TypeError("the pieces of a stream are of the type of the replacements")
-        rest = memoryview(self._stream._searcher._bytes_of(piece) if isinstance(piece, str) else piece)
-        rest = (rest if rest.c_contiguous else memoryview(rest.tobytes())).cast("B")
+        rest = self._stream._rest(piece)
         parts: List[bytes] = []
-        while len(rest):
-            rest = rest[self._stream._push(rest) :]
-            parts += self._certain()
-        return self._joined(parts, False)
+        with _alone(self._stream._lock):
+            while len(rest):
+                rest = rest[self._stream._push(rest) :]
+                parts += self._certain()
+            return self._joined(parts, False)
 
     def end(self) -> Union[str, bytes]:
         """What is left of the replacement, where nothing more is pushed."""
-        self._stream._end()
-        return self._joined(list(self._certain()), True)
+        with _alone(self._stream._lock):
+            self._stream._end()
+            return self._joined(list(self._certain()), True)
 
     def _certain(self) -> Iterator[bytes]:
         while True:
@@ -1133,15 +1217,20 @@ class Redactor:
         return f"<Redactor of {self._count} secrets>"
 
     def __getstate__(self) -> Any:
-        return {name: value for name, value in vars(self).items() if name != "_pieces"}
+        named, held = {name: value for name, value in vars(self).items() if name != "_pieces"}, _slots_of(self)
+        return (named, held) if held else named
 
     def __setstate__(self, state: Any) -> None:
-        vars(self).update(state, _pieces=_slices([state["_replacement"]] * len(state["_searcher"].patterns)))
+        named, slots = state if isinstance(state, tuple) else (state, {})
+        vars(self).update(named, _pieces=_slices([named["_replacement"]] * len(named["_searcher"].patterns)))
+        for name, value in slots.items():
+            setattr(self, name, value)
 
     def text(self, text: str) -> str:
         """The text with each run replaced. A character that a secret of bytes cuts in two becomes U+FFFD."""
         if not isinstance(text, str):
             raise TypeError(f"a text is a str, and no {type(text).__name__}: see bytes")
+        text = _text(text)
         given = text.encode(*_ENCODING)
         return _text_of(self._covered(given)) if self._searcher.is_match(given) else text
 
@@ -1154,16 +1243,14 @@ class Redactor:
             >>> Redactor(["swordfish"]).stream(["the sword", "fish, c3dvcmRmaXNo"], there)
             >>> there.getvalue()
             'the [redacted], [redacted]'
+
+        Where reader or writer fails, or has nothing for now (BlockingIOError), what was read and not written is gone. **A second call must not go
+        on there**: it would write the rest of a secret whose begin the first one held. Push pieces to a `Coverer` where one has to go on.
         """
-        covering, decoder, of_text = _Covering(self), codecs.getincrementaldecoder("utf-8")("chromesquid.text"), None
+        coverer = Coverer(self)
         for piece in _pieces_of(reader):
-            if of_text not in (None, isinstance(piece, str)):
-                raise TypeError("the pieces of a stream are all of type str, or all of bytes")
-            of_text = isinstance(piece, str)
-            part = covering.push(_pattern_bytes(piece))
-            _write(writer, decoder.decode(part) if of_text else part)
-        part = covering.end()
-        _write(writer, decoder.decode(part, True) if of_text else part)
+            _write(writer, coverer.push(piece))
+        _write(writer, coverer.end())
 
     def _covered(self, given: Any) -> _Raw:
         return self._searcher._written_by(_cover_all, given, self._pieces)
@@ -1175,22 +1262,54 @@ class Redactor:
         return self._covered(_borrowed(data))
 
 
-class _Covering:
-    """The cover of a stream whose pieces are pushed. What no occurrence that is not whole yet may begin before is told; the rest is held."""
+class Coverer:
+    """The cover of a stream whose pieces are pushed as they come: each run of what lies in the secrets of a `Redactor` is replaced, also where one
+    goes on from piece to piece. So a stream whose reader has nothing for now goes on later with the same one.
+
+        >>> coverer = Coverer(Redactor(["swordfish"]))
+        >>> coverer.push("the sword") + coverer.push("fish, c3dvcmRm") + coverer.push("aXNo") + coverer.end()
+        'the [redacted], [redacted]'
+
+    One call at a time may use it, else it raises SearchError, and so it does once a call was cut off, as by KeyboardInterrupt."""
 
     def __init__(self, redactor: Redactor) -> None:
         # The bytes that are held; whether a run that was told goes on in them, and up to which place as far as is known.
         self._redactor, self._held, self._is_open, self._upto = redactor, b"", False, 0
+        self._of_text: Optional[bool] = None
+        self._decoder = codecs.getincrementaldecoder("utf-8")("chromesquid.text")
+        self._lock, self._has_ended = threading.Lock(), False
 
-    def push(self, piece: bytes) -> bytes:
-        held, begins = self._held + piece, self._redactor._begins
-        first = max(len(held) - self._redactor._longest + 1, 0)
-        return self._told(held, next((at for at in range(first, len(held)) if held[at : at + 4] in begins), len(held)))
+    def __reduce__(self) -> Any:
+        raise TypeError("a stream cannot be copied or pickled: its bytes are gone")
 
-    def end(self) -> bytes:
-        return self._told(self._held, len(self._held))
+    @overload
+    def push(self, piece: str) -> str: ...  # type: ignore[misc]
 
-    def _told(self, held: bytes, settled: int) -> bytes:
+    @overload
+    def push(self, piece: Bytes) -> bytes: ...
+
+    def push(self, piece: Haystack) -> Union[str, bytes]:
+        """What no secret may go on with and was not answered before: a str if the pieces are, else bytes."""
+        of_text = isinstance(piece, str)
+        if self._of_text not in (None, of_text):
+            raise TypeError("the pieces of a stream are all of type str, or all of bytes")
+        given = _pattern_bytes(piece)
+        with _alone(self._lock):
+            if self._has_ended:
+                raise SearchError(_WHY_REFUSED[_ENDED])
+            self._of_text = of_text
+            held, begins = self._held + given, self._redactor._begins
+            first = max(len(held) - self._redactor._longest + 1, 0)
+            return self._told(held, next((at for at in range(first, len(held)) if held[at : at + 4] in begins), len(held)))
+
+    def end(self) -> Union[str, bytes]:
+        """What is left, where nothing more is pushed. It is of type bytes where nothing was."""
+        with _alone(self._lock):
+            self._has_ended = True
+            return self._told(self._held, len(self._held))
+
+    def _told(self, held: bytes, settled: int) -> Union[str, bytes]:
+        """What stands before a place before which no occurrence begins that is not whole yet. The rest is held."""
         parts: List[bytes] = []
         is_open, upto = self._is_open, self._upto
         for start, end in sorted((it.start, it.end) for it in self._redactor._searcher.find_overlapping_iter(held)):
@@ -1203,7 +1322,8 @@ class _Covering:
             parts.append(held[upto:settled])
             is_open, upto = False, settled
         self._held, self._is_open, self._upto = held[settled:], is_open, upto - settled
-        return b"".join(parts)
+        told = b"".join(parts)
+        return self._decoder.decode(told, self._has_ended) if self._of_text else told
 
 
 def _passing(error: UnicodeError) -> Tuple[Union[str, bytes], int]:
@@ -1265,10 +1385,15 @@ class LogFilter(logging.Filter):
         if value is None or type(value) in (bool, int, float):
             return value
         if isinstance(value, str):
-            return self._redactor.text(value)
-        if isinstance(value, (bytes, bytearray)):
-            covered = self._redactor.bytes(value)
-            return value if covered == value else covered
+            text = self._redactor.text(value)
+            if type(value) is str or text != _text(value):
+                return text
+        elif isinstance(value, (bytes, bytearray)):
+            data = self._redactor.bytes(value)
+            if data != bytes(memoryview(value)):
+                return data
+            if type(value) in (bytes, bytearray):
+                return value
         around = (*within, id(value))
         if isinstance(value, Mapping) and id(value) not in within:
             pairs = [*value.items()]
@@ -1288,7 +1413,7 @@ class LogFilter(logging.Filter):
             except Exception:  # nor can logging show it so
                 continue
             told = self._redactor.text(shown)
-            if told != shown:
+            if told != _text(shown):
                 return told
         return value
 
@@ -1300,17 +1425,18 @@ class LogFilter(logging.Filter):
 
     def _message(self, record: logging.LogRecord) -> str:
         try:
-            return record.getMessage()
+            return _text(record.getMessage())
         except Exception:  # logging would print them as they are
-            text = record.msg if isinstance(record.msg, str) else type(record.msg).__name__
+            text = _text(record.msg) if issubclass(type(record.msg), str) else type(record.msg).__name__
             return f"{text} (arguments that do not fit it are left out)"
 
 
-_searchers: "weakref.WeakSet[AhoCorasick]" = weakref.WeakSet()
+# By their numbers: a class of its own may compare its searchers, and have no hash.
+_searchers: "weakref.WeakValueDictionary[int, AhoCorasick]" = weakref.WeakValueDictionary()
 
 
 def _begin_process() -> None:
-    for searcher in list(_searchers):
+    for searcher in list(_searchers.values()):
         searcher._begin_process()
 
 

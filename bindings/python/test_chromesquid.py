@@ -7,6 +7,8 @@ import collections
 import contextlib
 import copy
 import ctypes
+import dataclasses
+import enum
 import io
 import json
 import logging
@@ -18,6 +20,7 @@ import random
 import re
 import shutil
 import subprocess
+import sys
 import tempfile
 import threading
 import typing
@@ -26,7 +29,7 @@ import urllib.parse
 from unittest import mock
 
 import chromesquid
-from chromesquid import AhoCorasick, BuildError, FormError, LogFilter, Match, Redactor, ReplacementError, Replacer, SearchError, Stream, forms, version
+from chromesquid import AhoCorasick, BuildError, Coverer, FormError, LogFilter, Match, Redactor, ReplacementError, Replacer, SearchError, Stream, forms, version
 
 KINDS = ("standard", "leftmost-first", "leftmost-longest")
 
@@ -450,12 +453,364 @@ class Streams(unittest.TestCase):
             self.assertEqual((stream.push(b"a"), stream.push(b"-"), stream.push(b"a"), stream.end()), ([], [Match(0, 0, 1)], [], [Match(0, 2, 3)]))
 
 
+    def test_a_stream_that_was_cut_off_does_not_end(self):
+        searcher = AhoCorasick([b"sam"])
+        for failure in (BlockingIOError, OSError, KeyboardInterrupt):
+            def pieces(failure=failure):
+                yield b"a sam, sa"
+                raise failure
+
+            matches = searcher.stream(pieces())
+            self.assertEqual(next(matches), Match(0, 2, 5))
+            self.assertRaises(failure, next, matches)
+            for _ in range(2):
+                with self.assertRaisesRegex(SearchError, "cut off"):
+                    list(matches)
+        matches = searcher.stream([b"sam"])
+        self.assertEqual((list(matches), list(matches), next(matches, None)), ([Match(0, 0, 3)], [], None))
+
+    def test_one_call_at_a_time(self):
+        for made in (lambda: Stream(AhoCorasick([b"sam"])), lambda: Replacer(AhoCorasick([b"sam"]), [b"S"]), lambda: Coverer(Redactor([b"sam"], forms=[]))):
+            (stream, alone), told = (made(), made()), []
+
+            def push_too(stream=stream, told=told):
+                if is_locked(stream):
+                    told.append(self.assertRaisesRegex(SearchError, "another call", stream.push, b"sam"))
+
+            for piece in (b"a sam, sa", b"m.", b"sam"):
+                self.assertEqual(at_each_step(lambda stream=stream, piece=piece: stream.push(piece), push_too), alone.push(piece))
+            self.assertGreater(len(told), 20)
+
+            def interrupt(stream=stream):
+                if is_locked(stream):
+                    raise KeyboardInterrupt
+
+            self.assertRaises(KeyboardInterrupt, at_each_step, lambda stream=stream: stream.push(b"m"), interrupt)
+            for call in (lambda stream=stream: stream.push(b"m"), stream.end):
+                self.assertRaisesRegex(SearchError, "cut off", call)
+
+    def test_pieces_and_writers_of_classes_of_others(self):
+        class Odd(bytes):
+            def __len__(self):
+                return 0
+
+        class Text(str):
+            __len__ = Odd.__len__
+            __bool__ = Odd.__len__
+
+        self.assertEqual(list(AhoCorasick([b"sam"]).stream(Slow([Odd(b"sam "), Odd(b"sam")]))), [Match(0, 0, 3), Match(0, 4, 7)])
+        self.assertEqual(list(AhoCorasick(["sam"]).stream(Slow([Text("sam "), Text("sam")]))), [Match(0, 0, 3), Match(0, 4, 7)])
+        for taken in (-1, 100):
+            with mock.patch.object(Sparing, "write", lambda self, part, taken=taken: taken):
+                self.assertRaises(OSError, AhoCorasick([b"sam"]).stream_replace_all, [b"a sam."], Sparing(), [b"S"])
+
+
+def is_locked(stream):
+    return getattr(stream, "_stream", stream)._lock.locked()
+
+
+def at_each_step(call, other):
+    """What a call answers, before each step of whose way through the module the same thread makes another one, as it does in a handler of a
+    signal or in a finalizer."""
+    module, before = AhoCorasick.find.__code__.co_filename, sys.gettrace()
+
+    def step(frame, event, _):
+        if frame.f_code.co_filename != module:
+            return None
+        frame.f_trace_opcodes = True
+        if event != "call":
+            other()
+        return step
+
+    sys.settrace(step)
+    try:
+        return call()
+    finally:
+        sys.settrace(before)
+
+
+class Interrupted(unittest.TestCase):
+    """Calls between whose steps the same thread makes others by the same searcher."""
+
+    long = "x\xe9 samwise " + "nobody" * 90
+
+    def calls(self, searcher, replacer):
+        """Calls on a searcher of three patterns."""
+        for given in ("a samwise frodo", "\xe9 samwise", b"frodo", self.long):
+            text, pieces = isinstance(given, str), ["1", "2", "3"] if isinstance(given, str) else [b"1", b"2", b"3"]
+            yield lambda given=given: (searcher.find(given), searcher.is_match(given))
+            yield lambda given=given: list(searcher.find_iter(given))
+            yield lambda given=given: list(searcher.find_overlapping_iter(given))
+            yield lambda given=given, pieces=pieces: (searcher.replace_all(given, pieces), searcher.cover_all(given, pieces))
+            yield lambda given=given, text=text: replacer.text(given) if text else replacer.bytes(given)
+            yield lambda given=given: list(searcher.stream([given[:7], given[7:]]))
+            yield lambda given=given, text=text: self.streamed(replacer, given, text)
+            yield lambda given=given, text=text: self.logged(replacer, given)
+
+    def streamed(self, redactor, given, text):
+        there = io.StringIO() if text else io.BytesIO()
+        redactor.stream([given[:7], given[7:]], there)
+        return there.getvalue()
+
+    def logged(self, redactor, given):
+        record = logging.makeLogRecord({"msg": "by %s", "args": (given,), "more": [given, {"name": given}]})
+        LogFilter(redactor).filter(record)
+        return record.getMessage(), record.more
+
+    def made(self):
+        searcher, redactor = AhoCorasick(["samwise", "sam", "frodo"]), Redactor(["samwise", "frodo"], forms=[])
+        for it in (searcher, redactor._searcher):
+            it._small = None  # whose calls are one step
+        return searcher, redactor
+
+    def looked_at(self, others):
+        """Each call answers as it does alone."""
+        searcher, redactor = self.made()
+        for call in self.calls(searcher, redactor):
+            self.assertEqual(at_each_step(call, others(searcher, redactor)), call())
+
+    def looked_at_first(self, others):
+        """So does the first call of all, with another one before one of its steps, whichever that is."""
+        for call in (lambda searcher, _: searcher.find("\xe9 samwise"), lambda searcher, _: [*searcher.find_iter(self.long)], lambda _, redactor: redactor.text("frodo")):
+            wanted, number, steps = call(*self.made()), 0, [1]
+            while number < len(steps):
+                made, steps = self.made(), []
+                other = others(*made)
+
+                def at_one_step(other=other, number=number, steps=steps):
+                    steps.append(number)
+                    if len(steps) == number + 1:
+                        other()
+
+                self.assertEqual(at_each_step(lambda call=call, made=made: call(*made), at_one_step), wanted)
+                number += 1
+            self.assertGreater(number, 30)
+
+    def searches(self, searcher, redactor):
+        def other():
+            searcher.find("frodo \xe9")
+            list(searcher.find_iter("\xe9" + "sam" * 9))
+            list(searcher.find_overlapping_iter("frodo" * 150))
+            redactor.text("\xe9 frodo")
+
+        return other
+
+    def forks(self, searcher, redactor):
+        def other():
+            for it in (searcher, redactor._searcher):
+                it._begin_process()  # as in the process that is forked
+
+        return other
+
+    def test_searches(self):
+        self.looked_at(self.searches)
+
+    def test_forks(self):
+        self.looked_at(self.forks)
+
+    def test_first_searches(self):
+        failures = []
+
+        def look():
+            try:
+                for others in (self.searches, self.forks):
+                    self.looked_at_first(others)
+            except BaseException as error:
+                failures.append(error)
+
+        thread = threading.Thread(target=look, daemon=True)
+        thread.start()
+        thread.join(120)
+        self.assertFalse(thread.is_alive(), "a search waits for itself")
+        self.assertEqual(failures, [])
+
+
+class Odd(unittest.TestCase):
+    """Texts and bytes of classes of their own, which tell otherwise of themselves than they are."""
+
+    def test_bytes(self):
+        class Longer(bytes):
+            def __len__(self):
+                return super().__len__() + 200
+
+        class Shorter(bytes):
+            def __len__(self):
+                return super().__len__() // 2
+
+            def __eq__(self, other):
+                return True
+
+            __hash__ = bytes.__hash__
+
+        for kind in (Longer, Shorter):
+            given, redactor = kind(b"the rest of a swordfish"), Redactor([kind(b"swordfish")], replacement=kind(b"*"))
+            for searcher in (AhoCorasick([kind(b"swordfish")]), AhoCorasick([b"swordfish"])):
+                self.assertEqual((searcher.find(given), searcher.is_match(given)), (Match(0, 14, 23), True))
+                for calls in (searcher.find_iter, searcher.find_overlapping_iter, lambda it, searcher=searcher: searcher.stream([it])):
+                    self.assertEqual(list(calls(given)), [Match(0, 14, 23)])
+                self.assertEqual(searcher.replace_all(given, [kind(b"-")]), b"the rest of a -")
+                self.assertEqual(searcher.cover_all(given, (kind(b"-"),)), b"the rest of a -")
+                self.assertEqual(searcher.find_into(given, array.array("Q", [0] * 600)), 1)
+            self.assertFalse(searcher.is_match(kind(b"a")) or searcher.is_match(kind(b"x" * 1000)))
+            self.assertEqual(redactor.bytes(given), b"the rest of a *")
+            there = io.BytesIO()
+            redactor.stream([given[:20], kind(given[20:])], there)
+            self.assertEqual(there.getvalue(), b"the rest of a *")
+            self.assertEqual(forms(kind(b"key/+"), "hex"), forms(b"key/+", "hex"))
+            record = logging.makeLogRecord({"msg": "by", "data": given})
+            LogFilter(redactor).filter(record)
+            self.assertEqual(bytes(memoryview(record.data)), b"the rest of a *")
+
+    def test_texts(self):
+        class Text(str):
+            def __len__(self):
+                return super().__len__() + 7
+
+            def encode(self, *_):
+                return b"nothing"
+
+            def isascii(self):
+                return True
+
+            def __getitem__(self, at):
+                return "swordfish"
+
+            def __str__(self):
+                return "a sword"
+
+        given, redactor = Text("\xe9 swordfish, a sword"), Redactor([Text("swordfish")], replacement=Text("*"))
+        for searcher in (AhoCorasick([Text("swordfish"), Text("\xe9")]), AhoCorasick(["swordfish", "\xe9"])):
+            wanted = [Match(1, 0, 1), Match(0, 2, 11)]
+            self.assertEqual((searcher.find(given), searcher.is_match(given)), (wanted[0], True))
+            for calls in (searcher.find_iter, searcher.find_overlapping_iter, lambda it, searcher=searcher: searcher.stream([it])):
+                self.assertEqual(list(calls(given)), wanted)
+            self.assertEqual(searcher.replace_all(given, [Text("-"), "e"]), "e -, a sword")
+            self.assertEqual(searcher.cover_all(given, [Text("-"), "e"]), "e -, a sword")
+        self.assertEqual(AhoCorasick(["", "\xe9"]).replace_all(Text("\xe9a"), ["-", Text("+")]), "-\xe9-a-")
+        self.assertEqual(redactor.text(given), "\xe9 *, a sword")
+        self.assertIs(type(redactor.text(Text("nothing"))), str)
+        there = io.StringIO()
+        redactor.stream([Text("a sword"), Text("fish")], there)
+        self.assertEqual(there.getvalue(), "a *")
+        self.assertEqual(forms(Text("key/+"), "hex"), forms("key/+", "hex"))
+
+    def test_what_only_passes_for_a_text(self):
+        class Lazy:
+            """As the lazy texts of frameworks."""
+
+            __class__ = str
+
+            def __str__(self):
+                return "a swordfish"
+
+        self.assertEqual(Redactor(["swordfish"]).text(Lazy()), "a [redacted]")
+        self.assertEqual(AhoCorasick(["swordfish"]).find(Lazy()), Match(0, 2, 11))
+
+    def test_texts_in_logs(self):
+        class Hidden(str):
+            def __str__(self):
+                return "a swordfish"
+
+        class Shown(str):
+            def __repr__(self):
+                return "Shown(swordfish)"
+
+        class Broken(str):
+            def __str__(self, *_):
+                raise ValueError("swordfish")
+
+            __format__ = __str__
+
+        class Data(bytes):
+            __repr__ = Shown.__repr__
+
+        class Level(str, enum.Enum):
+            LOW = "low"
+
+        redactor = Redactor(["swordfish"], replacement="*")
+        given = {"hidden": Hidden("x"), "shown": Shown("x"), "data": Data(b"x"), "level": Level.LOW, "text": Shown("swordfish"), "list": [Hidden("x")]}
+        record = logging.makeLogRecord({"msg": Broken("by swordfish"), "args": ("a", "b"), **given})
+        self.assertTrue(LogFilter(redactor).filter(record))
+        self.assertEqual((record.hidden, record.shown, record.data, record.text, record.list), ("a *", "Shown(*)", "Shown(*)", "*", ["a *"]))
+        self.assertIs(record.level, Level.LOW)
+        self.assertEqual(record.getMessage(), "by * (arguments that do not fit it are left out)")
+
+    def test_limits(self):
+        class Number:
+            def __init__(self, value):
+                self.value = value
+
+            def __index__(self):
+                return self.value
+
+        self.assertRaises(BuildError, AhoCorasick, ["abc"], max_len=Number(2))
+        self.assertEqual(AhoCorasick(["abc"], max_len=Number(3)).patterns, ("abc",))
+        self.assertRaises(ValueError, AhoCorasick, ["abc"], max_len=Number(-1))
+        self.assertRaises(TypeError, AhoCorasick, ["abc"], max_len=2.5)
+
+
 class Named(AhoCorasick):
     """A class of a program's own, that is made otherwise."""
 
     def __init__(self, letters, name):
         super().__init__(letters, kind="leftmost-longest", items=[1, 2])
         self.name = name
+
+
+class Slotted(AhoCorasick):
+    """One that holds something in slots, of which one may be empty."""
+
+    __slots__ = ("first", "__own", "empty")
+
+    def __init__(self, letters, first, own):
+        super().__init__(letters)
+        self.first, self.__own = first, own
+
+    def held(self):
+        return self.first, self.__own, hasattr(self, "empty")
+
+
+class SlottedRedactor(Redactor):
+    __slots__ = ("name",)
+
+
+class Stated(AhoCorasick):
+    """One with names of its own, and with a lock, which cannot be pickled."""
+
+    def __init__(self, letters, size):
+        super().__init__(letters)
+        self._lock, self._kind, self._items, self._own, self._rest, self.size = threading.Lock(), "of words", [1], None, "rest", size
+
+    def find_iter(self, haystack):
+        return super().find_iter(haystack[:0])
+
+    @property
+    def patterns(self):
+        return []
+
+    def __getstate__(self):
+        return {name: value for name, value in vars(self).items() if name != "_lock"}
+
+    def __setstate__(self, state):
+        vars(self).update(state, _lock=threading.Lock())
+
+
+class Listed(Stated):
+    def __getstate__(self):
+        return [self.size]
+
+    def __setstate__(self, state):
+        self.size, self._lock = state[0], threading.Lock()
+
+
+@dataclasses.dataclass
+class Data(AhoCorasick):
+    """One that compares, and so has no hash."""
+
+    words: list
+
+    def __post_init__(self):
+        super().__init__(self.words)
 
 
 class Copies(unittest.TestCase):
@@ -473,6 +828,50 @@ class Copies(unittest.TestCase):
         for it in (pickle.loads(pickle.dumps(searcher)), copy.copy(searcher), copy.deepcopy(searcher)):
             self.assertEqual((type(it), it.name, it.kind, it.items, it.find("an\xe9").end), (Named, "letters", "leftmost-longest", (1, 2), 1))
 
+    def test_slots(self):
+        searcher, redactor = Slotted(["a"], [1], {"b": 2}), SlottedRedactor(["swordfish"])
+        redactor.name = "words"
+        for copied in (lambda it: pickle.loads(pickle.dumps(it)), copy.copy, copy.deepcopy):
+            self.assertEqual((copied(searcher).held(), copied(searcher).find("ba")), (([1], {"b": 2}, False), Match(0, 1, 2)))
+            self.assertEqual((copied(redactor).name, copied(redactor).text("a swordfish")), ("words", "a [redacted]"))
+
+    def test_classes_that_say_their_state(self):
+        for copied in (lambda it: pickle.loads(pickle.dumps(it)), copy.copy, copy.deepcopy):
+            for searcher in (Stated(["a"], 3), Listed(["a"], 3)):
+                other = copied(searcher)
+                self.assertEqual((other.size, other.find("ba"), other._lock.locked()), (3, Match(0, 1, 2), False))
+
+    def test_names_that_a_class_takes_for_itself(self):
+        searcher = Stated(["\xe9", ""], 1)
+        with searcher._lock:
+            self.assertEqual(searcher.find("a\xe9"), Match(1, 0, 0))
+            self.assertEqual(searcher.replace_all("a\xe9", ["e", "-"]), "-a-\xe9-")
+        self.assertEqual((searcher.kind, searcher.items), ("standard", ("\xe9", "")))
+        self.assertEqual(list(Stated(["\xe9"], 1).stream(["a\xe9"])), [Match(0, 1, 2)])
+
+    def test_classes_that_compare(self):
+        class Same(AhoCorasick):
+            def __eq__(self, other):
+                return self.name == other.name
+
+            def __hash__(self):
+                return hash(self.name)
+
+            def __init__(self, words, name):
+                super().__init__(words)
+                self.name = name
+
+        for searcher in (Data(["a"]), Same(["a"], "letters")):
+            self.assertEqual(searcher.find("ba"), Match(0, 1, 2))
+        several = [Same(["a"], "letters") for _ in range(3)]
+        locks = [it._AhoCorasick__lock for it in several]
+        chromesquid._begin_process()  # of each of them
+        self.assertFalse(any(it._AhoCorasick__lock is lock for it, lock in zip(several, locks)))
+        self.assertEqual((pickle.loads(pickle.dumps(Data(["a"]))), copy.copy(Data(["a"])).words), (Data(["a"]), ["a"]))
+        known = len(chromesquid._searchers)
+        del several
+        self.assertLess(len(chromesquid._searchers), known)
+
     def test_redactors_and_filters(self):
         redactor = Redactor(["swordfish", b"\xffkey"], forms=["hex"], replacement="*")
         for it in (redactor, LogFilter(redactor)):
@@ -485,7 +884,7 @@ class Copies(unittest.TestCase):
 
     def test_streams_are_not_copied(self):
         searcher = AhoCorasick(["a"])
-        for it in (Stream(searcher), Replacer(searcher, ["b"])):
+        for it in (Stream(searcher), Replacer(searcher, ["b"]), Coverer(Redactor(["abcd"]))):
             for call in (copy.copy, copy.deepcopy, pickle.dumps):
                 with self.assertRaisesRegex(TypeError, "a stream cannot be copied or pickled"):
                     call(it)
@@ -643,18 +1042,33 @@ class Forms(unittest.TestCase):
             self.assertEqual((redactor.bytes(b"a p\xe4ss"), redactor.text(f"a {escaped}")), (b"a *", "a *"))
 
     def test_a_stream_is_written_as_it_comes(self):
-        covering = chromesquid._Covering(Redactor(["swordfish"], forms=[]))
+        covering = Coverer(Redactor(["swordfish"], forms=[]))
         parts = [covering.push(it) for it in (b"a line\n", b"a sw", b"orange sword", b"fish", b"swo", b"rdfish", b".")]
         self.assertEqual(parts, [b"a line\n", b"a ", b"sworange ", b"[redacted]", b"", b"", b"."])
-        self.assertEqual(covering.end(), b"")
-        covering = chromesquid._Covering(Redactor(["aaaa"], forms=[]))
+        self.assertEqual((covering.end(), covering.end()), (b"", b""))
+        self.assertRaisesRegex(SearchError, "has ended", covering.push, b"a")
+        covering = Coverer(Redactor(["aaaa"], forms=[]))
         self.assertEqual([covering.push(b"a" * 70000) for _ in range(3)], [b"[redacted]", b"", b""])
         self.assertLess(len(covering._held), 4)
+        covering = Coverer(Redactor([b"\xf6rd\x9f", "sw\xf6rd\U0001f991"], forms=[]))
+        self.assertEqual([covering.push(it) for it in ("a sw\xf6", "rd\U0001f991 ", "\ud800 sw")] + [covering.end()], ["a ", "[redacted] ", "\ud800 ", "sw"])
+        self.assertRaises(TypeError, covering.push, b"a")
         there = io.StringIO()
         Redactor(["sw\xf6rd\U0001f991"]).stream(iter(["a sw\xf6", "rd", "\U0001f991 \ud800"]), there)
         self.assertEqual(there.getvalue(), "a [redacted] \ud800")
         with self.assertRaises(TypeError):
             Redactor(["swordfish"]).stream([b"a", "b"], io.BytesIO())
+
+
+    def test_a_reader_that_has_nothing_for_now(self):
+        coverer, reader, parts = Coverer(Redactor(["swordfish"], forms=[])), Slow([b"the swordf", None, b"ish!", None]), []
+        for piece in iter(lambda: reader.read(100), b""):
+            if piece is not None:
+                parts.append(coverer.push(piece))
+        self.assertEqual(parts + [coverer.end()], [b"the ", b"[redacted]!", b""])
+        there = io.BytesIO()
+        self.assertRaises(BlockingIOError, Redactor(["swordfish"]).stream, Slow([b"the swordf", None]), there)
+        self.assertEqual(there.getvalue(), b"the ")
 
 
 class Logs(unittest.TestCase):
@@ -780,7 +1194,7 @@ TYPED = """
 import io
 import logging
 from typing import Dict, Iterator, List, Optional, Tuple
-from chromesquid import AhoCorasick, LogFilter, Match, Redactor, Replacer, Stream, forms
+from chromesquid import AhoCorasick, Coverer, LogFilter, Match, Redactor, Replacer, Stream, forms
 
 words: List[str] = ["sam", "frodo"]
 others: List[bytes] = [b"S", b"F"]
@@ -791,7 +1205,7 @@ data: bytes = searcher.replace_all(b"sam", others) + searcher.replace_all(bytear
 searcher.stream_replace_all(io.StringIO(text), io.StringIO(), words)
 searcher.stream_replace_all(io.BytesIO(data), io.BytesIO(), others)
 part: str = Replacer(searcher, words).push("sam")
-piece: bytes = Replacer(searcher, others).push(b"sam")
+piece: bytes = Replacer(searcher, others).push(b"sam") + Coverer(Redactor(words)).push(b"sam")
 patterns: Tuple[List[str], List[bytes]] = (forms("secret"), forms(b"secret", ["hex"]))
 first: Optional[Match] = searcher.find("sam")
 place: int = first.start if first else 0
@@ -804,7 +1218,7 @@ logging.StreamHandler().addFilter(LogFilter(Redactor([text, data])))
 class Types(unittest.TestCase):
     @unittest.skipUnless(hasattr(typing, "get_overloads"), "Python below 3.11 does not tell them")
     def test_answers_are_of_the_type_of_what_is_given(self):
-        for function, two in ((AhoCorasick.replace_all, ["str", "bytes"]), (AhoCorasick.cover_all, ["str", "bytes"]), (Replacer.push, ["str", "bytes"]),
+        for function, two in ((AhoCorasick.replace_all, ["str", "bytes"]), (AhoCorasick.cover_all, ["str", "bytes"]), (Replacer.push, ["str", "bytes"]), (Coverer.push, ["str", "bytes"]),
                               (forms, ["List[str]", "List[bytes]"])):
             self.assertEqual([it.__annotations__["return"] for it in typing.get_overloads(function)], two)
 
@@ -817,6 +1231,16 @@ class Types(unittest.TestCase):
             words = ["mypy", "--strict", "--follow-imports=silent", "--cache-dir", room, "program.py"]
             ended = subprocess.run(words, cwd=room, env={**os.environ, "MYPYPATH": folder}, stdout=subprocess.PIPE, universal_newlines=True, check=False)
             self.assertEqual(ended.returncode, 0, ended.stdout)
+
+
+class Library(unittest.TestCase):
+    def test_a_named_folder_without_it(self):
+        with tempfile.TemporaryDirectory() as room:
+            for named in (room, os.path.join(room, "nowhere")):
+                environment = {**os.environ, "CHROMESQUID_LIBRARY": named, "PYTHONPATH": os.pathsep.join(sys.path)}
+                ended = subprocess.run([sys.executable, "-c", "import chromesquid"], env=environment, stderr=subprocess.PIPE, universal_newlines=True, check=False)
+                self.assertEqual(ended.returncode, 1)
+                self.assertIn(f"ImportError: CHROMESQUID_LIBRARY is '{named}', and no folder that holds libchromesquid.so.0", ended.stderr)
 
 
 PAGE = os.path.join(os.path.dirname(os.path.abspath(__file__)), "README.md")

@@ -125,8 +125,11 @@ pub trait Automaton: Sealed {
         None
     }
 
-    /// The first match, or that the automaton was not built for such a search.
+    /// The first match, or that the automaton was not built for such a search. None where the input is done, of any search.
     fn try_find(&self, input: &Input<'_>) -> Result<Option<Match>, MatchError> {
+        if input.is_done() {
+            return Ok(None);
+        }
         self.inner().searcher.try_find(input.clone())
     }
 
@@ -157,6 +160,7 @@ pub trait Automaton: Sealed {
         Self: Sized,
         B: AsRef<str>,
     {
+        self.inner().searcher.want_one_each(replace_with.len());
         self.inner().searcher.try_replace_all(haystack, replace_with)
     }
 
@@ -166,6 +170,7 @@ pub trait Automaton: Sealed {
         Self: Sized,
         B: AsRef<[u8]>,
     {
+        self.inner().searcher.want_one_each(replace_with.len());
         self.inner().searcher.try_replace_all_bytes(haystack, replace_with)
     }
 
@@ -192,7 +197,7 @@ pub trait Automaton: Sealed {
     where
         Self: Sized,
     {
-        Ok(StreamFindIter { of: PhantomData, found: self.inner().searcher.try_stream_find_iter(rdr)? })
+        Ok(StreamFindIter { of: PhantomData, found: self.inner().searcher.standard_streams()?.find_iter(rdr) })
     }
 
     /// As `AhoCorasick::try_stream_replace_all`.
@@ -203,7 +208,8 @@ pub trait Automaton: Sealed {
         W: Write,
         B: AsRef<[u8]>,
     {
-        self.inner().searcher.try_stream_replace_all(rdr, wtr, replace_with)
+        self.inner().searcher.want_one_each(replace_with.len());
+        self.inner().searcher.standard_streams().map_err(stream::refused)?.replace_all(rdr, wtr, replace_with)
     }
 
     /// As `AhoCorasick::try_stream_replace_all_with`.
@@ -214,7 +220,7 @@ pub trait Automaton: Sealed {
         W: Write,
         F: FnMut(&Match, &[u8], &mut W) -> io::Result<()>,
     {
-        self.inner().searcher.try_stream_replace_all_with(rdr, wtr, replace_with)
+        self.inner().searcher.standard_streams().map_err(stream::refused)?.replace_all_with(rdr, wtr, replace_with)
     }
 }
 

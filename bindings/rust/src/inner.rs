@@ -1,6 +1,7 @@
 //! What the automata of `nfa` and `dfa` are made of, and their builders.
 use crate::error::BuildError;
 use crate::kinds::AhoCorasickKind;
+use crate::library::Pieces;
 use crate::search::{MatchKind, StartKind};
 use crate::searcher::{AhoCorasick, AhoCorasickBuilder};
 use crate::walk::Walk;
@@ -57,13 +58,14 @@ impl Wishes {
         P: AsRef<[u8]>,
     {
         let patterns: Vec<P> = patterns.into_iter().collect();
+        let patterns = Pieces::of(&patterns);
         let searcher = AhoCorasickBuilder::new()
             .match_kind(self.match_kind)
             .start_kind(self.start_kind)
             .ascii_case_insensitive(self.ignore_case)
             .prefilter(self.prefilter)
             .kind(Some(self.kind))
-            .build(&patterns)?;
+            .build_of(&patterns)?;
         let states = searcher.states().ok_or_else(BuildError::out_of_memory)?;
         let walk = Walk::new(states, &patterns);
         Ok(Inner { searcher, walk: Arc::new(walk) })

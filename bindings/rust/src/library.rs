@@ -163,11 +163,6 @@ pub(crate) fn forms(secret: &[u8], bits: u32) -> Option<Vec<Vec<u8>>> {
     }
 }
 
-/// The byte strings as the library takes them, as long as these are lent.
-fn slices<B: AsRef<[u8]>>(items: &[B]) -> Vec<CsSlice> {
-    items.iter().map(|item| CsSlice { at: item.as_ref().as_ptr(), len: item.as_ref().len() }).collect()
-}
-
 /// Byte strings as the library takes them.
 pub(crate) struct Pieces<'p> {
     slices: Vec<CsSlice>,
@@ -175,8 +170,15 @@ pub(crate) struct Pieces<'p> {
 }
 
 impl<'p> Pieces<'p> {
+    /// Each item is asked for its bytes once: a second answer of a caller's type may be another one.
     pub(crate) fn of<B: AsRef<[u8]>>(items: &'p [B]) -> Pieces<'p> {
-        Pieces { slices: slices(items), of: PhantomData }
+        let slices = items.iter().map(AsRef::as_ref).map(|item| CsSlice { at: item.as_ptr(), len: item.len() }).collect();
+        Pieces { slices, of: PhantomData }
+    }
+
+    /// How many bytes each of them has.
+    pub(crate) fn lens(&self) -> Vec<usize> {
+        self.slices.iter().map(|it| it.len).collect()
     }
 }
 
@@ -216,8 +218,8 @@ impl Handle {
     }
 
     /// A searcher for the patterns, or the text that says why there is none.
-    pub(crate) fn build<B: AsRef<[u8]>>(patterns: &[B], wishes: &Wishes) -> Result<Handle, String> {
-        let patterns = slices(patterns);
+    pub(crate) fn build(patterns: &Pieces<'_>, wishes: &Wishes) -> Result<Handle, String> {
+        let patterns = &patterns.slices;
         let match_kind = match wishes.match_kind {
             MatchKind::Standard => 0,
             MatchKind::LeftmostFirst => 1,
@@ -298,19 +300,19 @@ impl Handle {
 
     /// The haystack with each match replaced, or none where memory ran out. There is one piece for each pattern, and the searcher
     /// answers unanchored searches.
-    pub(crate) fn replace_all<B: AsRef<[u8]>>(&mut self, haystack: &[u8], replace_with: &[B]) -> Option<Vec<u8>> {
+    pub(crate) fn replace_all(&mut self, haystack: &[u8], replace_with: &Pieces<'_>) -> Option<Vec<u8>> {
         self.written(haystack, replace_with, cs_replace_all)
     }
 
     /// The haystack with each run of bytes that lie in matches replaced, or none where memory ran out. There is one piece for each
     /// pattern, of which none is empty, and the searcher is of kind Standard and answers unanchored searches.
-    pub(crate) fn cover_all<B: AsRef<[u8]>>(&mut self, haystack: &[u8], replace_with: &[B]) -> Option<Vec<u8>> {
+    pub(crate) fn cover_all(&mut self, haystack: &[u8], replace_with: &Pieces<'_>) -> Option<Vec<u8>> {
         self.written(haystack, replace_with, cs_cover_all)
     }
 
     /// What one of two functions of the library writes of the haystack.
-    fn written<B: AsRef<[u8]>>(&mut self, haystack: &[u8], replace_with: &[B], function: Writes) -> Option<Vec<u8>> {
-        let pieces = slices(replace_with);
+    fn written(&mut self, haystack: &[u8], replace_with: &Pieces<'_>, function: Writes) -> Option<Vec<u8>> {
+        let pieces = &replace_with.slices;
         let mut room = vec![0; haystack.len()];
         loop {
             let mut len = 0;

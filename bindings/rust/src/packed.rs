@@ -170,8 +170,9 @@ impl Searcher {
         self.searcher.find(haystack.as_ref())
     }
 
-    /// The first match within a span. Panics where the haystack does not have it.
+    /// The first match within a span. Panics where the haystack does not have it, or its start is above its end.
     pub fn find_in<B: AsRef<[u8]>>(&self, haystack: B, span: Span) -> Option<Match> {
+        assert!(span.start <= span.end, "a span {span:?} that ends before its start");
         self.searcher.find(Input::new(haystack.as_ref()).span(span))
     }
 

@@ -31,6 +31,11 @@ macro_rules! number {
                 $name(value as u32)
             }
 
+            /// The same of a `u32`.
+            pub const fn from_u32_unchecked(value: u32) -> $name {
+                $name(value)
+            }
+
             /// The number. Panics above `MAX`.
             pub fn must(value: usize) -> $name {
                 $name::new(value).expect(concat!("invalid ", stringify!($name), " value"))

@@ -85,6 +85,9 @@ impl Redactor {
 
     /// Writes what the reader gives with each run replaced, and flushes the writer at the end. What no secret may go on with is written as
     /// soon as it came.
+    ///
+    /// Where reader or writer fails, also by `WouldBlock`, what was read and not written is gone. **A second call must not go on there**: it would
+    /// write the rest of a secret whose begin the first one held.
     pub fn stream<R: Read, W: Write>(&self, mut reader: R, mut writer: W) -> io::Result<()> {
         let mut chunk = vec![0; CHUNK];
         let mut covering = Covering { redactor: self, held: Vec::new(), is_open: false, upto: 0 };

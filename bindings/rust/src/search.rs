@@ -32,6 +32,7 @@ pub enum StartKind {
 
 /// Whether a match has to start where the span does.
 #[derive(Clone, Copy, Debug, PartialEq, Eq)]
+#[non_exhaustive]
 pub enum Anchored {
     /// It may start anywhere in the span.
     No,
@@ -332,8 +333,10 @@ impl<'h, H: ?Sized + AsRef<[u8]>> From<&'h H> for Input<'h> {
 
 impl fmt::Debug for Input<'_> {
     fn fmt(&self, to: &mut fmt::Formatter<'_>) -> fmt::Result {
+        let text = std::str::from_utf8(self.haystack);
+        let haystack: &dyn fmt::Debug = text.as_ref().map_or(&self.haystack, |text| text);
         to.debug_struct("Input")
-            .field("haystack", &String::from_utf8_lossy(self.haystack))
+            .field("haystack", haystack)
             .field("span", &self.span)
             .field("anchored", &self.anchored)
             .field("earliest", &self.earliest)

@@ -1,7 +1,7 @@
 //! The searcher, its builder and its iterators.
 use crate::error::{BuildError, MatchError};
 use crate::kinds::AhoCorasickKind;
-use crate::library::{Facts, Handle, States, Stream, Wishes};
+use crate::library::{Facts, Handle, Pieces, States, Stream, Wishes};
 use crate::search::{Anchored, Input, Match, MatchKind, StartKind};
 use crate::shares::{Share, Shares};
 use std::{fmt, marker::PhantomData, ops::Deref, sync::Arc};
@@ -46,7 +46,11 @@ impl AhoCorasickBuilder {
         P: AsRef<[u8]>,
     {
         let patterns: Vec<P> = patterns.into_iter().collect();
-        let mut handle = Handle::build(&patterns, &self.wishes()).map_err(BuildError::of)?;
+        self.build_of(&Pieces::of(&patterns))
+    }
+
+    pub(crate) fn build_of(&self, patterns: &Pieces<'_>) -> Result<AhoCorasick, BuildError> {
+        let mut handle = Handle::build(patterns, &self.wishes()).map_err(BuildError::of)?;
         let facts = handle.facts();
         let kind = AhoCorasickKind::told(self.kind, self.start_kind);
         Ok(AhoCorasick { shares: Arc::new(Shares::new(handle)), facts, match_kind: self.match_kind, start_kind: self.start_kind, kind })
@@ -190,6 +194,7 @@ impl AhoCorasick {
 
     /// As `replace_all`, with an error in place of a panic where the searcher was not built for such a search.
     pub fn try_replace_all<B: AsRef<str>>(&self, haystack: &str, replace_with: &[B]) -> Result<String, MatchError> {
+        self.allows(Anchored::No)?;
         self.want_one_each(replace_with.len());
         let mut dst = String::with_capacity(haystack.len());
         self.try_replace_all_with(haystack, &mut dst, |found, _, dst| {
@@ -201,9 +206,10 @@ impl AhoCorasick {
 
     /// As `replace_all_bytes`, with an error in place of a panic where the searcher was not built for such a search.
     pub fn try_replace_all_bytes<B: AsRef<[u8]>>(&self, haystack: &[u8], replace_with: &[B]) -> Result<Vec<u8>, MatchError> {
+        self.allows(Anchored::No)?;
         self.want_one_each(replace_with.len());
-        self.refusal(&Input::new(haystack))?;
-        match self.shares.share().with(|handle| handle.replace_all(haystack, replace_with)) {
+        let pieces = Pieces::of(replace_with);
+        match self.shares.share().with(|handle| handle.replace_all(haystack, &pieces)) {
             Some(replaced) => Ok(replaced),
             None => std::alloc::handle_alloc_error(std::alloc::Layout::for_value(haystack)),
         }
@@ -315,6 +321,7 @@ impl AhoCorasick {
     /// The haystack with each run of bytes that lie in matches replaced. There is one piece for each pattern, of which none is empty, and the
     /// searcher is of kind Standard and answers unanchored searches.
     pub(crate) fn cover_all<B: AsRef<[u8]>>(&self, haystack: &[u8], pieces: &[B]) -> Vec<u8> {
+        let pieces = &Pieces::of(pieces);
         let covered = self.shares.share().with(|handle| handle.cover_all(haystack, pieces));
         covered.unwrap_or_else(|| std::alloc::handle_alloc_error(std::alloc::Layout::for_value(haystack)))
     }

@@ -1,7 +1,7 @@
 //! Streams: the matches of what a reader gives, and the same bytes with the matches replaced.
 use crate::error::MatchError;
 use crate::library::{Pieces, Stream};
-use crate::search::{Input, Match, MatchKind};
+use crate::search::{Anchored, Match, MatchKind};
 use crate::searcher::{or_panic, AhoCorasick};
 use std::{
     fmt,
@@ -105,7 +105,7 @@ impl AhoCorasick {
         if self.min_pattern_len() == 0 {
             return Err(MatchError::unsupported_empty());
         }
-        self.refusal(&Input::new(""))?;
+        self.allows(Anchored::No)?;
         Ok(Streams { searcher: self })
     }
 
@@ -117,6 +117,7 @@ impl AhoCorasick {
 
     /// As `stream_find_iter`, with an error in place of a panic but where memory runs out.
     pub fn try_stream_find_iter<R: Read>(&self, rdr: R) -> Result<StreamFindIter<'_, R>, MatchError> {
+        self.allows(Anchored::No)?;
         Ok(self.standard_streams()?.find_iter(rdr))
     }
 
@@ -138,6 +139,8 @@ impl AhoCorasick {
         W: Write,
         B: AsRef<[u8]>,
     {
+        self.allows(Anchored::No).map_err(refused)?;
+        self.want_one_each(replace_with.len());
         self.standard_streams().map_err(refused)?.replace_all(rdr, wtr, replace_with)
     }
 
@@ -158,11 +161,12 @@ impl AhoCorasick {
         W: Write,
         F: FnMut(&Match, &[u8], &mut W) -> Result<(), io::Error>,
     {
+        self.allows(Anchored::No).map_err(refused)?;
         self.standard_streams().map_err(refused)?.replace_all_with(rdr, wtr, replace_with)
     }
 
-    /// Streams as the Rust crate has them: of the standard kind alone.
-    fn standard_streams(&self) -> Result<Streams<'_>, MatchError> {
+    /// Streams as the automata of the Rust crate have them: of the standard kind alone.
+    pub(crate) fn standard_streams(&self) -> Result<Streams<'_>, MatchError> {
         if self.match_kind() != MatchKind::Standard {
             return Err(MatchError::unsupported_stream(self.match_kind()));
         }
@@ -171,7 +175,7 @@ impl AhoCorasick {
 }
 
 /// What the searcher refuses, as an error of a device.
-fn refused(error: MatchError) -> io::Error {
+pub(crate) fn refused(error: MatchError) -> io::Error {
     io::Error::new(ErrorKind::Other, error)
 }
 

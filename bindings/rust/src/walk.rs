@@ -1,5 +1,5 @@
 //! The states of the library's automaton, by which the low-level calls of `Automaton` walk.
-use crate::library::{State, States};
+use crate::library::{Pieces, State, States};
 use crate::primitives::{PatternID, StateID};
 use crate::search::Anchored;
 use crate::shares::locked;
@@ -13,8 +13,8 @@ pub(crate) struct Walk {
 
 impl Walk {
     /// The states of a searcher of these patterns.
-    pub(crate) fn new<B: AsRef<[u8]>>(states: States, patterns: &[B]) -> Walk {
-        Walk { states: Mutex::new(states), lens: patterns.iter().map(|it| it.as_ref().len()).collect() }
+    pub(crate) fn new(states: States, patterns: &Pieces<'_>) -> Walk {
+        Walk { states: Mutex::new(states), lens: patterns.lens() }
     }
 
     pub(crate) fn start(&self, anchored: Anchored) -> StateID {

@@ -225,6 +225,12 @@ fn which_searches_an_automaton_answers() {
             assert_eq!(state.get_match(), wanted);
         }
     }
+    assert_eq!(unanchored.try_find(&Input::new("a").anchored(Anchored::Yes).span(chromesquid::Span { start: 1, end: 0 })), Ok(None));
+    // An automaton tells of its kind and of its patterns first.
+    let first = dfa::Builder::new().start_kind(StartKind::Anchored).match_kind(LeftmostFirst).build(["a"]).unwrap();
+    let told = first.try_stream_find_iter(&b"a"[..]).unwrap_err();
+    assert_eq!(told.kind(), &MatchErrorKind::UnsupportedStream { got: LeftmostFirst });
+    assert!(catch_unwind(|| first.try_replace_all("a", &["b", "c"])).is_err());
     let leftmost = contiguous::Builder::new().match_kind(LeftmostFirst).build(["a"]).unwrap();
     assert!(leftmost.try_stream_find_iter(&b"a"[..]).is_err() && leftmost.try_find_overlapping_iter(Input::new("a")).is_err());
 }

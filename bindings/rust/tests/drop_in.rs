@@ -7,6 +7,16 @@ use chromesquid::{
     MatchError, MatchErrorKind, MatchKind, PatternID, Span, StartKind, StreamFindIter,
 };
 
+/// A match on `Anchored` has an arm for what may come, under `deny(warnings)` too.
+#[deny(warnings)]
+pub fn is_anchored(mode: Anchored) -> bool {
+    match mode {
+        Anchored::No => false,
+        Anchored::Yes => true,
+        _ => unreachable!(),
+    }
+}
+
 /// A set of globs keeps, for each literal, the places of the globs that it belongs to.
 struct LiteralSet {
     searcher: AhoCorasick,
@@ -174,6 +184,8 @@ fn spans() {
 fn numbers() {
     assert_eq!((PatternID::ZERO.as_usize(), PatternID::MAX.as_u32(), PatternID::LIMIT, PatternID::SIZE), (0, 2147483646, 2147483647, 4));
     assert_eq!(PatternID::try_from(7_u16).unwrap(), PatternID::new_unchecked(7));
+    const SEVEN: (PatternID, StateID) = (PatternID::from_u32_unchecked(7), StateID::from_u32_unchecked(7));
+    assert_eq!(SEVEN, (PatternID::must(7), StateID::must(7)));
     assert_eq!(PatternID::try_from(7_u32).unwrap().one_more(), 8);
     assert_eq!(PatternID::from(7_u8).as_i32(), 7);
     let above = PatternID::try_from(2147483647_u64).unwrap_err();
@@ -233,6 +245,10 @@ fn a_few_patterns() {
     assert!(packed::Config::new().heuristic_pattern_limits(false).builder().extend(&many).build().is_some());
     let searcher = packed::Searcher::new(["ab", "abc"]).unwrap();
     assert_eq!(searcher.find_in("xabc", Span { start: 2, end: 4 }), None);
+    assert_eq!(searcher.find_in("xabc", Span { start: 4, end: 4 }), None);
+    for span in [Span { start: 3, end: 2 }, Span { start: 3, end: 5 }] {
+        assert!(std::panic::catch_unwind(|| searcher.find_in("xabc", span)).is_err(), "{span:?}");
+    }
     assert_eq!((searcher.match_kind(), packed::Builder::new().add("ab").add("c").minimum_len()), (&packed::MatchKind::LeftmostFirst, 1));
 }
 

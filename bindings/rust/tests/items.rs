@@ -148,6 +148,10 @@ fn inputs() {
     input.set_anchored(Anchored::Yes);
     input.set_earliest(true);
     assert_eq!((input.get_range(), input.get_anchored(), input.get_earliest()), (0..7, Anchored::Yes, true));
+    for (haystack, told) in [(&b"s\xc3\xa9m"[..], "\"s\u{e9}m\""), (&b"\xe9m"[..], "[233, 109]")] {
+        let wanted = format!("Input {{ haystack: {told}, span: 0..{}, anchored: No, earliest: false }}", haystack.len());
+        assert_eq!(format!("{:?}", Input::new(haystack)), wanted);
+    }
     // A search is done where the span starts above its end: by one at most.
     input.set_span(Span { start: 6, end: 5 });
     assert!(input.is_done());

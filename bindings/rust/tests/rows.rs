@@ -123,6 +123,17 @@ fn what_is_refused() {
     assert_eq!(overlapping.kind(), &MatchErrorKind::UnsupportedOverlapping { got: LeftmostFirst });
     assert_eq!(overlapping.to_string(), "match kind LeftmostFirst does not support overlapping searches");
     assert_eq!(found(&anchored, anchored_input()), [(0, 0, 1)]);
+    // That a searcher is anchored is told first.
+    for (kind, patterns) in [(LeftmostFirst, ["a", "b"]), (Standard, ["a", ""])] {
+        let anchored = AhoCorasick::builder().start_kind(StartKind::Anchored).match_kind(kind).build(patterns).unwrap();
+        let wanted = MatchError::invalid_input_unanchored();
+        assert_eq!(anchored.try_stream_find_iter(&b"a"[..]).unwrap_err(), wanted);
+        assert_eq!(anchored.try_stream_replace_all(&b"a"[..], vec![], &["b"]).unwrap_err().to_string(), wanted.to_string());
+        let told = anchored.try_stream_replace_all_with(&b"a"[..], vec![], |_, _, _| Ok(())).unwrap_err();
+        assert_eq!(told.to_string(), wanted.to_string());
+        assert_eq!(anchored.try_replace_all("a", &["b"]).unwrap_err(), wanted);
+        assert_eq!(anchored.try_replace_all_bytes(b"a", &["b"]).unwrap_err(), wanted);
+    }
     assert!(anchored.is_match(anchored_input()) && !anchored.is_match(Input::new("ba").anchored(Anchored::Yes)));
     assert!(catch_unwind(|| anchored.is_match("a")).is_err());
     assert!(catch_unwind(|| unanchored.replace_all("a", &["b", "c"])).is_err());
