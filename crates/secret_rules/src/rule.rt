@@ -56,7 +56,9 @@ fn expression_after(alloc: Global, keyword: &str) -> Result<String, AllocError>
     let mut made = String::new(alloc);
     made.push_str("(?i)")?;
     made.push_str(literal.as_str())?;
-    made.push_str("[\\s\"'=:\\\\>]*([^\\s\"'=:\\\\>,;&)\\]}](?:\\\\*[^\\s\"'\\\\,;&)\\]}])*)")?;
+    made.push_str("[\\s\"'=:\\\\>]*((?:[^\\s\"',;&)\\]}]*")?;
+    made.push_str(literal.as_str())?;
+    made.push_str("[\\s\"'=:\\\\>]+)*[^\\s\"'=:\\\\>,;&)\\]}](?:\\\\*[^\\s\"'\\\\,;&)\\]}])*)")?;
     Ok(made)
 }
 
@@ -74,7 +76,8 @@ impl Rule {
     ghost use Rattle.secret_rules.specs.Rules.{IsSoundRule, keywords_of, regex_of};
 
     /// A rule that marks what stands behind a keyword, past blanks, quotes, `=`, `:`, `>` and backslashes, up to the next blank, quote,
-    /// comma, semicolon, `&` or closing bracket, without the backslashes at its end. Its name is the keyword.
+    /// comma, semicolon, `&` or closing bracket, without the backslashes at its end. If the keyword stands at its end and something
+    /// follows, it goes on there. Its name is the keyword.
     ///
     /// # Errors
     ///
