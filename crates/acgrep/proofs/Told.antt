@@ -13,7 +13,7 @@ use Rattle.acgrep.specs.Runs.{origins_of}
 use Rattle.acgrep.specs.Told.{IsMessage, IsToldCause, IsUnopened, MayName, MaySaid, MayTell, StaysOrFails, TellsIf, TellsOfOutcome, TellsOutcome, TellsStatus, files_told, names_said, no_text_text, obstacle_text, shown_names, source_names}
 use Rattle.acgrep.specs.declared.arguments.Source.TheVariants.{File}
 use Rattle.acgrep.specs.declared.failure.Obstacle.{Obstacle}
-use Rattle.acgrep.specs.declared.failure.Obstacle.TheVariants.{Closed, Fault, Loop, NoInput, Output}
+use Rattle.acgrep.specs.declared.failure.Obstacle.TheVariants.{Closed, Fault, Loop, Output}
 use Rattle.acgrep.specs.declared.files.Outcome.TheVariants.{Searched, Stopped}
 use Rattle.acgrep.specs.declared.options.Shown.TheVariants.{Count, Lacking, Names}
 use Rattle.acgrep.proofs.InTurn.{enough_only}
@@ -57,7 +57,6 @@ module _ {E : Type 0} (K : SinkGhosts E) (names : List (List ℕ)) where
 pub obstacle_caused : (name : List ℕ) (why : Obstacle) → IsToldCause (obstacle_text name why) ⊎ IsUnopened (Some name) (obstacle_text name why)
 obstacle_caused name Output = inl (inr (inr (inr (inr (inl refl)))))
 obstacle_caused name Loop = inl (inr (inr (inr (inl refl))))
-obstacle_caused name NoInput = inl (inr (inr (inr (inr (inr (inr refl))))))
 obstacle_caused name (Fault reason) = inl (inl (reason, refl))
 obstacle_caused name (Closed reason) = closed (is_utf8 name) refl
   where

@@ -23,7 +23,7 @@ use Rattle.acgrep.specs.declared.arguments.Source.{Source}
 use Rattle.acgrep.specs.declared.wrong.Wrong.{Wrong}
 use Rattle.acgrep.specs.declared.wrong.Wrong.TheVariants.{NoArgument, NoNumber, NoPattern, NotFound, TakesNone, UnknownBinary, UnknownColor, UnknownDevices, UnknownField, UnknownFolders, UnknownKind, UnknownLetter}
 use Rattle.acgrep.specs.declared.failure.Obstacle.{Obstacle}
-use Rattle.acgrep.specs.declared.failure.Obstacle.TheVariants.{Closed, Fault, Loop, NoInput, Output}
+use Rattle.acgrep.specs.declared.failure.Obstacle.TheVariants.{Closed, Fault, Loop, Output}
 use Rattle.acgrep.specs.declared.files.Outcome.{Outcome}
 use Rattle.acgrep.specs.declared.files.Outcome.TheVariants.{Searched, Stopped, Unread}
 use Rattle.acgrep.specs.declared.all_options.Valued.{Valued}
@@ -43,10 +43,6 @@ loop_text = codes "warning: recursive directory loop"
 abbrev pub output_text : List ℕ
 output_text = codes "input file is also the output"
 
--- what is told of a standard input that is closed, or is open for writing alone
-abbrev pub unusable_text : List ℕ
-unusable_text = codes "Bad file descriptor"
-
 -- what is told of a pattern that holds a zero byte where that ends a line
 abbrev pub zero_text : List ℕ
 zero_text = codes "the pattern holds a zero byte, which ends a line under -z"
@@ -59,7 +55,6 @@ no_text_text = codes "its name is not UTF-8, so it cannot be opened"
 abbrev pub obstacle_text : List ℕ → Obstacle → List ℕ
 obstacle_text name Output = output_text
 obstacle_text name Loop = loop_text
-obstacle_text name NoInput = unusable_text
 obstacle_text name (Closed reason) = if is_utf8 name then reason_text reason else no_text_text
 obstacle_text name (Fault reason) = reason_text reason
 
@@ -71,12 +66,12 @@ abbrev pub IsUnopened : Option (List ℕ) → List ℕ → Type 0
 IsUnopened None cause = ⊥
 IsUnopened (Some name) cause = (is_utf8 name ≡ false) × (cause ≡ no_text_text)
 
--- a call of the system failed, the patterns or the search were refused, a folder stands in itself, a file is the output, a pattern
--- holds a zero byte, or standard input cannot be used
+-- a call of the system failed, the patterns or the search were refused, a folder stands in itself, a file is the output, or a pattern
+-- holds a zero byte
 abbrev pub IsToldCause : List ℕ → Type 0
 IsToldCause cause = ((reason : Reason) × (cause ≡ reason_text reason))
     ⊎ (((error : BuildError) × (cause ≡ build_error_text error)) ⊎ (((error : MatchErrorKind) × (cause ≡ match_error_text error))
-    ⊎ ((cause ≡ loop_text) ⊎ ((cause ≡ output_text) ⊎ ((cause ≡ zero_text) ⊎ (cause ≡ unusable_text))))))
+    ⊎ ((cause ≡ loop_text) ⊎ ((cause ≡ output_text) ⊎ (cause ≡ zero_text)))))
 
 -- that, or one of these files
 abbrev pub MayName : List (List ℕ) → List ℕ → Type 0

@@ -18,9 +18,6 @@ pub enum Stop {
     Write,
 }
 
-/// The system's number for a descriptor that is closed, or not open for what is asked of it.
-const NO_DESCRIPTOR: i32 = 9;
-
 /// Why a file is not searched, or not to its end.
 #[derive(Clone, Copy)]
 pub enum Obstacle {
@@ -28,22 +25,10 @@ pub enum Obstacle {
     Output,
     /// It is a folder that stands in itself.
     Loop,
-    /// It is standard input, which is closed, or open for writing alone.
-    NoInput,
     /// It cannot be opened or looked at, for this reason.
     Closed(Reason),
     /// It cannot be read, for this reason.
     Fault(Reason),
-}
-
-impl Obstacle {
-    /// What an error of a read of standard input tells.
-    pub fn of_input(error: &io::Error) -> Obstacle {
-        if error.raw_os_error() == Some(NO_DESCRIPTOR) {
-            return Obstacle::NoInput;
-        }
-        Obstacle::Fault(Reason::of(error))
-    }
 }
 
 impl From<MatchError> for Stop {

@@ -59,7 +59,11 @@ pub fn tell_source<E: Sink>(source: Source<'_>, error: &io::Error, errors: &mut 
 {
     match source {
         Source::Text(_) => tell_memory(errors),
-        Source::File(name) if is_input(name) => tell_file(name, Obstacle::of_input(error), errors),
+        Source::File(name) if is_input(name) => tell_file(
+            name,
+            Obstacle::Fault(Reason::of(error)),
+            errors,
+        ),
         Source::File(name) => tell_file(name, Obstacle::Closed(Reason::of(error)), errors),
     }
 }

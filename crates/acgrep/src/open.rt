@@ -9,6 +9,7 @@ use std::fs::Files;
 use std::io::Read;
 use std::os::unix::fs::MetadataExt;
 use std::{fs, io};
+use tool_parts::reason::Reason;
 
 /// The name of standard input among the arguments.
 const INPUT: &[u8] = b"-";
@@ -75,7 +76,7 @@ impl<'a, R: Files> System<'a, R> {
 fn unusable_of<I: Read>(input: &mut I) -> Option<Obstacle> {
     match input.read(&mut []) {
         Ok(_) => None,
-        Err(error) => Some(Obstacle::of_input(&error)),
+        Err(error) => Some(Obstacle::Fault(Reason::of(&error))),
     }
 }
 

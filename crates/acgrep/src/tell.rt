@@ -28,9 +28,6 @@ const ZERO: &[u8] = b"the pattern holds a zero byte, which ends a line under -z"
 /// What is told of a file whose name is not UTF-8.
 const NO_TEXT: &[u8] = b"its name is not UTF-8, so it cannot be opened";
 
-/// What is told of a standard input that is closed, or is open for writing alone.
-const UNUSABLE: &[u8] = b"Bad file descriptor";
-
 /// The program's name.
 pub const PROGRAM: &[u8] = b"acgrep";
 
@@ -57,7 +54,6 @@ fn cause_of(name: &[u8], why: Obstacle) -> &'static [u8]
     match why {
         Obstacle::Output => SAME,
         Obstacle::Loop => LOOP,
-        Obstacle::NoInput => UNUSABLE,
         Obstacle::Closed(reason) => {
             if is_text(name) {
                 return reason.text().as_bytes();

@@ -1,12 +1,17 @@
 //! Why a call of the system failed, as the programs tell it.
 
-ghost use Rattle.std.specs.IoError.{error_kind};
 ghost use Rattle.std.specs.Prelude.{◌≡◌};
 ghost use Rattle.tool_parts.specs.Messages.{reason_text};
-ghost use Rattle.tool_parts.specs.Reasons.{reason_of};
+ghost use Rattle.tool_parts.specs.Reasons.{IsReasonOf, reason_of};
 
 use std::io;
 use std::io::ErrorKind;
+
+/// The system's number of a call that is not permitted, whoever may open the file.
+const NOT_PERMITTED: i32 = 1;
+
+/// Its number of a stream that is closed, or open for the other direction alone.
+const NO_DESCRIPTOR: i32 = 9;
 
 /// Why a file cannot be opened or read to its end, or the output not be written.
 #[derive(Clone, Copy, PartialEq, Eq)]
@@ -15,6 +20,12 @@ pub enum Reason {
     NotFound,
     /// It may not be opened.
     Denied,
+    /// The system permits no such call.
+    NotPermitted,
+    /// It is a stream that is closed, or open for the other direction alone.
+    NoDescriptor,
+    /// It supports no such call.
+    Unsupported,
     /// It is a directory.
     Directory,
     /// It is no regular file.
@@ -78,9 +89,20 @@ pub enum Reason {
 impl Reason {
     /// The reason of an error of the system.
     pub fn of(error: &io::Error) -> Reason
-        ensures of { result ≡ reason_of (error_kind error.now) }
+        ensures of { IsReasonOf error.now result }
     {
-        match error.kind() {
+        match error.raw_os_error() {
+            Some(NOT_PERMITTED) => Reason::NotPermitted,
+            Some(NO_DESCRIPTOR) => Reason::NoDescriptor,
+            _ => Reason::of_kind(error.kind()),
+        }
+    }
+
+    /// The reason of an error of this kind, where its number tells no more.
+    fn of_kind(kind: ErrorKind) -> Reason
+        ensures of { result ≡ reason_of kind }
+    {
+        match kind {
             ErrorKind::NotFound => Reason::NotFound,
             ErrorKind::PermissionDenied => Reason::Denied,
             ErrorKind::IsADirectory => Reason::Directory,
@@ -103,6 +125,7 @@ impl Reason {
             ErrorKind::Interrupted => Reason::Interrupted,
             ErrorKind::WouldBlock => Reason::Unavailable,
             ErrorKind::BrokenPipe => Reason::Closed,
+            ErrorKind::Unsupported => Reason::Unsupported,
             ErrorKind::OutOfMemory => Reason::OutOfMemory,
             _ => Reason::Fault,
         }
@@ -115,6 +138,9 @@ impl Reason {
         match self {
             Reason::NotFound => "No such file or directory",
             Reason::Denied => "Permission denied",
+            Reason::NotPermitted => "Operation not permitted",
+            Reason::NoDescriptor => "Bad file descriptor",
+            Reason::Unsupported => "Operation not supported",
             Reason::Directory => "Is a directory",
             Reason::Irregular => "Not a regular file",
             Reason::NoDirectory => "Not a directory",
