@@ -1,28 +1,23 @@
 -- What comes of a call, by what comes of its files.
-use Rattle.acredact.proofs.Common.{All, All-append, All-cons, All-head, All-nil, All-tail, Errors, Failure, Folders, FromWrite, Memory, Other, PositionLimit, Read, Readers, SinkGhosts, StreamError, Streams, Tells, TellsBytes, TellsSome, Volume, Write, WriteZero, Writers, concat, failure_of_stream}
-use Rattle.std.proofs.Common.{◌≡◌, inl, inr, ℕ, List, [], ◌∷◌, Option, true, false, refl, ap, sym, subst}
-use Rattle.std.specs.Prelude.{Err, IsErrAnd, Ok, Result}
+use Rattle.acredact.proofs.Common.{All, All-append, All-cons, All-head, All-nil, All-tail, Errors, Failure, Folders, FromWrite, Memory, Other, PositionLimit, Read, Readers, SinkGhosts, StreamError, Streams, Tells, TellsBytes, TellsSome, Write, WriteZero, Writers, concat, failure_of_stream}
+use Rattle.std.proofs.Common.{◌≡◌, inl, inr, ℕ, List, [], ◌∷◌, Option, true, false, refl, sym, subst}
+use Rattle.std.specs.Prelude.{Err}
 use Rattle.std.proofs.lemmas.List.Elements.{All-weaker}
 use Rattle.aho_core.specs.declared.error.stream.StreamError.TheVariants.{Match}
 use Rattle.tool_parts.proofs.Lines.{some-one, some-tells, tells-none}
 use Rattle.acredact.specs.Arguments.{Given, counts_asked}
-use Rattle.acredact.specs.Calls.{Call, CallOutcome, CannotLoadCall, IsCountsFailure, IsCountsLine, IsLineOf, IsRunFailure, IsUnreadLine, IsWordLine, LoadsCall, MayFail, OutputFails, call_of, reading_by, work_by}
+use Rattle.acredact.specs.Calls.{Call, CallOutcome, CannotLoadCall, IsCountsFailure, IsLineOf, IsRunFailure, IsUnreadLine, IsWordLine, LoadsCall, MayFail, OutputFails, call_of, reading_by, work_by}
 use Rattle.acredact.specs.Builds.{patterns_by_given}
-use Rattle.acredact.specs.Counts.{secret_lines}
-use Rattle.acredact.specs.Files.{AreCut, FilesOutcome, IsDone, Work, are_none, redactor_of, unread_line, work_of}
+use Rattle.acredact.specs.Files.{AreCut, FilesOutcome, IsDone, Task, Work, are_none, redactor_of, unread_line, work_of}
 use Rattle.acredact.specs.Messages.{output_line}
 use Rattle.acredact.specs.Loading.{AreLoaded, Loaded}
 use Rattle.acredact.specs.Ready.{IsJobFor}
-use Rattle.acredact.specs.Summaries.{totals_text}
-use Rattle.acredact.specs.Tables.{Secret, patterns_in}
+use Rattle.acredact.specs.Tables.{patterns_in}
 use Rattle.acredact.specs.declared.files.Job.{Job}
+-- the error of a call that is passed on
+pub use Rattle.aho_cover.proofs.Going.{err_passed as passed_on}
 -- lines behind lines, and lines that may be told of more
 pub use Rattle.tool_parts.proofs.Lines.{some-then as some_then, some-weaker as some_weaker, tells-then as tells_both, tells-weaker as tells_weaker, then-some as some_behind}
-
--- the error of a call that is passed on
-pub passed_on : {X E : Type 0} (result : Result X E) (error : E) → IsErrAnd result (λ e. e ≡ error) → result ≡ Err error
-passed_on (Ok value) error is = absurd is
-passed_on (Err failure) error is = ap Err is
 
 -- no line is one
 pub none_are : (lines : List (List ℕ)) → are_none lines ≡ true → lines ≡ []
@@ -33,15 +28,15 @@ none_are (line ∷ lines) none = absurd (cc)
 unread_more : (name : List ℕ) (names : List (List ℕ)) (lines : List (List ℕ)) → All (IsUnreadLine names) lines → All (IsUnreadLine (name ∷ names)) lines
 unread_more name names lines = All-weaker (IsUnreadLine names) (IsUnreadLine (name ∷ names)) (λ line is. (is.0, inr is.1, is.2)) lines
 
-module _ (work : Work) where
-  unread_one : (name : List ℕ) (names lines : List (List ℕ)) (left left' held held' : Option (List ℕ)) → IsDone work name lines left left' held held' → All (IsUnreadLine (name ∷ names)) lines
+module _ (task : Task) where
+  unread_one : (name : List ℕ) (names lines : List (List ℕ)) (left left' held held' : Option (List ℕ)) → IsDone task name lines left left' held held' → All (IsUnreadLine (name ∷ names)) lines
   unread_one name names lines left left' held held' (inl is) = subst (All (IsUnreadLine (name ∷ names))) (sym is.0) (All-nil (IsUnreadLine (name ∷ names)))
   unread_one name names lines left left' held held' (inr (inl is)) =
       subst (All (IsUnreadLine (name ∷ names))) (sym is.1) (All-cons (IsUnreadLine (name ∷ names)) (unread_line name is.0) [] (name, inl refl, inl (is.0, refl)) (All-nil (IsUnreadLine (name ∷ names))))
   unread_one name names lines left left' held held' (inr (inr is)) =
       subst (All (IsUnreadLine (name ∷ names))) (sym is.0) (All-cons (IsUnreadLine (name ∷ names)) (output_line name) [] (name, inl refl, inr refl) (All-nil (IsUnreadLine (name ∷ names))))
 
-  pub unread_of : (names lines : List (List ℕ)) (left left' held held' : Option (List ℕ)) → AreCut work names lines left left' held held' → All (IsUnreadLine names) lines
+  pub unread_of : (names lines : List (List ℕ)) (left left' held held' : Option (List ℕ)) → AreCut task names lines left left' held held' → All (IsUnreadLine names) lines
   unread_of [] lines left left' held held' cut = subst (All (IsUnreadLine [])) (sym cut.0) (All-nil (IsUnreadLine []))
   unread_of (name ∷ names) lines left left' held held' (inl cut) = subst (All (IsUnreadLine (name ∷ names))) (sym cut.0) (All-nil (IsUnreadLine (name ∷ names)))
   unread_of (name ∷ names) lines left left' held held' (inr (first, rest, are, between, meanwhile, is, others)) =
@@ -55,11 +50,6 @@ tells_same K IsLine old new same = subst (Tells K IsLine old) (sym same) (tells-
 -- one line was
 pub tells_line : {E : Type 0} (K : SinkGhosts E) (IsLine : List ℕ → Type 0) (old new : Errors E) (line : List ℕ) → IsLine line → TellsBytes K old new line → Tells K IsLine old new
 tells_line K IsLine old new line is told = some-tells K IsLine old new (some-one K IsLine old new line is told)
-
--- the text of the counts was
-pub tells_counts : {E : Type 0} (K : SinkGhosts E) (given : List Given) (old new : Errors E) (secrets : List Secret) (counts : List ℕ) (volume : Volume) → counts_asked given ≡ true
-    → TellsBytes K old new (totals_text given (secret_lines secrets) counts volume) → Tells K (IsCountsLine given secrets) old new
-tells_counts K given old new secrets counts volume is told = tells_line K (IsCountsLine given secrets) old new (totals_text given (secret_lines secrets) counts volume) (is, (counts, volume, refl)) told
 
 -- a line more
 pub tells_last : {E : Type 0} (K : SinkGhosts E) (IsLine : List ℕ → Type 0) (old mid new : Errors E) (line : List ℕ) → Tells K IsLine old mid → IsLine line → TellsBytes K mid new line → TellsSome K IsLine old new
@@ -91,7 +81,7 @@ run_failure Writes K work PositionLimit old new files = absurd files.fails.only
 pub call_ended : {W E : Type 0} (Writes : Writers W) (K : SinkGhosts E) (call : Call) (left left' : Option (List ℕ)) (failure : Failure) (output : FromWrite W) (errors errors' : Errors E) → MayFail call (OutputFails output output) failure
     → Tells K (IsLineOf call (OutputFails output output)) errors errors' → Tells K (IsWordLine call) errors errors' → CallOutcome Writes K call left left' (Err failure) output output errors errors'
 call_ended Writes K call left left' failure output errors errors' fails told words =
-    record { comes = (fails, told); begins = inl refl; numbers = inl words }
+    record { comes = record { whole = tt; begun = inl refl; told = told; partly = tt; notes = tt; fails = fails }; numbers = inl words }
 
 -- nothing was told
 pub call_refused : {W E : Type 0} (Writes : Writers W) (K : SinkGhosts E) (call : Call) (left left' : Option (List ℕ)) (failure : Failure) (output : FromWrite W) (errors : Errors E) → MayFail call (OutputFails output output) failure

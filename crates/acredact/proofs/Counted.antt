@@ -1,6 +1,7 @@
 -- What a replacement by a closure writes, where the closure writes the piece of each match.
-use Rattle.acredact.proofs.Common.{Appends, Appends-nil, Appends-trans, AreFinds, Bor, CanBegin, Consumes-nil, CountsThese, Ghosts, IfErr-weaker, IsFillRefusal, Memory, MutBor, Occurrence, PositionLimit, Read, Refused, SinkGhosts, SourceGave, SourceGhosts, StartsWith, StreamError, counted, counts_none, counts_then, finds-exist, is_read_fault, is_write_fault, is_write_of_nothing, on_ok_weaker, plain_search, shortest}
-use Rattle.std.proofs.Common.{inl, inr, ◌≡◌, ◌⊎◌, ℕ, ◌≤◌, Bool, true, false, List, [], ◌∷◌, ◌++◌, Option, length, map, take, drop, refl, sym, ap, subst, ◌∙◌, append-nil, le_refl}
+use Rattle.acredact.proofs.Common.{Appends, Appends-nil, Appends-trans, AreFinds, Bor, CanBegin, Consumes-nil, CountsThese, Ghosts, IfErr-weaker, IsFillRefusal, Memory, MutBor, Occurrence, Patterns, PositionLimit, Read, Refused, SinkGhosts, SourceGave, SourceGhosts, StartsWith, StreamError, counted, counts_none, counts_then, finds-exist, is_read_fault, is_write_fault, is_write_of_nothing, on_ok_weaker, plain_search, shortest}
+use Rattle.acredact.proofs.Covered.{few_from}
+use Rattle.std.proofs.Common.{inl, inr, ◌≡◌, ◌⊎◌, ℕ, ◌≤◌, Bool, true, false, List, [], ◌∷◌, ◌++◌, Option, length, map, take, drop, refl, sym, ap, subst, ◌∙◌, append-nil, le_refl, arith, length-append, ◌+◌}
 use Rattle.std.specs.Prelude.{None, Some, Result, Ok, Err, IfErr, MatchBool, OnErr, OnOk, ◌&&◌, slice_index_or, slice_range}
 use Rattle.std.specs.Fn.{Mut}
 use Rattle.std.proofs.lemmas.List.{append_cancel_left, length-take-le}
@@ -16,10 +17,12 @@ use Rattle.aho_stream.proofs.Called.{CalledOnFirst, run_calls}
 use Rattle.aho_stream.specs.StreamRun.{CallsOn, RunsAndLeaves, RunsLent, SinkTakes}
 use Rattle.tool_parts.proofs.Beginnings.{beginning-later, beginning-more}
 use Rattle.acredact.specs.Faults.{IsStreamEnd}
-use Rattle.acredact.specs.Secrets.{BeginsRedaction, Redactor}
-use Rattle.acredact.specs.Streams.{StreamOutcome, WritesPiece}
-use Rattle.acredact.specs.Totals.{CountsOfStream}
-use Rattle.acredact.proofs.Redactions.{begins_by, begins_nothing, comes_of, no_cover, of_way, redacted, redacted_alike, redaction_by, some_of, to_way}
+use Rattle.acredact.specs.Deeds.{BegunAs, WholeStream}
+use Rattle.acredact.specs.Files.{deed_of}
+use Rattle.acredact.specs.Secrets.{BeginsRedaction}
+use Rattle.acredact.specs.Streams.{DoesStream, StreamOutcome, WritesPiece}
+use Rattle.acredact.proofs.Redactions.{begins_by, begins_nothing, no_more, plain_by, plain_outcome, redaction_by, some_of}
+use Rattle.acredact.proofs.Bounded.{grow_few, ungrown}
 
 -- an error of a run: of the reading where it stopped, or of a write
 abbrev IsRunError : Bool → StreamError → Type 0
@@ -116,7 +119,7 @@ module _ {F W : Type 0} (K : SinkGhosts W) (calls : Mut F (Bor Occurrence × (Bo
     (closure last : F) (sink sink' : W) (name_of : F → ℕ) (counts_of : F → List ℕ)
     (counts : (f : F) (m : Occurrence) (matched : List ℕ) (old : W) (answer : Result (Unit {0}) StreamError) (next : F) (new : W) → CalledOn calls f m matched old answer next new
     → (name_of next ≡ name_of f) × CountsThese (m ∷ []) (counts_of f) (counts_of next)) where
-  abbrev HasCounted : List Occurrence → F → Type 0
+  abbrev pub HasCounted : List Occurrence → F → Type 0
   HasCounted done f = (name_of f ≡ name_of closure) × CountsThese done (counts_of closure) (counts_of f)
 
   counted_one : (done : List Occurrence) (f : F) (m : Occurrence) (matched : List ℕ) (old : W) (answer : Result (Unit {0}) StreamError) (next : F) (new : W)
@@ -136,11 +139,6 @@ module _ {F W : Type 0} (K : SinkGhosts W) (calls : Mut F (Bor Occurrence × (Bo
       run_calls (SinkTakes K stopped) (CallsOn calls) haystack HasCounted (λ f m matched old goes next new called. called.0) one_call ms [] 0 closure sink result last sink'
       (refl, counts_none (counts_of closure)) run
 
--- none may follow what was given
-pub no_more : (given : List ℕ) (ended : Bool) → MayBe given ended given
-no_more given true = ([], sym (append-nil given), refl)
-no_more given false = ([], sym (append-nil given), tt)
-
 -- a beginning of some bytes, by known ones that grow by a beginning of them
 begins_known : (bytes rest : List ℕ) (count : ℕ) → count ≤ length rest → bytes ≡ take count rest → StartsWith rest bytes
 begins_known bytes rest count within is =
@@ -151,79 +149,79 @@ begins_known bytes rest count within is =
 same_beginning : (old new : List ℕ) (bytes rest : List ℕ) (count : ℕ) → new ≡ old ++ bytes → count ≤ length rest → new ≡ old ++ take count rest → StartsWith rest bytes
 same_beginning old new bytes rest count first within second = begins_known bytes rest count within (append_cancel_left old bytes (take count rest) (sym first ∙ second))
 
-module _ (r : Redactor) (plain : r.covers ≡ false) (unkeyed : r.key ≡ None) (some : 1 ≤ shortest (map length r.patterns.words)) (given : List ℕ) (ended : Bool) where
+module _ (p : Patterns) (pieces : List (List ℕ)) (some : 1 ≤ shortest (map length p.words)) (given : List ℕ) (ended : Bool) where
   -- a beginning of each replacement that may come was written
   abbrev BeginsEach : (old new : Option (List ℕ)) → Type 0
-  BeginsEach old new = (bytes : List ℕ) (ms : List Occurrence) → MayBe given ended bytes → AreFinds r.patterns (plain_search bytes) None ms → AppendsBeginning old new (replaced bytes ms r.pieces)
+  BeginsEach old new = (bytes : List ℕ) (ms : List Occurrence) → MayBe given ended bytes → AreFinds p (plain_search bytes) None ms → AppendsBeginning old new (replaced bytes ms pieces)
 
   -- so it is a beginning of all of them
-  begins_each : (old new : Option (List ℕ)) → BeginsEach old new → (part : List ℕ) × BeginsRedaction r given ended part × Appends old new part
-  begins_each None new each = ([], begins_nothing r some given ended, tt)
+  begins_each : (old new : Option (List ℕ)) → BeginsEach old new → BegunAs (BeginsRedaction (plain_by p pieces)) old new given ended
+  begins_each None new each = ([], begins_nothing (plain_by p pieces) some given ended, tt)
   begins_each (Some old) None each =
-      let finds = finds-exist r.patterns (plain_search given) None (le_refl (length given)) in
+      let finds = finds-exist p (plain_search given) None (le_refl (length given)) in
       absurd ((each given finds.0 (no_more given ended) finds.1).2)
   begins_each (Some old) (Some new) each =
-      let finds = finds-exist r.patterns (plain_search given) None (le_refl (length given)) in
+      let finds = finds-exist p (plain_search given) None (le_refl (length given)) in
       let one = each given finds.0 (no_more given ended) finds.1 in
-      let part = take one.0 (replaced given finds.0 r.pieces) in (
+      let part = take one.0 (replaced given finds.0 pieces) in (
         part,
-        begins_by r some given ended part (λ bytes ms may found. let other = each bytes ms may (to_way r false plain bytes ms found) in
-            subst (λ (all : List ℕ). StartsWith all part) (sym (redacted_alike r unkeyed bytes ms)) (same_beginning old new part (replaced bytes ms r.pieces) other.0 one.2 other.1 other.2)),
+        begins_by (plain_by p pieces) some given ended part (λ bytes ms may found.
+            let other = each bytes ms may found in
+            same_beginning old new part (replaced bytes ms pieces) other.0 one.2 other.1 other.2),
         one.2,
       )
 
-module _ {A R W F : Type 0} (G : Ghosts A) (S : SourceGhosts R) (K : SinkGhosts W) (automaton : A) (r : Redactor) (plain : r.covers ≡ false) (unkeyed : r.key ≡ None) (of : G.is_of automaton r.patterns)
-    (are : G.lengths automaton ≡ map length r.patterns.words) (can : CanBegin G automaton)
+module _ {A R W F : Type 0} (G : Ghosts A) (S : SourceGhosts R) (K : SinkGhosts W) (automaton : A) (p : Patterns) (pieces : List (List ℕ)) (of : G.is_of automaton p)
+    (are : G.lengths automaton ≡ map length p.words) (can : CanBegin G automaton)
     (calls : Mut F (Bor Occurrence × (Bor (List ℕ) × (MutBor W × Unit {0}))) (Result (Unit {0}) StreamError × (MutBor W × Unit {0})))
     (source source' : R) (closure : F) (sink sink' : W) (Fits : F → Type 0) (fits : Fits closure)
     (goes_on : (f : F) (m : Occurrence) (matched : List ℕ) (old : W) (next : F) (new : W) → Fits f → CalledOn calls f m matched old (Ok tt) next new
-    → Fits next × WritesPiece K (Ok tt) old new (slice_index_or r.pieces m.pattern []))
+    → Fits next × WritesPiece K (Ok tt) old new (slice_index_or pieces m.pattern []))
     (fails : (f : F) (m : Occurrence) (matched : List ℕ) (old : W) (reason : StreamError) (next : F) (new : W) → Fits f → CalledOn calls f m matched old (Err reason) next new
-    → WritesPiece K (Err reason) old new (slice_index_or r.pieces m.pattern [])) where
-  some_one : 1 ≤ shortest (map length r.patterns.words)
-  some_one = some_of G automaton r.patterns are can
+    → WritesPiece K (Err reason) old new (slice_index_or pieces m.pattern [])) where
+  some_one : 1 ≤ shortest (map length p.words)
+  some_one = some_of G automaton p are can
+
+  abbrev Leaves : Result (Unit {0}) StreamError → F → Type 0
+  Leaves result last = RunsAndLeaves S K (G.is_of automaton) calls source source' closure sink result last sink'
 
   -- what a run took, by the finds of any text that may come
-  over_takes : (result : Result (Unit {0}) StreamError) (last : F) (over : RunsAndLeaves S K (G.is_of automaton) calls source source' closure sink result last sink') (bytes : List ℕ) (ms : List Occurrence)
-      → MayBe over.given over.ended bytes → AreFinds r.patterns (plain_search bytes) None ms → Takes K over.stopped result sink sink' (replaced bytes ms r.pieces)
+  over_takes : (result : Result (Unit {0}) StreamError) (last : F) (over : Leaves result last) (bytes : List ℕ) (ms : List Occurrence)
+      → MayBe over.given over.ended bytes → AreFinds p (plain_search bytes) None ms → Takes K over.stopped result sink sink' (replaced bytes ms pieces)
   over_takes result last over bytes ms may found =
-      run_takes K (CallsOn calls) over.stopped bytes (λ m. slice_index_or r.pieces m.pattern []) Fits
+      run_takes K (CallsOn calls) over.stopped bytes (λ m. slice_index_or pieces m.pattern []) Fits
       (λ f m matched old goes next new is called. let step = goes_on f m matched old next new is called.1 in (called.0, step.0, step.1))
       (λ f m matched old reason next new is called. fails f m matched old reason next new is called)
-      ms 0 closure sink result last sink' fits (over.run r.patterns bytes ms of may found)
+      ms 0 closure sink result last sink' fits (over.run p bytes ms of may found)
 
-  -- that of the bytes that were given
-  given_takes : (result : Result (Unit {0}) StreamError) (last : F) (over : RunsAndLeaves S K (G.is_of automaton) calls source source' closure sink result last sink')
-      → (ms : List Occurrence) × AreFinds r.patterns (plain_search over.given) None ms × Takes K over.stopped result sink sink' (replaced over.given ms r.pieces)
-  given_takes result last over =
-      let finds = finds-exist r.patterns (plain_search over.given) None (le_refl (length over.given)) in
-      (finds.0, finds.1, over_takes result last over over.given finds.0 (no_more over.given over.ended) finds.1)
-
-  ran : (result : Result (Unit {0}) StreamError) (last : F) → RunsAndLeaves S K (G.is_of automaton) calls source source' closure sink result last sink' → StreamOutcome S K r result source source' sink sink'
-  ran (Ok tt) last over =
-      let (ms, found, taken) = given_takes (Ok tt) last over in
-      comes_of S K r source source' sink sink' (Ok tt)
+  -- what comes of it, by those of the bytes that were given
+  ran : (result : Result (Unit {0}) StreamError) (last : F) (over : Leaves result last) (ms : List Occurrence) → AreFinds p (plain_search over.given) None ms
+      → StreamOutcome S K (deed_of (plain_by p pieces)) source source' sink sink' result
+  ran (Ok tt) last over ms found =
+      let taken = over_takes (Ok tt) last over over.given ms (no_more over.given over.ended) found in
+      plain_outcome S K p pieces source source' sink sink' (Ok tt)
       (record {
         text = over.given;
         gives = subst (SourceGave S source source' over.given) over.whole over.gives;
-        redaction = redacted r over.given ms;
-        redacts = redaction_by r some_one over.given ms (of_way r false plain over.given ms found);
-        written = subst (Appends (K.taken sink) (K.taken sink')) (sym (redacted_alike r unkeyed over.given ms)) taken.whole;
+        is = (replaced over.given ms pieces, redaction_by (plain_by p pieces) some_one over.given ms found, taken.whole);
       })
-      tt (λ covers. tt)
+      tt
       (record {
         read_failed = over.read_failed ∙ ap (λ (b : Bool). counted b (S.failures source)) (and-false over.stopped);
         write_failed = taken.write_failed;
         took_nothing = taken.took_nothing;
       })
       (λ (met : false ≡ true). absurd (cc)) tt
-  ran (Err error) last over =
-      let (ms, found, taken) = given_takes (Err error) last over in
-      let (part, begins, written) = begins_each r plain unkeyed some_one over.given over.ended (K.taken sink) (K.taken sink') (λ bytes ms may found. (over_takes (Err error) last over bytes ms may found).beginning) in
+  ran (Err error) last over ms found =
+      let taken = over_takes (Err error) last over over.given ms (no_more over.given over.ended) found in
       let (fault, stops, only) = stops_as over.stopped error taken.only in
-      comes_of S K r source source' sink sink' (Err error) tt
-      (record { given = over.given; ended = over.ended; gives = over.gives; part = part; begins = begins; written = written })
-      (λ covers. absurd (no_cover r plain covers))
+      plain_outcome S K p pieces source source' sink sink' (Err error) tt
+      (record {
+        given = over.given;
+        ended = over.ended;
+        gives = over.gives;
+        is = begins_each p pieces some_one over.given over.ended (K.taken sink) (K.taken sink') (λ bytes ms may found. (over_takes (Err error) last over bytes ms may found).beginning);
+      })
       (record {
         read_failed = over.read_failed ∙ ap (λ (b : Bool). counted b (S.failures source)) fault;
         write_failed = taken.write_failed;
@@ -232,49 +230,54 @@ module _ {A R W F : Type 0} (G : Ghosts A) (S : SourceGhosts R) (K : SinkGhosts 
       (λ met. let at_limit = over.limit (stops met) met in (over.given, subst (SourceGave S source source' over.given) at_limit.1 over.gives, at_limit.0)) only
 
   -- before a stream was begun nothing is touched
-  untouched : StreamOutcome S K r (Err Memory) source source sink sink
+  untouched : StreamOutcome S K (deed_of (plain_by p pieces)) source source sink sink (Err Memory)
   untouched =
-      comes_of S K r source source sink sink (Err Memory) tt
+      plain_outcome S K p pieces source source sink sink (Err Memory) tt
       (record {
         given = [];
         ended = false;
         gives = record { bytes = Consumes-nil (S.remaining source); end = refl };
-        part = [];
-        begins = begins_nothing r some_one [] false;
-        written = Appends-nil (K.taken sink);
+        is = ([], begins_nothing (plain_by p pieces) some_one [] false, Appends-nil (K.taken sink));
       })
-      (λ covers. absurd (no_cover r plain covers)) (record { read_failed = refl; write_failed = refl; took_nothing = refl })
-      (λ (met : false ≡ true). absurd (cc)) tt
+      (record { read_failed = refl; write_failed = refl; took_nothing = refl }) (λ (met : false ≡ true). absurd (cc)) tt
 
-  -- and what was counted
+  -- and what was counted: no more than the closure was called on
   module _ (last : F) (name_of : F → ℕ) (counts_of : F → List ℕ)
       (counts : (f : F) (m : Occurrence) (matched : List ℕ) (old : W) (answer : Result (Unit {0}) StreamError) (next : F) (new : W) → CalledOn calls f m matched old answer next new
       → (name_of next ≡ name_of f) × CountsThese (m ∷ []) (counts_of f) (counts_of next)) where
-    abbrev Counted : Type 0
-    Counted = (name_of last ≡ name_of closure) × CountsOfStream S r source source' (counts_of closure) (counts_of last)
+    abbrev Does : Result (Unit {0}) StreamError → Type 0
+    Does result = (name_of last ≡ name_of closure) × DoesStream S K (deed_of (plain_by p pieces)) source source' sink sink' result (counts_of closure) (counts_of last)
 
-    lent_counts : (result : Result (Unit {0}) StreamError) → RunsAndLeaves S K (G.is_of automaton) calls source source' closure sink result last sink' → OnOk result Counted
-    lent_counts (Err error) over = tt
-    lent_counts (Ok tt) over =
-        let finds = finds-exist r.patterns (plain_search over.given) None (le_refl (length over.given)) in
-        let run = over.run r.patterns over.given finds.0 of (no_more over.given over.ended) finds.1 in
-        let first = has_counted K calls closure last sink sink' name_of counts_of counts over.stopped over.given finds.0 (Ok tt) run in
-        let all : finds.0 ≡ first.called = first.are ∙ ap (λ (ms : List Occurrence). first.called ++ ms) first.all ∙ append-nil first.called in (
+    run_does : (result : Result (Unit {0}) StreamError) → Leaves result last → Does result
+    run_does result over =
+        let (ms, found) = finds-exist p (plain_search over.given) None (le_refl (length over.given)) in
+        let first = has_counted K calls closure last sink sink' name_of counts_of counts over.stopped over.given ms result (over.run p over.given ms of (no_more over.given over.ended) found) in
+        let few = few_from p some_one over.given ms 0 None found (omega arith) in
+        let sizes : length ms ≡ length first.called + length first.rest = ap length first.are ∙ length-append first.called first.rest in (
           first.holds.0,
           record {
-            text = over.given;
-            gives = subst (SourceGave S source source' over.given) over.whole over.gives;
-            ranges = finds.0;
-            found = of_way r false plain over.given finds.0 finds.1;
-            counted = subst (λ (ms : List Occurrence). CountsThese ms (counts_of closure) (counts_of last)) (sym all) first.holds.1;
+            outcome = ran result last over ms found;
+            counted = by result over ms found first;
+            most = λ measured. record { given = over.given; ended = over.ended; gives = over.gives; is = grow_few first.called (counts_of closure) (counts_of last) (length over.given) first.holds.1 (omega (arith, sizes, few)) };
           },
         )
+      where
+        by : (result : Result (Unit {0}) StreamError) (over : Leaves result last) (ms : List Occurrence) → AreFinds p (plain_search over.given) None ms
+            → CalledOnFirst (HasCounted K calls closure last sink sink' name_of counts_of counts) [] ms result last
+            → OnOk result ((ranges : List Occurrence) × WholeStream S (λ text. AreFinds p (plain_search text) None ranges) source source' × CountsThese ranges (counts_of closure) (counts_of last))
+        by (Err error) over ms found first = tt
+        by (Ok x) over ms found first =
+            let all : ms ≡ first.called = first.are ∙ ap (λ (ms : List Occurrence). first.called ++ ms) first.all ∙ append-nil first.called in (
+              ms,
+              record { text = over.given; gives = subst (SourceGave S source source' over.given) over.whole over.gives; is = found },
+              subst (λ (ms : List Occurrence). CountsThese ms (counts_of closure) (counts_of last)) (sym all) first.holds.1,
+            )
 
     -- whatever is answered
-    pub lent_does : (result : Result (Unit {0}) StreamError) → (CanBegin G automaton → RunsLent S K (G.is_of automaton) calls source source' closure sink result last sink')
-        → StreamOutcome S K r result source source' sink sink' × OnOk result Counted
+    pub lent_does : (result : Result (Unit {0}) StreamError) → (CanBegin G automaton → RunsLent S K (G.is_of automaton) calls source source' closure sink result last sink') → Does result
     lent_does result runs =
         elim (runs can) [
-          | inl memory ↦ rw (memory.0.0, memory.0.1, memory.0.2) (untouched, tt)
-          | inr over ↦ (ran result last over, lent_counts result over)
+          | inl memory ↦ rw (memory.0.0, memory.0.1, memory.0.2, memory.1)
+              (refl, record { outcome = untouched; counted = tt; most = λ measured. ungrown (counts_of closure) (Err Memory) untouched })
+          | inr over ↦ run_does result over
         ]

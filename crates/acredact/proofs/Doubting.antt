@@ -20,7 +20,16 @@ item_cut {X = X} xs at x within is = drop_more xs at x within ∙ ap (λ (y : X)
 pub secrets_cut : (rules : List Rule) (at : ℕ) (rule : Rule) → at < length rules → rule ≡ get_or rules at rule → secrets_of (drop at rules) ≡ secret_of rule ∷ secrets_of (drop (at + 1) rules)
 secrets_cut rules at rule within is = ap secrets_of (item_cut rules at rule within is)
 
--- of some first things it is told, and of one more
-pub told_more : {E : Type 0} (K : SinkGhosts E) (old mid new : Errors E) (all first rest : List ℕ) → (done : List ℕ) × (all ≡ done ++ (first ++ rest)) × TellsBytes K old mid done → TellsBytes K mid new first
-    → (done : List ℕ) × (all ≡ done ++ rest) × TellsBytes K old new done
-told_more K old mid new all first rest (done, is, told) next = (done ++ first, is ∙ sym (append_assoc done first rest), tells-later K told next)
+-- of some first things it is told
+pub record ToldSoFar {E : Type 0} (K : SinkGhosts E) (old new : Errors E) (all rest : List ℕ) : Type 0 where
+  pub done : List ℕ
+  pub are : all ≡ done ++ rest
+  pub told : TellsBytes K old new done
+
+-- and of one more
+pub told_more : {E : Type 0} {K : SinkGhosts E} {old mid new : Errors E} {all rest : List ℕ} (first : List ℕ) → ToldSoFar K old mid all (first ++ rest) → TellsBytes K mid new first → ToldSoFar K old new all rest
+told_more {K = K} {rest = rest} first so_far next = record {
+  done = so_far.done ++ first;
+  are = so_far.are ∙ sym (append_assoc so_far.done first rest);
+  told = tells-later K so_far.told next;
+}

@@ -1,19 +1,25 @@
--- Why a piece is not clean, and that it is clean where nothing is found.
-use Rattle.acredact.proofs.Common.{All, All-cons, All-head, All-nil, All-tail, ArePatterns, Bor, IsCleanPiece, IsMember, NoneHolds, Patterns, Rule, eq-eqb, folded_by, get_or-map, length-map, ne_eqb, pattern_at, pieces_of}
-use Rattle.std.proofs.Common.{◌≡◌, inl, inr, ℕ, suc, ◌+◌, ◌-◌, ◌<◌, ◌≤◌, List, [], ◌∷◌, ◌++◌, Option, true, false, length, get_or, refl, sym, ap, subst, ◌∙◌, arith, length-append, map}
-use Rattle.std.specs.Prelude.{Bool, None, Some, if◌then◌else◌, nat_eq}
+-- Why a piece is not clean, and that it is clean where nothing is found; and that a pseudonym is, where none can spell a pattern.
+use Rattle.acredact.proofs.Common.{All, All-cons, All-head, All-nil, All-tail, ArePatterns, Bor, IsCleanPiece, IsMember, NoneHolds, Patterns, eq-eqb, folded_by, get_or-map, ne_eqb, nil_from_length, pattern_at, pieces_of, folded_word}
+use Rattle.std.proofs.Common.{◌≡◌, inl, inr, ℕ, suc, ◌+◌, ◌-◌, ◌<◌, List, [], ◌∷◌, ◌++◌, Option, true, false, length, get_or, refl, sym, ap, subst, ◌∙◌, arith, below_more, length-append, length-drop, take, ◌%◌, drop}
+use Rattle.std.specs.List.{list_all}
+use Rattle.std.specs.Prelude.{Bool, None, Some, if◌then◌else◌, nat_eq, ◌⊎◌, ◌||◌, slice_range}
 use Rattle.std.proofs.Math.Seq.{get_or-append_seam}
+use Rattle.std.proofs.lemmas.List.{drop_more, take-append-drop}
 use Rattle.std.proofs.lemmas.Bool.{eqb-true, or_parts}
-use Rattle.std.proofs.lemmas.List.Elements.{All-weaker}
+use Rattle.std.proofs.lemmas.List.Elements.{All-weaker, All-drop, All-take}
 use Rattle.std.proofs.lemmas.List.Folds.{Any-from_list_any, list_any_none}
-use Rattle.aho_laws.specs.CoverLaws.{AreClean}
 use Rattle.secret_rules.proofs.Owners.{member-get_or}
 use Rattle.acredact.specs.Pieces.{IsFlaw, IsMarked, IsUnclean, WordsAreMarked}
 use Rattle.acredact.specs.Secrets.{NoneOccurs}
-use Rattle.acredact.specs.Spelling.{first_number, holder_in, holds_byte}
-use Rattle.acredact.specs.Tables.{piece_by, secret_of, secrets_of}
+use Rattle.acredact.specs.Spelling.{first_number, holder_in, holds_byte, NoneAreSpelled, is_inside, lies_inside, may_be_spelled}
 use Rattle.acredact.specs.declared.clean.Flaw.{Flaw}
 use Rattle.acredact.specs.declared.clean.Flaw.TheVariants.{Empty, Pseudonym, Spells}
+use Rattle.std.proofs.Math.Nat.{mod-lt}
+use Rattle.std.proofs.lemmas.List.Sums.{AllPass-from_list_all, list_all-from_AllPass}
+use Rattle.aho_core.specs.Bytes.{folded}
+use Rattle.aho_laws.proofs.Members.{member-map, member-of_map}
+use Rattle.acredact.specs.Hmac.{hmac_sha256}
+use Rattle.acredact.specs.Pseudonyms.{as_compared, digit_at, hex_digit, piece_of_digest, pseudonym_rule}
 
 -- a byte that a word holds is a member of it, but for the case rule
 held_member : (ignore_case : Bool) (word : List ℕ) (byte : ℕ) → holds_byte ignore_case word byte ≡ true → (other : ℕ) × IsMember word other × (folded_by ignore_case other ≡ folded_by ignore_case byte)
@@ -21,7 +27,7 @@ held_member ignore_case word byte held =
     let (at, other, below, is, same) = Any-from_list_any (λ other. nat_eq (folded_by ignore_case other) (folded_by ignore_case byte)) word held in
     (other, subst (IsMember word) is (member-get_or word at other below), eqb-true (folded_by ignore_case other) (folded_by ignore_case byte) same)
 
-pub not_held : (ignore_case : Bool) (word : List ℕ) (other byte : ℕ) → holds_byte ignore_case word byte ≡ false → IsMember word other → folded_by ignore_case other ≡ folded_by ignore_case byte → ⊥
+not_held : (ignore_case : Bool) (word : List ℕ) (other byte : ℕ) → holds_byte ignore_case word byte ≡ false → IsMember word other → folded_by ignore_case other ≡ folded_by ignore_case byte → ⊥
 not_held ignore_case [] other byte none member same = absurd member
 not_held ignore_case (x ∷ word) other byte none member same =
     let (first, later) = or_parts (nat_eq (folded_by ignore_case x) (folded_by ignore_case byte)) (holds_byte ignore_case word byte) none in
@@ -31,11 +37,11 @@ not_held ignore_case (x ∷ word) other byte none member same =
     ]
 
 -- what the first of some words is, and what they are where there is none
-abbrev pub IsFirst : (List ℕ → Bool) → ℕ → List (List ℕ) → Option ℕ → Type 0
+abbrev IsFirst : (List ℕ → Bool) → ℕ → List (List ℕ) → Option ℕ → Type 0
 IsFirst test number words None = All (λ word. test word ≡ false) words
 IsFirst test number words (Some told) = (at : ℕ) × (told ≡ at + number) × (at < length words) × (test (get_or words at []) ≡ true)
 
-pub first_so : (test : List ℕ → Bool) (number : ℕ) (words : List (List ℕ)) → IsFirst test number words (first_number test number words)
+first_so : (test : List ℕ → Bool) (number : ℕ) (words : List (List ℕ)) → IsFirst test number words (first_number test number words)
 first_so test number [] = All-nil (λ word. test word ≡ false)
 first_so test number (word ∷ words) = by (test word) refl (first_number test (number + 1) words) (first_so test (number + 1) words)
   where
@@ -60,27 +66,20 @@ module _ (ignore_case : Bool) (byte place : ℕ) (marks : List Bool) (is : place
       ∙ unmarked (number + 1) words (All-tail (λ w. IsMarked ignore_case w marks) word words marked)
 
 -- the first and the last byte of a piece
-pub first_is : (piece rest : List ℕ) (byte : ℕ) → piece ≡ byte ∷ rest → get_or piece 0 0 ≡ byte
+first_is : (piece rest : List ℕ) (byte : ℕ) → piece ≡ byte ∷ rest → get_or piece 0 0 ≡ byte
 first_is piece rest byte is = ap (λ (l : List ℕ). get_or l 0 0) is
 
-pub last_is : (piece front : List ℕ) (byte : ℕ) → piece ≡ front ++ byte ∷ [] → get_or piece (length piece - 1) 0 ≡ byte
+last_is : (piece front : List ℕ) (byte : ℕ) → piece ≡ front ++ byte ∷ [] → get_or piece (length piece - 1) 0 ≡ byte
 last_is piece front byte is =
     let count : length piece - 1 ≡ length front = omega (arith, ap length is ∙ length-append front (byte ∷ [])) in
     ap (λ (n : ℕ). get_or piece n 0) count ∙ ap (λ (l : List ℕ). get_or l (length front) 0) is ∙ get_or-append_seam front byte [] 0
 
-first_of : (piece : List ℕ) → 0 < length piece → (rest : List ℕ) × (piece ≡ get_or piece 0 0 ∷ rest)
-first_of [] some = absurd (omega (arith, some))
-first_of (x ∷ xs) some = (xs, refl)
-
 pub last_of : (piece : List ℕ) → 0 < length piece → (front : List ℕ) × (piece ≡ front ++ get_or piece (length piece - 1) 0 ∷ [])
 last_of piece some =
-    let (front, byte, is) = split piece some in
-    (front, is ∙ ap (λ (b : ℕ). front ++ b ∷ []) (sym (last_is piece front byte is)))
-  where
-    split : (text : List ℕ) → 0 < length text → (front : List ℕ) × (byte : ℕ) × (text ≡ front ++ byte ∷ [])
-    split [] none = absurd (omega (arith, none))
-    split (x ∷ []) one = ([], x, refl)
-    split (x ∷ y ∷ text) more = let (front, byte, is) = split (y ∷ text) (omega arith) in (x ∷ front, byte, ap (λ (t : List ℕ). x ∷ t) is)
+    let last = length piece - 1 in
+    let none = nil_from_length (drop (last + 1) piece) (omega (arith, some, length-drop (last + 1) piece)) in
+    let behind : drop last piece ≡ get_or piece last 0 ∷ [] = drop_more piece last 0 (omega (arith, some)) ∙ ap (λ (l : List ℕ). get_or piece last 0 ∷ l) none in
+    (take last piece, sym (take-append-drop last piece) ∙ ap (λ (l : List ℕ). take last piece ++ l) behind)
 
 module _ (p : Patterns) (ignore_case : Bool) (words : List (List ℕ)) (are : ArePatterns p ignore_case words) where
   -- what is said of words holds of the patterns
@@ -96,9 +95,8 @@ module _ (p : Patterns) (ignore_case : Bool) (words : List (List ℕ)) (are : Ar
   -- a pattern holds the first byte, or the last
   pub spells_first : (piece : List ℕ) (byte told : ℕ) → 0 < length piece → byte ≡ get_or piece 0 0 → Some told ≡ holder_in ignore_case words byte → IsFlaw p piece (Spells told)
   spells_first piece byte told some is holder =
-      let first = first_of piece some in
       let (number, is_told, numbered, held) = holder_is byte told holder in
-      (number, is_told, numbered, inl (byte, first.0, first.1 ∙ ap (λ (b : ℕ). b ∷ first.0) (sym is), held))
+      (number, is_told, numbered, inl (byte, drop 1 piece, drop_more piece 0 0 some ∙ ap (λ (b : ℕ). b ∷ drop 1 piece) (sym is), held))
 
   pub spells_last : (piece : List ℕ) (byte told : ℕ) → 0 < length piece → byte ≡ get_or piece (length piece - 1) 0 → Some told ≡ holder_in ignore_case words byte → IsFlaw p piece (Spells told)
   spells_last piece byte told some is holder =
@@ -117,7 +115,7 @@ module _ (p : Patterns) (ignore_case : Bool) (words : List (List ℕ)) (are : Ar
   }
 
 -- what has a flaw is not clean
-pub flawed : (p : Patterns) (piece : List ℕ) (flaw : Flaw) → IsFlaw p piece flaw → IsCleanPiece p piece → ⊥
+flawed : (p : Patterns) (piece : List ℕ) (flaw : Flaw) → IsFlaw p piece flaw → IsCleanPiece p piece → ⊥
 flawed p piece Empty is clean = absurd (omega (arith, clean.some, ap length is))
 flawed p piece Pseudonym is clean = absurd is
 flawed p piece (Spells told) (number, is, numbered, inl (byte, rest, split, held)) clean =
@@ -126,23 +124,93 @@ flawed p piece (Spells told) (number, is, numbered, inr (inl (byte, front, split
     let (other, member, same) = held_member p.ignore_case (pattern_at p number) byte held in clean.last byte front split number other numbered member same
 flawed p piece (Spells told) (number, is, numbered, inr (inr (m, occurs, named))) clean = clean.none m occurs
 
--- as many pieces are lent as there are
-pub pieces_count : (pieces : List (Bor (List ℕ))) → length (pieces_of pieces) ≡ length pieces
-pieces_count pieces = length-map pieces (λ piece. piece.now)
+module _ (p : Patterns) (pieces : List (Bor (List ℕ))) where
+  -- the pieces before a place are clean
+  abbrev pub AreCleanTo : ℕ → Type 0
+  AreCleanTo at = (number : ℕ) → number < at → IsCleanPiece p (get_or (pieces_of pieces) number [])
 
--- that of a rule
-pub rule_piece : (rules : List Rule) (usual : List ℕ) (at : ℕ) (d : Rule) → at < length rules → get_or (map (piece_by usual) (secrets_of rules)) at [] ≡ piece_by usual (secret_of (get_or rules at d))
-rule_piece rules usual at d below =
-    get_or-map (piece_by usual) (secrets_of rules) at (secret_of d) [] (subst (λ (n : ℕ). at < n) (sym (length-map rules secret_of)) below)
-    ∙ ap (piece_by usual) (get_or-map secret_of rules at d (secret_of d) below)
+  piece_at : (at : ℕ) (d : Bor (List ℕ)) → at < length pieces → (get_or pieces at d).now ≡ get_or (pieces_of pieces) at []
+  piece_at at d below = sym (get_or-map (λ (piece : Bor (List ℕ)). piece.now) pieces at d [] below)
 
--- the first that is not clean
-pub unclean_at : (p : Patterns) (pieces : List (List ℕ)) (at : ℕ) (piece : List ℕ) (flaw : Flaw) → at < length p.words → ((other : ℕ) → other < at → IsCleanPiece p (get_or pieces other [])) → get_or pieces at [] ≡ piece
-    → IsFlaw p piece flaw → IsUnclean p pieces (record { number = at + 1; flaw = flaw })
-unclean_at p pieces at piece flaw numbered before is of =
-    let here : IsFlaw p (get_or pieces at []) flaw = subst (λ (l : List ℕ). IsFlaw p l flaw) (sym is) of in
-    record { number = at; told = refl; numbered = numbered; before = before; flaw = here; is_not = flawed p (get_or pieces at []) flaw here }
+  pub clean_next : (at : ℕ) (d : Bor (List ℕ)) → at < length pieces → AreCleanTo at → IsCleanPiece p (get_or pieces at d).now → AreCleanTo (at + 1)
+  clean_next at d below before here = below_more _ at before (subst (IsCleanPiece p) (piece_at at d below) here)
 
--- all are clean
-pub clean_all : (p : Patterns) (pieces : List (List ℕ)) (at : ℕ) → length p.words ≤ at → ((other : ℕ) → other < at → IsCleanPiece p (get_or pieces other [])) → AreClean p pieces
-clean_all p pieces at past clean number numbered = clean number (omega (arith, numbered, past))
+  -- the first that is not
+  pub unclean_at : (at : ℕ) (d : Bor (List ℕ)) (flaw : Flaw) → at < length pieces → length pieces ≡ length p.words → AreCleanTo at → IsFlaw p (get_or pieces at d).now flaw
+      → IsUnclean p (pieces_of pieces) (record { number = at + 1; flaw = flaw })
+  unclean_at at d flaw below count before of =
+      let here : IsFlaw p (get_or (pieces_of pieces) at []) flaw = subst (λ (piece : List ℕ). IsFlaw p piece flaw) (piece_at at d below) of in
+      record { number = at; told = refl; numbered = omega (arith, below, count); before = before; flaw = here; is_not = flawed p (get_or (pieces_of pieces) at []) flaw here }
+
+-- each byte of a pseudonym is its first, its last or one inside
+abbrev is_of_piece : Bool → ℕ → Bool
+is_of_piece ignore_case byte = nat_eq byte 91 || nat_eq byte 93 || is_inside (folded_by ignore_case byte)
+
+digit_of_piece : (ignore_case : Bool) (value : ℕ) → value < 16 → is_of_piece ignore_case (digit_at value) ≡ true
+digit_of_piece ignore_case (suc (suc (suc (suc (suc (suc (suc (suc (suc (suc (suc (suc (suc (suc (suc (suc n)))))))))))))))) below = absurd (omega arith)
+digit_of_piece true value below = refl
+digit_of_piece false value below = refl
+
+hex_of_piece : (ignore_case : Bool) (byte : ℕ) → is_of_piece ignore_case (hex_digit byte) ≡ true
+hex_of_piece ignore_case byte = digit_of_piece ignore_case (byte % 16) (mod-lt byte (omega arith))
+
+piece_all : (ignore_case : Bool) (digest : List ℕ) → list_all (is_of_piece ignore_case) (piece_of_digest digest) ≡ true
+piece_all true digest = simp (hex_of_piece true) refl
+piece_all false digest = simp (hex_of_piece false) refl
+
+one_of : (a b c : Bool) → (a || b || c) ≡ true → (a ≡ true) ⊎ ((b ≡ true) ⊎ (c ≡ true))
+one_of true b c is = inl refl
+one_of false true c is = inr (inl refl)
+one_of false false c is = inr (inr is)
+
+-- what is so of all is so of each member
+every_member : (P : ℕ → Type 0) (xs : List ℕ) (x : ℕ) → All P xs → IsMember xs x → P x
+every_member P [] x are member = absurd member
+every_member P (y ∷ ys) x are (inl is) = subst P (sym is) (All-head P y ys are)
+every_member P (y ∷ ys) x are (inr member) = every_member P ys x (All-tail P y ys are) member
+
+module _ (p : Patterns) (unlike : NoneAreSpelled p.ignore_case p.words) where
+  -- no pattern holds the first byte of a pseudonym or the last, or lies inside
+  unlike_each : (number : ℕ) → number < length p.words → (holds_byte p.ignore_case (pattern_at p number) 91 ≡ false) × (holds_byte p.ignore_case (pattern_at p number) 93 ≡ false) × (lies_inside p.ignore_case (pattern_at p number) ≡ false)
+  unlike_each number numbered =
+      let word = pattern_at p number in
+      let none : may_be_spelled p.ignore_case word ≡ false = subst (IsFirst (may_be_spelled p.ignore_case) 1 p.words) unlike (first_so (may_be_spelled p.ignore_case) 1 p.words) number [] numbered in
+      let (held, outside) = or_parts (holds_byte p.ignore_case word 91 || holds_byte p.ignore_case word 93) (lies_inside p.ignore_case word) none in
+      let (first, last) = or_parts (holds_byte p.ignore_case word 91) (holds_byte p.ignore_case word 93) held in
+      (first, last, outside)
+
+  -- nothing occurs in a pseudonym
+  none_within : (piece : List ℕ) → list_all (is_of_piece p.ignore_case) piece ≡ true → NoneOccurs p piece
+  none_within piece are m occurs =
+      let word = pattern_at p m.pattern in
+      let part = slice_range piece m.start m.end in
+      let (no_first, no_last, outside) = unlike_each m.pattern occurs.numbered in
+      let inside : (byte : ℕ) → IsMember word byte → is_inside (folded p byte) ≡ true = λ byte member.
+      let there : IsMember (folded_word p part) (folded p byte) = subst (λ (bytes : List ℕ). IsMember bytes (folded p byte)) occurs.same (member-map (folded p) word byte member) in
+      let (other, in_part, same) = member-of_map (folded p) part (folded p byte) there in
+      let IsOf = λ (b : ℕ). is_of_piece p.ignore_case b ≡ true in
+      let of = every_member IsOf part other (All-take IsOf (m.end - m.start) (drop m.start piece) (All-drop IsOf m.start piece (AllPass-from_list_all (is_of_piece p.ignore_case) piece are))) in_part in
+      elim (one_of (nat_eq other 91) (nat_eq other 93) (is_inside (folded p other)) of) [
+        | inl first ↦ absurd (not_held p.ignore_case word byte 91 no_first member (same ∙ ap (folded p) (eqb-true other 91 first)))
+        | inr (inl last) ↦ absurd (not_held p.ignore_case word byte 93 no_last member (same ∙ ap (folded p) (eqb-true other 93 last)))
+        | inr (inr stands) ↦ ap is_inside same ∙ stands
+      ] in
+      let clash : false ≡ true = sym outside ∙ list_all-from_AllPass (λ byte. is_inside (folded_by p.ignore_case byte)) word (λ k d within. inside (get_or word k d) (member-get_or word k d within)) in cc
+
+  none_first : NoneHolds p 91
+  none_first number other numbered member same = not_held p.ignore_case (pattern_at p number) other 91 (unlike_each number numbered).0 member same
+
+  none_last : NoneHolds p 93
+  none_last number other numbered member same = not_held p.ignore_case (pattern_at p number) other 93 (unlike_each number numbered).1 member same
+
+  piece_clean : (digest : List ℕ) → IsCleanPiece p (piece_of_digest digest)
+  piece_clean digest = record {
+    some = omega arith;
+    first = λ byte rest is. subst (NoneHolds p) (first_is (piece_of_digest digest) rest byte is) none_first;
+    last = λ byte front is. subst (NoneHolds p) (last_is (piece_of_digest digest) front byte is) none_last;
+    none = none_within (piece_of_digest digest) (piece_all p.ignore_case digest);
+  }
+
+  -- each pseudonym is clean
+  pub pseudonyms_clean : (ignore_case : Bool) (key : List ℕ) (number : ℕ) (bytes : List ℕ) → number < length p.words → IsCleanPiece p (pseudonym_rule ignore_case key number bytes)
+  pseudonyms_clean ignore_case key number bytes numbered = piece_clean (hmac_sha256 key (as_compared ignore_case bytes))

@@ -1,42 +1,38 @@
--- The forms of rules, one after another.
-use Rattle.acredact.proofs.Common.{All-nil, Nested, Rule, map-append}
-use Rattle.std.proofs.Common.{◌≡◌, ℕ, ◌+◌, List, [], ◌∷◌, ◌++◌, get_or, length, refl, sym, ap, subst, ◌∙◌, append-nil}
-use Rattle.std.specs.Prelude.{Bool, true, false, nat_lt, None, Some, Result, Ok, Err, OnOk, is_ok, if◌then◌else◌}
-use Rattle.secret_forms.specs.Forms.{HidesForm}
-use Rattle.secret_forms.specs.declared.form.Form.{Form as SecretForm}
-use Rattle.acredact.specs.Forms.{AskedForms, HaveForms, HideSecrets, HidesNestedForm, asked_forms, forms_asked, forms_from, forms_named, nested_named, once_patterns}
-use Rattle.acredact.specs.Tables.{Secret, secret_of, secrets_of}
-use Rattle.acredact.specs.declared.forms.Asked.{Asked}
+-- The forms of secrets: none is empty, and none shows a character that holds a bit of its secret outside the patterns.
+use Rattle.acredact.proofs.Common.{All-append, All-nil, Nested, ltb-true}
+use Rattle.std.proofs.Common.{◌≡◌, ℕ, ◌+◌, ◌≤◌, Bool, true, false, List, [], ◌∷◌, get_or, length, map, refl, arith}
+use Rattle.std.specs.Prelude.{nat_lt, if◌then◌else◌}
+use Rattle.std.proofs.lemmas.List.Elements.{All-map, All-weaker, filter_passes}
+use Rattle.secret_forms.specs.Forms.{forms_patterns, inner_patterns}
+use Rattle.secret_forms.proofs.FormLaw.{HidesForm-all}
+use Rattle.secret_forms.proofs.Members.{Contains-added_all_new}
+use Rattle.secret_forms.proofs.NestedLaw.{HidesNested-made}
+use Rattle.acredact.specs.Forms.{AskedForms, HideSecrets, HidesNestedForm, asked_form_patterns, filled, form_secret, forms_from, forms_of, once_patterns, twice_patterns}
+use Rattle.acredact.specs.Tables.{HaveNoEmpty, Secret}
 
--- the forms that a value names, of both kinds
-pub asked_both : (asked : Asked) (value : List ℕ) → asked.forms.now ≡ forms_named value → asked.nested.now ≡ nested_named value → asked_forms asked ≡ forms_asked (Some value)
-asked_both asked value forms nested = ap (λ (l : List SecretForm). record { forms = l; nested = asked.nested.now }) forms ∙ ap (λ (l : List Nested). record { forms = forms_named value; nested = l }) nested
+abbrev IsSome : Secret → Type 0
+IsSome secret = 1 ≤ length secret.pattern
 
--- the forms stand behind these rules
-pub have_forms : {X : Type 0} (forms asked : AskedForms) (old more new : List Rule) (result : Result (Unit {0}) X) → forms ≡ asked → secrets_of more ≡ forms_from forms 0 (secrets_of old) → HideSecrets forms (secrets_of old)
-    → new ≡ (if is_ok result then old ++ more else old) → OnOk result (HaveForms asked old new)
-have_forms forms asked old more new (Ok done) same made hidden grown = record {
-  are = ap secrets_of grown ∙ map-append secret_of old more ∙ ap (λ l. secrets_of old ++ l) (made ∙ ap (λ f. forms_from f 0 (secrets_of old)) same);
-  hidden = subst (λ (f : AskedForms). HideSecrets f (secrets_of old)) same hidden;
-}
-have_forms forms asked old more new (Err error) same made hidden grown = tt
+pub all_forms_some : (asked : AskedForms) (number : ℕ) (secrets : List Secret) → HaveNoEmpty (forms_from asked number secrets)
+all_forms_some asked number [] = All-nil IsSome
+all_forms_some asked number (secret ∷ secrets) =
+    All-append IsSome (forms_of asked number secret) (forms_from asked (number + 1) secrets) (by (nat_lt (length secret.pattern) 4)) (all_forms_some asked (number + 1) secrets)
+  where
+    patterns : List (List ℕ)
+    patterns = filled (asked_form_patterns asked secret.pattern)
 
--- where no form is asked for there is none
-same_either : {A : Type 0} (b : Bool) (x : A) → (if b then x else x) ≡ x
-same_either true x = refl
-same_either false x = refl
+    by : (short : Bool) → HaveNoEmpty (if short then [] else map (form_secret number secret) patterns)
+    by true = All-nil IsSome
+    by false = All-map IsSome (form_secret number secret) patterns
+        (All-weaker (λ p. nat_lt 0 (length p) ≡ true) (λ p. 1 ≤ length p) (λ p is. omega (arith, ltb-true 0 (length p) is)) patterns (filter_passes (λ p. nat_lt 0 (length p)) (asked_form_patterns asked secret.pattern)))
 
-abbrev none_asked : AskedForms
-none_asked = forms_asked None
+hides_nested : (pattern : List ℕ) (one : Nested) → 4 ≤ length pattern → HidesNestedForm pattern one
+hides_nested pattern one long =
+    HidesNested-made (twice_patterns pattern one) (inner_patterns pattern one.inner) [] [] pattern one.inner one.outer long refl refl
 
-forms_none : (number : ℕ) (secrets : List Secret) → forms_from none_asked number secrets ≡ []
-forms_none number [] = refl
-forms_none number (secret ∷ secrets) = ap (λ l. l ++ forms_from none_asked (number + 1) secrets) (same_either (nat_lt (length secret.pattern) 4) []) ∙ forms_none (number + 1) secrets
-
-pub have_none : (rules : List Rule) → HaveForms none_asked rules rules
-have_none rules = record {
-  are = sym (ap (λ l. secrets_of rules ++ l) (forms_none 0 (secrets_of rules)) ∙ append-nil (secrets_of rules));
-  hidden = λ number d within long.
-      let pattern = (get_or (secrets_of rules) number d).pattern in
-      (All-nil (HidesForm (once_patterns [] pattern) pattern), All-nil (HidesNestedForm pattern));
-}
+pub hide_secrets : (asked : AskedForms) (secrets : List Secret) → HideSecrets asked secrets
+hide_secrets asked secrets = λ number d within long.
+    let pattern = (get_or secrets number d).pattern in (
+      HidesForm-all (once_patterns asked.forms pattern) pattern asked.forms (omega (arith, long)) (Contains-added_all_new (forms_patterns asked.forms pattern) []),
+      λ k other below. hides_nested pattern (get_or asked.nested k other) long,
+    )

@@ -2,9 +2,9 @@
 use Rattle.acredact.proofs.Common.{is_input}
 use Rattle.std.proofs.Common.{◌≡◌, ℕ, List, [], ◌∷◌, Option, true, false}
 use Rattle.std.specs.Prelude.{Bool, MatchBool, is_some}
-use Rattle.acredact.specs.Files.{AreFree, AreRedacted, IsFree, RedactsText, Work, WritesText}
-use Rattle.acredact.specs.Reads.{OfName}
-use Rattle.acredact.specs.Secrets.{AreCleanBy}
+use Rattle.acredact.specs.Files.{AreFree, AreRedacted, Work, WritesNamed, WritesText}
+use Rattle.acredact.specs.Reads.{EachName, OfName}
+use Rattle.acredact.specs.Secrets.{AreCleanBy, IsRedaction}
 
 -- what is so of a text is so of that of a name
 pub named_as : (holds : List ℕ → Option (List ℕ)) (name : List ℕ) (One Other : Option (List ℕ) → Option (List ℕ) → Type 0) → ((l l' : Option (List ℕ)) → One l l' → Other l l')
@@ -15,12 +15,17 @@ named_as holds name One Other to left left' is = by (is_input name) is
     by true here = to left left' here
     by false (same, rest, there) = (same, rest, to (holds name) rest there)
 
-pub free_of : (work : Work) → work.redactor.covers ≡ true → work.redactor.words ≡ false → AreCleanBy (is_some work.redactor.key) work.redactor.patterns work.redactor.pieces → (names : List (List ℕ)) (left left' held held' : Option (List ℕ)) → AreRedacted work names left left' held held' → AreFree work names left left' held held'
-free_of work covers all clean [] left left' held held' are = are
-free_of work covers all clean (name ∷ names) left left' held held' (between, meanwhile, apart, is, others) = (
+-- what is written of each file is this too, where the redaction of a text is
+pub each_written_as : (work : Work) {Other : List ℕ → List ℕ → Type 0} → ((text redaction : List ℕ) → IsRedaction work.redactor text redaction → Other text redaction)
+    → (names : List (List ℕ)) (left left' held held' : Option (List ℕ)) → AreRedacted work names left left' held held' → EachName (WritesNamed work.holds Other) names left left' held held'
+each_written_as work to [] left left' held held' are = are
+each_written_as work {Other} to (name ∷ names) left left' held held' (between, meanwhile, (apart, is), others) = (
   between,
   meanwhile,
-  named_as work.holds name (λ l l'. RedactsText work.redactor l l' held meanwhile) (λ l l'. WritesText (IsFree work.redactor) l l' held meanwhile)
-      (λ l l' of. record { text = of.text; reads = of.reads; redaction = of.redaction; redacts = (of.redacts, of.redacts.clean covers all clean); written = of.written }) left between is,
-  free_of work covers all clean names between left' meanwhile held' others,
+  named_as work.holds name (λ l l'. WritesText (IsRedaction work.redactor) l l' held meanwhile) (λ l l'. WritesText Other l l' held meanwhile)
+      (λ l l' of. record { text = of.text; reads = of.reads; is = (of.is.0, to of.text of.is.0 of.is.1, of.is.2) }) left between is,
+  each_written_as work to names between left' meanwhile held' others,
 )
+
+pub free_of : (work : Work) → work.redactor.covers ≡ true → work.redactor.words ≡ false → AreCleanBy (is_some work.redactor.key) work.redactor.patterns work.redactor.pieces → (names : List (List ℕ)) (left left' held held' : Option (List ℕ)) → AreRedacted work names left left' held held' → AreFree work names left left' held held'
+free_of work covers all clean = each_written_as work (λ text redaction is. (is, is.clean covers all clean))

@@ -1,8 +1,8 @@
 -- What shows a secret in a form lies in a replaced range.
-use Rattle.acredact.proofs.Common.{FromWrite, IsMember, Occurrence, Patterns, PieceRule, Writers, folded_word, ltb-true, map-append, pattern_at, plain_search}
+use Rattle.acredact.proofs.Common.{FromWrite, IsMember, Occurrence, Patterns, PieceRule, Writers, folded_word, map-append, pattern_at, plain_search}
 use Rattle.std.proofs.Common.{◌≡◌, inl, inr, ℕ, zero, suc, ◌+◌, ◌-◌, ◌<◌, ◌≤◌, Bool, true, false, cond, List, [], ◌∷◌, ◌++◌, Option, length, length-append, map, take, drop, refl, sym, ap, subst, ◌∙◌, arith}
-use Rattle.std.specs.Prelude.{All, Contains, MatchBool, chars, flat_map, if◌then◌else◌, nat_lt, slice_index_or, slice_range}
-use Rattle.std.proofs.lemmas.Bool.{lt-ltb}
+use Rattle.std.specs.Prelude.{All, Contains, MatchBool, chars, flat_map, if◌then◌else◌, nat_lt, slice_range}
+use Rattle.std.proofs.lemmas.Bool.{le-ltb, lt-ltb}
 use Rattle.std.proofs.lemmas.List.Elements.{All-contains, Contains-append_left, Contains-append_right}
 use Rattle.std.proofs.Math.Seq.{drop-append_seam, take-append_seam}
 use Rattle.std.proofs.lemmas.List.{get_or_default}
@@ -20,17 +20,17 @@ use Rattle.secret_forms.specs.Spelling.{HidesSpelled, shell_spellings, url_spell
 use Rattle.secret_forms.specs.declared.bytewise.Spelling.{Spelling}
 use Rattle.secret_forms.specs.declared.form.Form.{Form}
 use Rattle.secret_forms.specs.declared.form.Form.TheVariants.{Base64, Hex, Url, Json, Xml, Shell, Lines}
-use Rattle.acredact.specs.Files.{AreRedacted, RedactsText, Work, WritesText}
+use Rattle.acredact.specs.Files.{AreRedacted, Work}
 use Rattle.acredact.specs.Forms.{AskedForms, HideSecrets, HidesNestedForm, HidesSecret, filled, form_secret, forms_from, forms_of, once_patterns, asked_form_patterns, twice_patterns, with_forms}
 use Rattle.acredact.specs.Hidden.{AreHidden, HidesForms, NoneShowsOnce, NoneShowsTwice, ShowsBits, SpellsEach, ShowsForm, SpellsForm}
-use Rattle.acredact.specs.Secrets.{NoByteIsKept, NoneIsWhole, Redactor}
+use Rattle.acredact.specs.Secrets.{IsRedaction, NoByteIsKept, NoneIsWhole, Redactor}
 use Rattle.acredact.specs.Tables.{Secret, patterns_in}
 use Rattle.aho_cover.specs.Words.{CountsIn}
 use Rattle.acredact.specs.Arguments.{covers_asked, words_asked}
 use Rattle.acredact.specs.Calls.{Call, HidesCall, RedactsCall, names_asked, work_by}
 use Rattle.acredact.specs.Loading.{Loaded}
 use Rattle.acredact.specs.Named.{named_secret}
-use Rattle.acredact.proofs.Free.{named_as}
+use Rattle.acredact.proofs.Free.{each_written_as}
 use Rattle.acredact.proofs.Naming.{either_way}
 
 -- what a form hides is hidden where it shows
@@ -109,34 +109,25 @@ patterns_made : (number : ℕ) (secret : Secret) (patterns : List (List ℕ)) �
 patterns_made number secret [] = refl
 patterns_made number secret (p ∷ patterns) = ap (λ l. p ∷ l) (patterns_made number secret patterns)
 
-forms_within : (asked : AskedForms) (number : ℕ) (secret : Secret) → 4 ≤ length secret.pattern → patterns_in (forms_of asked number secret) ≡ filled (asked_form_patterns asked secret.pattern)
-forms_within asked number secret long = by (nat_lt (length secret.pattern) 4) refl
-  where
-    by : (b : Bool) → nat_lt (length secret.pattern) 4 ≡ b
-        → patterns_in (if b then [] else map (form_secret number secret) (filled (asked_form_patterns asked secret.pattern))) ≡ filled (asked_form_patterns asked secret.pattern)
-    by true is = absurd (omega (arith, long, ltb-true _ _ is))
-    by false is = patterns_made number secret (filled (asked_form_patterns asked secret.pattern))
+abbrev patterns_for : AskedForms → Secret → List (List ℕ)
+patterns_for asked secret = if nat_lt (length secret.pattern) 4 then [] else filled (asked_form_patterns asked secret.pattern)
 
-all_within : (asked : AskedForms) (number : ℕ) (secrets : List Secret) (secret : Secret) (k : ℕ) → k < length secrets → slice_index_or secrets k secret ≡ secret → 4 ≤ length secret.pattern
-    → (pattern : List ℕ) → Contains (filled (asked_form_patterns asked secret.pattern)) pattern → Contains (patterns_in (forms_from asked number secrets)) pattern
-all_within asked number [] secret k below is long pattern listed = absurd (omega (arith, below))
-all_within asked number (first ∷ secrets) secret zero below is long pattern listed =
-    let same : first ≡ secret = is in
-    let own : Contains (patterns_in (forms_of asked number first)) pattern =
-    subst (λ (l : List (List ℕ)). Contains l pattern) (sym (ap (λ s. patterns_in (forms_of asked number s)) same ∙ forms_within asked number secret long)) listed in
-    subst (λ (l : List (List ℕ)). Contains l pattern) (sym (map-append pattern_of (forms_of asked number first) (forms_from asked (number + 1) secrets)))
-    (Contains-append_left (patterns_in (forms_of asked number first)) (patterns_in (forms_from asked (number + 1) secrets)) pattern own)
-all_within asked number (first ∷ secrets) secret (suc k) below is long pattern listed =
-    subst (λ (l : List (List ℕ)). Contains l pattern) (sym (map-append pattern_of (forms_of asked number first) (forms_from asked (number + 1) secrets)))
-    (Contains-append_right (patterns_in (forms_of asked number first)) (patterns_in (forms_from asked (number + 1) secrets)) pattern
-    (all_within asked (number + 1) secrets secret k (omega (arith, below)) is long pattern listed))
+forms_made : (asked : AskedForms) (number : ℕ) (secrets : List Secret) → patterns_in (forms_from asked number secrets) ≡ flat_map (patterns_for asked) secrets
+forms_made asked number [] = refl
+forms_made asked number (secret ∷ secrets) =
+    map-append pattern_of (forms_of asked number secret) (forms_from asked (number + 1) secrets)
+    ∙ ap (λ (l : List (List ℕ)). l ++ patterns_in (forms_from asked (number + 1) secrets)) (by (nat_lt (length secret.pattern) 4)) ∙ ap (λ (l : List (List ℕ)). patterns_for asked secret ++ l) (forms_made asked (number + 1) secrets)
+  where
+    by : (b : Bool) → patterns_in (if b then [] else map (form_secret number secret) (filled (asked_form_patterns asked secret.pattern))) ≡ (if b then [] else filled (asked_form_patterns asked secret.pattern))
+    by true = refl
+    by false = patterns_made number secret (filled (asked_form_patterns asked secret.pattern))
 
 with_within : (asked : AskedForms) (secrets : List Secret) (secret : Secret) → Contains secrets secret → 4 ≤ length secret.pattern
     → (pattern : List ℕ) → 1 ≤ length pattern → Contains (asked_form_patterns asked secret.pattern) pattern → Contains (patterns_in (with_forms asked secrets)) pattern
-with_within asked secrets secret (k, below, is) long pattern some listed =
-    subst (λ (l : List (List ℕ)). Contains l pattern) (sym (map-append pattern_of secrets (forms_from asked 0 secrets)))
-    (Contains-append_right (patterns_in secrets) (patterns_in (forms_from asked 0 secrets)) pattern
-    (all_within asked 0 secrets secret k below is long pattern (contains_filled (asked_form_patterns asked secret.pattern) pattern some listed)))
+with_within asked secrets secret among long pattern some listed =
+    let own : Contains (patterns_for asked secret) pattern = rw (le-ltb (length secret.pattern) 4 long) (contains_filled (asked_form_patterns asked secret.pattern) pattern some listed) in
+    subst (λ (l : List (List ℕ)). Contains l pattern) (sym (map-append pattern_of secrets (forms_from asked 0 secrets) ∙ ap (λ (l : List (List ℕ)). patterns_in secrets ++ l) (forms_made asked 0 secrets)))
+    (Contains-append_right (patterns_in secrets) (flat_map (patterns_for asked) secrets) pattern (Contains-flat_map (patterns_for asked) secrets secret pattern among own))
 
 -- no form shows what stays of a text
 module _ (asked : AskedForms) (secrets : List Secret) (r : Redactor) (covers : r.covers ≡ true) (all : r.words ≡ false) (words : r.patterns.words ≡ patterns_in (with_forms asked secrets)) (laws : HideSecrets asked secrets) where
@@ -168,29 +159,15 @@ module _ (asked : AskedForms) (secrets : List Secret) (r : Redactor) (covers : r
       (Contains-append_right (once_patterns asked.forms secret.pattern) (flat_map (twice_patterns secret.pattern) asked.nested) pattern (Contains-flat_map (twice_patterns secret.pattern) asked.nested one pattern nested_there among)))
       (form_hidden patterns made text place one.outer (All-contains (HidesNested patterns one.outer) (form_patterns secret.pattern one.inner) made law of) shows)
 
-  text_hidden : (left left' held held' : Option (List ℕ)) → RedactsText r left left' held held' → WritesText (HidesForms asked secrets r) left left' held held'
-  text_hidden left left' held held' of =
-      let is = of.redacts in
-      let kept : NoByteIsKept r of.text is.ranges = subst (λ (b : Bool). MatchBool b (NoByteIsKept r of.text is.ranges) (NoneIsWhole r.patterns of.text is.ranges)) covers is.safe in
-      record {
-        text = of.text;
-        reads = of.reads;
-        redaction = of.redaction;
-        redacts = record { redacts = is; none = record { once = none_once of.text is.ranges kept; twice = none_twice of.text is.ranges kept } };
-        written = of.written;
-      }
+  text_hidden : (text redaction : List ℕ) → IsRedaction r text redaction → HidesForms asked secrets r text redaction
+  text_hidden text redaction is =
+      let kept : NoByteIsKept r text is.ranges = subst (λ (b : Bool). MatchBool b (NoByteIsKept r text is.ranges) (NoneIsWhole r.patterns text is.ranges)) covers is.safe in
+      record { redacts = is; none = record { once = none_once text is.ranges kept; twice = none_twice text is.ranges kept } }
 
 -- nor what stays of any file
 pub hidden_of : (asked : AskedForms) (secrets : List Secret) (work : Work) → work.redactor.covers ≡ true → work.redactor.words ≡ false → work.redactor.patterns.words ≡ patterns_in (with_forms asked secrets)
     → HideSecrets asked secrets → (names : List (List ℕ)) (left left' held held' : Option (List ℕ)) → AreRedacted work names left left' held held' → AreHidden asked secrets work names left left' held held'
-hidden_of asked secrets work covers all words laws [] left left' held held' are = are
-hidden_of asked secrets work covers all words laws (name ∷ names) left left' held held' (between, meanwhile, apart, is, others) = (
-  between,
-  meanwhile,
-  named_as work.holds name (λ l l'. RedactsText work.redactor l l' held meanwhile) (λ l l'. WritesText (HidesForms asked secrets work.redactor) l l' held meanwhile)
-      (λ l l' of. text_hidden asked secrets work.redactor covers all words laws l l' held meanwhile of) left between is,
-  hidden_of asked secrets work covers all words laws names between left' meanwhile held' others,
-)
+hidden_of asked secrets work covers all words laws = each_written_as work (text_hidden asked secrets work.redactor covers all words laws)
 
 -- a name changes no pattern
 named_patterns : (rule : PieceRule) (all secrets : List Secret) → patterns_in (map (named_secret rule all) secrets) ≡ patterns_in secrets

@@ -1,15 +1,10 @@
 -- each occurrence is touched by a find
 pub mod Common
 mod Covered
--- lines that are added one after another
-mod Lines
-mod FormNames
 mod FormRules
-mod FormsSome
 -- what is counted for the patterns that were given
 mod Summing
 mod Runs
-mod PartLines
 -- what is told of doubtful patterns
 mod Doubting
 -- what is written is a redaction, or begins one
@@ -34,7 +29,6 @@ mod Jobs
 mod Limits
 -- which pieces are clean, and what follows
 mod Flaws
-mod NoneSpelled
 mod Free
 mod Hiding
 mod Calls
@@ -42,16 +36,13 @@ mod Warned
 -- what comes of files that are redacted
 mod RedactedCalls
 mod Given
--- files that are replaced in place
+-- files that are replaced
 mod PlacedCalls
--- and a file that is named for the output
-mod Put
+mod Outcomes
 mod Statuses
 -- what is seen of files
 mod Looks
 mod Checks
--- files whose names are not UTF-8
-mod SetApart
 mod Readings
 mod Ready
 -- what a searcher holds can do what it can

@@ -66,8 +66,9 @@ long_named covering before (line ∷ lines) (own ∷ runs) are =
 -- so it is of a text, of the file of a name, and of all files
 module _ (covering : Covering) where
   long_text : (runs : List Occurrence) (left left' : Option (List ℕ)) → HasRuns covering runs left left' → HasLong covering.most (runs_named (whole_number covering) runs) left left'
-  long_text runs left left' (by_line, has, are) =
-      record { text = has.text; reads = has.reads; are = ap (runs_named (whole_number covering)) are ∙ long_named covering [] (stream_lines has.text) by_line has.are }
+  long_text runs left left' has =
+      let (by_line, lines, are) = has.is in
+      record { text = has.text; reads = has.reads; are = ap (runs_named (whole_number covering)) are ∙ long_named covering [] (stream_lines has.text) by_line lines }
 
   pub long_of_runs : (holds : List ℕ → Option (List ℕ)) (names : List (List ℕ)) (runs : List Occurrence) (left left' : Option (List ℕ)) → HaveRuns holds covering names runs left left'
       → HaveLong holds covering.most names (runs_named (whole_number covering) runs) left left'

@@ -1,80 +1,99 @@
--- What comes of files whose lines are looked at, one after another.
-use Rattle.acredact.proofs.Common.{All-nil, Appends-nil, Appends-trans, AreSearchedFor, Automata, CanCoverLines, Covering, Errors, IfOk-weaker, Keeps, LineError, Look, Patterns, SinkGhosts, TellsBytes, Verdict, and-true, concat, covering_by, most_of, or-false, or_assoc, rules_of, searched_automaton, stream_lines, words_of}
-use Rattle.std.proofs.Common.{◌≡◌, inl, ℕ, List, [], ◌∷◌, Option, true, false, refl, ap, ◌∙◌}
-use Rattle.std.specs.Prelude.{Bool, ◌||◌, ◌&&◌, Result, Ok, Err}
-use Rattle.std.proofs.KnownBytes.{Appends-kept}
+-- What comes of files that are looked at, one after another.
+use Rattle.acredact.proofs.Common.{Errors, Keeps-refl, Look, SinkGhosts, TellsBytes, Verdict, and-true, concat, or-false, or_assoc, stream_lines, take-length, tells-later, tells-nothing}
+use Rattle.std.proofs.Common.{◌≡◌, inl, inr, ℕ, List, [], ◌∷◌, ◌++◌, Option, true, false, refl, ap, append-nil, sym, subst, ◌∙◌}
+use Rattle.std.specs.Prelude.{Bool, ◌||◌, ◌&&◌, Result, Ok, Err, IfOk}
+use Rattle.std.specs.Io.{StartsWith}
 use Rattle.std.proofs.Math.Bool.{and_assoc}
-use Rattle.secret_rules.specs.Ready.{CoversTheSame}
-use Rattle.secret_rules.specs.declared.line_cover.LineCover.{LineCover}
-use Rattle.secret_rules.specs.declared.rule.Rule.{Rule}
 use Rattle.acredact.specs.Calls.{IsUnreadLine, TellsOfFiles}
-use Rattle.acredact.specs.Checks.{look_lines}
-use Rattle.acredact.specs.Files.{unread_line}
-use Rattle.acredact.specs.Looks.{both_seen, is_unread_look, verdict_of}
-use Rattle.acredact.specs.RuledChecks.{BeginsFindings, BeginsNamedTelling, BeginsTelling, IsCoveredBy, LineQuest, LookedNamed, LookedText, SeenFile, SeenFiles, SeesNamed, SeesText, files_findings, is_some_line, lines_findings}
-use Rattle.acredact.specs.RunCounts.{HasLineRuns}
-use Rattle.acredact.specs.declared.look.Look.TheVariants.{Unread}
+use Rattle.acredact.specs.Checks.{BeginsLook, IsLookOf, LookedNamed, MayBeTold, Quest, SeesFiles}
+use Rattle.acredact.specs.Files.{BeginsWriting, are_none, unread_line}
+use Rattle.acredact.specs.Findings.{lines_findings}
+use Rattle.acredact.specs.Looks.{BeginsToTell, IsLook, IsReadLook, IsSeen, LookedText, Sought, both_seen, look_lines, verdict_as, verdict_of}
+use Rattle.acredact.specs.Messages.{output_line}
+use Rattle.acredact.specs.Reads.{OfName}
+use Rattle.acredact.specs.declared.look.Look.TheVariants.{Clean, Found, Output, Unread}
 use Rattle.acredact.proofs.Calls.{tells_same}
-use Rattle.acredact.proofs.Done.{both_so}
+use Rattle.acredact.proofs.Done.{concat_both, none_both}
+use Rattle.acredact.proofs.Free.{named_as}
 use Rattle.acredact.proofs.OneFile.{IsFileRead, begun_nothing, each_none, known_begun, name_unread}
-use Rattle.acredact.proofs.RuledFiles.{of_first, told_any, told_more}
-use Rattle.acredact.proofs.RuledText.{known_line_runs}
+use Rattle.acredact.proofs.Redactions.{all_of}
+use Rattle.acredact.proofs.RuledFiles.{told_any, told_more}
+use Rattle.acredact.proofs.Statuses.{tells_one}
 use Rattle.acredact.proofs.Turns.{Joins, also}
 
--- it covers lines as before
-pub still_covered : {A : Type 0} (G : Automata A) (old new : LineCover A) (covering : Covering) → CanCoverLines G new → CoversTheSame old new → IsCoveredBy G old covering → IsCoveredBy G new covering
-still_covered G old new covering can same is = record {
-  can = can;
-  searched = rw same.automaton is.searched;
-  is = rw (same.words, same.rules, same.most) is.is;
+-- what was seen of a text begins what tells of it
+seen_begins : (s : Sought) (name : List ℕ) (found : Bool) (given : List ℕ) (ended : Bool) (part : List ℕ) → IsSeen s name found given ended part → BeginsToTell s name given ended part
+seen_begins (inl r) name found given ended part seen = tt
+seen_begins (inr s) name found given ended part seen = record {
+  lines = stream_lines given;
+  runs = seen.runs;
+  are = seen.are;
+  first = λ bytes may. ([], ap stream_lines (all_of given bytes (rw seen.whole at may)) ∙ sym (append-nil (stream_lines given)));
+  begins = subst (StartsWith (lines_findings s.labels name 1 seen.runs)) (sym seen.told) (take-length (lines_findings s.labels name 1 seen.runs));
 }
 
--- what covers lines by such parts does so by these
-pub covered_by : {A : Type 0} (G : Automata A) (cover : LineCover A) (words : Bool) (rules : List Rule) (most : ℕ) (p : Patterns) → CanCoverLines G cover → AreSearchedFor G (searched_automaton cover) p
-    → words_of cover ≡ words → rules_of cover ≡ rules → most_of cover ≡ most → IsCoveredBy G cover (covering_by words rules most p)
-covered_by G cover words rules most p can searched is_words is_rules is_most = record {
-  can = can;
-  searched = searched;
-  is = rw (is_words, is_rules, is_most) refl;
-}
+none_begins : (s : Sought) (name : List ℕ) → BeginsToTell s name [] false []
+none_begins (inl r) name = tt
+none_begins (inr s) name = record { lines = []; runs = []; are = tt; first = λ bytes may. (stream_lines bytes, refl); begins = refl }
 
--- what is told of a text is told of its file
-pub looked_file : (quest : LineQuest) (name : List ℕ) (result : Result Look LineError) (given rest left left' held held' : Option (List ℕ)) → IsFileRead quest.holds name given rest left left'
-    → LookedText quest.covering quest.labels name result given rest held held' → LookedNamed quest name result left left' held held'
-looked_file quest name result given rest left left' held held' file text = record {
-  whole = IfOk-weaker result _ _ (λ look sees all. named (verdict_of look).found (sees all)) text.whole;
-  begun = file.of (λ l l'. BeginsTelling quest.covering quest.labels name l l' held held') (known_begun file.known given rest held held' file.kept text.begun);
-}
-  where
-    named : (found : Bool) → SeesText quest.covering quest.labels name found given rest held held' → SeesNamed quest name found left left' held held'
-    named found sees = record {
-      runs = sees.runs;
-      has = file.of (HasLineRuns quest.covering sees.runs) (known_line_runs quest.covering sees.runs file.known given rest file.kept sees.has);
-      found_is = sees.found_is;
-      told = sees.told;
-    }
+module _ (quest : Quest) (name : List ℕ) where
+  abbrev Begins : (given : List ℕ) → (ended : Bool) → (part : List ℕ) → Type 0
+  Begins given ended part = BeginsToTell quest.sought name given ended part
 
--- nothing was told of a file, or of any
-pub named_none : (quest : LineQuest) (name : List ℕ) (left held : Option (List ℕ)) → BeginsNamedTelling quest name left left held held
-named_none quest name left held = name_unread quest.holds name (λ l l'. BeginsTelling quest.covering quest.labels name l l' held held) left
-    (λ l. begun_nothing (BeginsFindings quest.covering quest.labels name) (record { lines = []; runs = []; are = tt; first = λ bytes may. (stream_lines bytes, refl); begins = refl }) l held)
+  -- nothing was read
+  pub look_none : (left held : Option (List ℕ)) → BeginsLook quest name left left held held
+  look_none left held = name_unread quest.holds name (λ l l'. BeginsWriting Begins l l' held held) left (λ l. begun_nothing Begins (none_begins quest.sought name) l held)
+
+  -- the file is that of the input, or of the folder
+  pub looked_file : {X : Type 0} (result : Result Look X) (held held' : Option (List ℕ)) {given rest left left' : Option (List ℕ)} → IsFileRead quest.holds name given rest left left' → IfOk result IsReadLook
+      → LookedText quest.sought name result given rest held held' → LookedNamed quest name result left left' held held'
+  looked_file (Ok look) held held' {given} {rest} {left} {left'} file why text = (
+    told look why,
+    file.of (λ l l'. BeginsWriting (λ given ended part. IsLook quest.sought name look given ended part) l l' held held') (known_begun file.known given rest held held' file.kept text),
+  )
+    where
+      told : (look : Look) → IsReadLook look → MayBeTold quest name look
+      told (Unread reason) why = inl why
+      told Output why = absurd why
+      told look why = tt
+  looked_file (Err error) held held' {given} {rest} {left} {left'} file why text =
+      file.of (λ l l'. BeginsWriting Begins l l' held held') (known_begun file.known given rest held held' file.kept text)
+
+  -- and what was seen of it begins what tells of it
+  look_begins : (look : Look) (left left' held held' : Option (List ℕ)) → IsLookOf quest name look left left' held held' → BeginsLook quest name left left' held held'
+  look_begins look left left' held held' is = by look is.1
+    where
+      whole : (found : Bool) → OfName quest.holds name (λ l l'. BeginsWriting (λ given ended part. IsSeen quest.sought name found given ended part) l l' held held') left left' → BeginsLook quest name left left' held held'
+      whole found seen = named_as quest.holds name (λ l l'. BeginsWriting (λ given ended part. IsSeen quest.sought name found given ended part) l l' held held') (λ l l'. BeginsWriting Begins l l' held held')
+          (λ l l' text. record {
+            given = text.given;
+            ended = text.ended;
+            read = text.read;
+            at_end = text.at_end;
+            is = (text.is.0, seen_begins quest.sought name found text.given text.ended text.is.0 text.is.1, text.is.2);
+          }) left left' seen
+
+      by : (look : Look) → OfName quest.holds name (λ l l'. BeginsWriting (λ given ended part. IsLook quest.sought name look given ended part) l l' held held') left left' → BeginsLook quest name left left' held held'
+      by Clean seen = whole false seen
+      by Found seen = whole true seen
+      by (Unread reason) seen = seen
+      by Output seen = seen
 
 -- what a look tells of its file
-pub look_told : {E : Type 0} (X : Type 0) (K : SinkGhosts E) (name : List ℕ) (look : Look) (errors errors' : Errors E) → TellsBytes K errors errors' (concat (look_lines name look)) → (is_unread_look look ≡ false → errors' ≡ errors)
+pub look_told : {E : Type 0} (X : Type 0) (K : SinkGhosts E) (name : List ℕ) (look : Look) (errors errors' : Errors E) → TellsBytes K errors errors' (concat (look_lines name look)) → ((verdict_of look).all ≡ true → errors' ≡ errors)
     → TellsOfFiles {X = X} K (name ∷ []) (Ok (verdict_of look).all) errors errors'
-look_told X K name (Unread reason) errors errors' told quiet = record {
-  first = unread_line name reason;
-  is_line = (name, inl refl, inl (reason, refl));
-  more = [];
-  are_lines = All-nil (IsUnreadLine (name ∷ []));
-  written = told;
-}
+look_told X K name (Unread reason) errors errors' told quiet = tells_one K (IsUnreadLine (name ∷ [])) errors errors' (unread_line name reason) (name, inl refl, inl (reason, refl)) (subst (TellsBytes K errors errors') (append-nil (unread_line name reason)) told)
+look_told X K name Output errors errors' told quiet = tells_one K (IsUnreadLine (name ∷ [])) errors errors' (output_line name) (name, inl refl, inr refl) (subst (TellsBytes K errors errors') (append-nil (output_line name)) told)
 look_told X K name look errors errors' told quiet = quiet refl
 
--- what is seen of some and of others
-abbrev pub verdict_as : (found all : Bool) → Verdict
-verdict_as found all = record { found = found; all = all }
+-- a look tells nothing just where it comes to an end
+none_told : (name : List ℕ) (look : Look) → (verdict_of look).all ≡ are_none (look_lines name look)
+none_told name Clean = refl
+none_told name Found = refl
+none_told name (Unread reason) = refl
+none_told name Output = refl
 
+-- what is seen of some and of others
 abbrev pub verdicts_joined : Joins Verdict
 verdicts_joined = record {
   both = λ first more. both_seen first more;
@@ -88,50 +107,45 @@ verdicts_joined = record {
 abbrev pub SeenState : Type 0 → Type 0
 SeenState E = Option (List ℕ) × Option (List ℕ) × Errors E
 
-module _ {E : Type 0} (K : SinkGhosts E) (quest : LineQuest) where
-  abbrev pub ComesOfSeen : List (List ℕ) → Result Verdict LineError → (old new : SeenState E) → Type 0
-  ComesOfSeen names result old new = SeenFiles K quest names result old.0 new.0 old.1 new.1 old.2 new.2
+module _ {E X : Type 0} (K : SinkGhosts E) (quest : Quest) where
+  abbrev pub ComesOfLooks : List (List ℕ) → Result Verdict X → (old new : SeenState E) → Type 0
+  ComesOfLooks names result old new = SeesFiles K quest names result old.0 new.0 old.1 new.1 old.2 new.2
 
-  module _ {name : List ℕ} {names : List (List ℕ)} {old mid : SeenState E} where
+  module _ {name : List ℕ} {names : List (List ℕ)} (look : Look) {old mid : SeenState E} (looks : IsLookOf quest name look old.0 mid.0 old.1 mid.1) (lines_told : TellsBytes K old.2 mid.2 (concat (look_lines name look)))
+      (told : TellsOfFiles {X = X} K (name ∷ []) (Ok (verdict_of look).all) old.2 mid.2) where
     -- what comes of a file, and then of others
-    pub seen_more : {seen : Verdict} → SeenFile K quest name (Ok seen) old.0 mid.0 old.1 mid.1 old.2 mid.2
-        → (result : Result Verdict LineError) (end : SeenState E) → ComesOfSeen names result mid end → ComesOfSeen (name ∷ names) (also verdicts_joined seen result) old end
-    seen_more {seen} one (Ok verdict) end more = record {
-      whole = λ is.
-          let both = both_so seen.all verdict.all (seen.all && verdict.all) refl is in
-          let first = one.whole both.0 in
-          let others = more.whole both.1 in
-          record {
-            runs = first.runs ∷ others.runs;
-            have = (mid.0, first.has, others.have);
-            found_is = ap (λ (b : Bool). b || verdict.found) first.found_is ∙ ap (λ (b : Bool). is_some_line first.runs || b) others.found_is;
-            told = Appends-trans old.1 mid.1 end.1 (lines_findings quest.labels name 1 first.runs) (files_findings quest.labels names others.runs) first.told others.told;
-          };
-      begun = (mid.0, mid.1, one.begun, more.begun);
-      told = told_more K name names {X = LineError} seen.all (Ok verdict.all) old.2 mid.2 end.2 one.told more.told;
-    }
-    seen_more {seen} one (Err error) end more = record {
-      whole = tt;
-      begun = (mid.0, mid.1, one.begun, more.begun);
-      told = told_more K name names seen.all (Err error) old.2 mid.2 end.2 one.told more.told;
+    pub looks_more : (result : Result Verdict X) (end : SeenState E) → ComesOfLooks names result mid end → ComesOfLooks (name ∷ names) (also verdicts_joined (verdict_of look) result) old end
+    looks_more (Ok verdict) end more =
+        let (lines, is_all, seen, later) = more.seen in
+        record {
+          seen = (
+            look_lines name look ++ lines,
+            none_both (look_lines name look) lines (verdict_of look).all verdict.all ((verdict_of look).all && verdict.all) (none_told name look) is_all refl,
+            (look, verdict.found, lines, refl, refl, mid.0, mid.1, looks, seen),
+            subst (TellsBytes K old.2 end.2) (sym (concat_both (look_lines name look) lines)) (tells-later K lines_told later),
+          );
+          begun = (mid.0, mid.1, look_begins quest name look old.0 mid.0 old.1 mid.1 looks, more.begun);
+          told = told_more K name names {X = X} (verdict_of look).all (Ok verdict.all) old.2 mid.2 end.2 told more.told;
+        }
+    looks_more (Err error) end more = record {
+      seen = tt;
+      begun = (mid.0, mid.1, look_begins quest name look old.0 mid.0 old.1 mid.1 looks, more.begun);
+      told = told_more K name names (verdict_of look).all (Err error) old.2 mid.2 end.2 told more.told;
     }
 
-    -- one failed
-    pub seen_failed : {error : LineError} → SeenFile K quest name (Err error) old.0 mid.0 old.1 mid.1 old.2 mid.2 → ComesOfSeen (name ∷ names) (Err error) old mid
-    seen_failed {error} one = record {
-      whole = tt;
-      begun = (mid.0, mid.1, one.begun, each_none (BeginsNamedTelling quest) (named_none quest) names mid.0 mid.1);
-      told = told_any K (name ∷ []) (IsUnreadLine (name ∷ names)) (Err error) old.2 mid.2 (of_first K name names) one.told;
-    }
+  -- of none
+  pub looks_of_none : {old : SeenState E} → ComesOfLooks [] (Ok verdicts_joined.none) old old
+  looks_of_none {old} = record { seen = ([], refl, (refl, refl, refl, Keeps-refl old.1), tells-nothing K old.2); begun = (refl, Keeps-refl old.1); told = refl }
 
-  -- behind all there is a flush, which may fail
-  module _ {old : SeenState E} {held' : Option (List ℕ)} (kept : Keeps old.1 held') where
-    pub seen_flushed : ComesOfSeen [] (Ok verdicts_joined.none) old (old.0, held', old.2)
-    seen_flushed = record {
-      whole = λ is. record { runs = []; have = refl; found_is = refl; told = Appends-kept old.1 old.1 held' [] (Appends-nil old.1) kept };
-      begun = (refl, kept);
-      told = refl;
-    }
+  -- a look fails, or what comes behind all
+  pub looks_failed : {name : List ℕ} {names : List (List ℕ)} {error : X} {old : SeenState E} {left held : Option (List ℕ)} → BeginsLook quest name old.0 left old.1 held → ComesOfLooks (name ∷ names) (Err error) old (left, held, old.2)
+  looks_failed {name} {names} {error} {old} {left} {held} begun = record {
+    seen = tt;
+    begun = (left, held, begun, each_none (BeginsLook quest) (look_none quest) names left held);
+    told = tells_same K (IsUnreadLine (name ∷ names)) old.2 old.2 refl;
+  }
 
-    pub seen_unflushed : {error : LineError} → ComesOfSeen [] (Err error) old (old.0, held', old.2)
-    seen_unflushed = record { whole = tt; begun = (refl, kept); told = tells_same K (IsUnreadLine []) old.2 old.2 refl }
+  pub looks_cut : {names : List (List ℕ)} {verdict : Verdict} {error : X} {left left' held held' : Option (List ℕ)} {errors errors' : Errors E} → SeesFiles K {X = X} quest names (Ok verdict) left left' held held' errors errors'
+      → SeesFiles K quest names (Err error) left left' held held' errors errors'
+  looks_cut {names} {verdict} {error} {left} {left'} {held} {held'} {errors} {errors'} files =
+      record { seen = tt; begun = files.begun; told = told_any {X = X} K names (IsUnreadLine names) (Ok verdict.all) errors errors' (λ line is. is) files.told }

@@ -1,5 +1,5 @@
 -- What a look at a stream says, by what the first call of an iterator over its matches answers, or by what a cover of its words counts.
-use Rattle.acredact.proofs.Common.{Consumes-nil, CountsRunsWith, CountsThese, Ghosts, IsAtEnd, IsMember, Memory, Occurrence, Patterns, PieceRule, PositionLimit, Read, Refused, SinkGhosts, SourceGhosts, StreamError, Write, WriteZero, all-covers, all-made, all_runs, common_steps, counted, is_read_fault, is_write_fault, is_write_of_nothing, plain_search, runs_named, shortest}
+use Rattle.acredact.proofs.Common.{Appends-nil, Consumes-nil, CountsRunsWith, CountsThese, Ghosts, IsAtEnd, IsMember, Memory, Occurrence, Patterns, PieceRule, Read, Refused, SinkGhosts, SourceGhosts, StreamError, Write, WriteZero, all-covers, all-made, all_runs, common_steps, counted, is_write_fault, is_write_of_nothing, plain_search, runs_named, shortest}
 use Rattle.std.proofs.Common.{◌≡◌, ◌≢◌, inl, inr, ℕ, ◌<◌, ◌≤◌, List, [], ◌∷◌, Option, true, false, length, map, refl, sym, ap, subst, ◌∙◌, arith, le_refl}
 use Rattle.std.specs.Prelude.{Bool, MatchBool, None, Some, Result, Ok, Err, IfOk, slice_index}
 use Rattle.aho_core.specs.Answer.{IsAnswer}
@@ -10,15 +10,14 @@ use Rattle.aho_devices.specs.Errors.{CountsErrors}
 use Rattle.aho_stream.specs.FindRuns.{FindsAll, FindsAlong, FindsSoFar}
 use Rattle.aho_stream.specs.Finds.{FindsError, FindsNextInStream}
 use Rattle.aho_stream.specs.Iterators.{CanGoOn}
-use Rattle.aho_stream.specs.Replacing.{IsStreamFault, MayBe}
+use Rattle.aho_stream.specs.Replacing.{IsStreamFault}
 use Rattle.aho_stream.specs.declared.finds.StreamFindIter.{StreamFindIter}
 use Rattle.aho_stream.specs.declared.progress.StreamProgress.{StreamProgress}
 use Rattle.aho_stream.proofs.FindRuns.{find_steps}
-use Rattle.acredact.specs.Faults.{IsReadReason}
-use Rattle.acredact.specs.Looks.{IsLook, IsLookEnd, LooksAt, NoneCounts, SomeCounts, is_failed_look, look_of, sought}
+use Rattle.acredact.specs.Looks.{CountsInGiven, IsLookEnd, IsReadLook, LookedText, LooksAt, LooksSo, SomeCounts, look_of, occurs_of, sought}
 use Rattle.acredact.specs.Secrets.{Redactor}
 use Rattle.acredact.proofs.Covered.{occurs_some}
-use Rattle.acredact.proofs.OneFile.{ended_text, ends_by}
+use Rattle.acredact.proofs.OneFile.{begun_writing}
 use Rattle.acredact.proofs.Redactions.{all_of}
 
 -- the first find is the answer of the search
@@ -32,49 +31,24 @@ error_ends p s s' given (Write fault) is = is
 error_ends p s s' given WriteZero is = absurd is
 error_ends p s s' given error is = tt
 
-fault_same : (A B : Type 0) (error : StreamError) → is_read_fault {A = A} (Err error) ≡ is_read_fault {A = B} (Err error)
-fault_same A B (Read fault) = refl
-fault_same A B error = refl
-
 module _ {A R : Type 0} (G : Ghosts A) (S : SourceGhosts R) (p : Patterns) (it rest : StreamFindIter A R) (along : FindsAlong S (find_steps G S) p it) (can : CanGoOn G it.chunks) where
-  -- there is none
-  pub looks_none : FindsNextInStream G S it.chunks rest.chunks None → LooksAt S (sought p false) (Ok false) it.chunks.source.now rest.chunks.source.now
-  looks_none step =
+  -- what the first find says
+  pub looks_first : (first : Option (Result Occurrence StreamError)) → FindsNextInStream G S it.chunks rest.chunks first → LooksAt S (sought p false) (occurs_of first) it.chunks.source.now rest.chunks.source.now
+  looks_first None step =
       let all : FindsAll S p it.chunks.source.now rest.chunks.source.now [] = along.all [] rest (it, refl, step) refl in
-      record {
-        given = all.given;
-        ended = true;
-        gives = all.gives;
-        seen = (refl, first_answer p all.given None all.all);
-        read_failed = step.call.read_failed;
-        only = tt;
-      }
-
-  -- there is one
-  pub looks_some : (m : Occurrence) → FindsNextInStream G S it.chunks rest.chunks (Some (Ok m)) → LooksAt S (sought p false) (Ok true) it.chunks.source.now rest.chunks.source.now
-  looks_some m step =
+      record { given = all.given; ended = true; gives = all.gives; seen = (refl, first_answer p all.given None all.all); only = tt }
+  looks_first (Some (Ok m)) step =
       let so : FindsSoFar S p it.chunks.source.now rest.chunks.source.now (Ok m ∷ []) = along.so_far (Ok m ∷ []) rest (rest, step, refl) in
       record {
         given = so.given;
         ended = so.ended;
         gives = so.gives;
         seen = λ bytes may. (m, (first_answer p bytes (Some m) (subst (λ (l : List ℕ). IsNextFind p (plain_search l) None (Some m)) (sym may.1) (so.first may.0 may.2).0)).0);
-        read_failed = step.call.read_failed;
         only = tt;
       }
-
-  -- the stream cannot be read on
-  pub looks_error : (error : StreamError) → FindsNextInStream G S it.chunks rest.chunks (Some (Err error)) → LooksAt S (sought p false) (Err error) it.chunks.source.now rest.chunks.source.now
-  looks_error error step =
+  looks_first (Some (Err error)) step =
       let so : FindsSoFar S p it.chunks.source.now rest.chunks.source.now (Err error ∷ []) = along.so_far (Err error ∷ []) rest (rest, step, refl) in
-      record {
-        given = so.given;
-        ended = so.ended;
-        gives = so.gives;
-        seen = tt;
-        read_failed = step.call.read_failed ∙ ap (λ (b : Bool). counted b (S.failures it.chunks.source.now)) (fault_same Occurrence Bool error);
-        only = error_ends can.0 it.chunks.progress rest.chunks.progress _ error (step.finds can.0 can.1 can.2 can.3);
-      }
+      record { given = so.given; ended = so.ended; gives = so.gives; seen = tt; only = error_ends can.0 it.chunks.progress rest.chunks.progress _ error (step.finds can.0 can.1 can.2 can.3) }
 
 -- nothing was read, since there was no memory
 pub looks_memory : {R : Type 0} (S : SourceGhosts R) (r : Redactor) (source : R) → LooksAt S r (Err Memory) source source
@@ -83,7 +57,6 @@ looks_memory S r source = record {
   ended = false;
   gives = record { bytes = Consumes-nil (S.remaining source); end = refl };
   seen = tt;
-  read_failed = refl;
   only = tt;
 }
 
@@ -115,11 +88,11 @@ module _ {R : Type 0} (S : SourceGhosts R) (p : Patterns) (AreSearched : Pattern
 
   -- so a look for words says what the counts do
   pub looks_counted : (found : Bool) → MatchBool found ((number : ℕ) × (number < length counts) × (1 ≤ slice_index counts number)) ((number : ℕ) → number < length counts → slice_index counts number ≡ 0)
-      → S.failures source' ≡ S.failures source → LooksAt S (sought p true) (Ok found) source source'
-  looks_counted found counted failed = record { given = whole.given; ended = true; gives = whole.gives; seen = by found counted; read_failed = failed; only = tt }
+      → LooksAt S (sought p true) (Ok found) source source'
+  looks_counted found counted = record { given = whole.given; ended = true; gives = whole.gives; seen = by found counted; only = tt }
     where
       by : (found : Bool) → MatchBool found ((number : ℕ) × (number < length counts) × (1 ≤ slice_index counts number)) ((number : ℕ) → number < length counts → slice_index counts number ≡ 0)
-          → MatchBool found ((bytes : List ℕ) → MayBe whole.given true bytes → SomeCounts (sought p true) bytes) ((true ≡ true) × NoneCounts (sought p true) whole.given)
+          → CountsInGiven (sought p true) found whole.given true
       by true (number, within, one) = λ bytes may.
           let below : number < length zeros = omega (arith, within, counted_so.as_many) in
           let (run, member) = run_of number Runs (omega (arith, one, counted_so.grown number below, zero number below)) in
@@ -150,7 +123,6 @@ looks_cut S K p AreSearched rule source source' sink sink' counts counts' error 
   ended = written.ended;
   gives = written.gives;
   seen = tt;
-  read_failed = errors.read_failed ∙ ap (λ (b : Bool). counted b (S.failures source)) (fault_same (Unit {0}) Bool error);
   only = fault_looks error is
       (sym (unfailed sink') ∙ errors.write_failed ∙ ap (counted (is_write_fault {A = Unit {0}} (Err error))) (unfailed sink))
       (sym (takes sink') ∙ errors.took_nothing ∙ ap (counted (is_write_of_nothing {A = Unit {0}} (Err error))) (takes sink));
@@ -159,20 +131,18 @@ looks_cut S K p AreSearched rule source source' sink sink' counts counts' error 
 -- what a look at a stream means for its file
 module _ {R : Type 0} (S : SourceGhosts R) (r : Redactor) (source source' : R) (before : Option (List ℕ)) (left : S.remaining source ≡ before) (none : S.empty_reads source ≡ 0)
     (ends : S.empty_reads source' ≢ 0 → IsAtEnd (S.remaining source')) where
-  pub look_is : (occurs : Result Bool StreamError) → LooksAt S r occurs source source' → IfOk (look_of occurs) (λ look. IsLook r IsReadReason look before (S.remaining source'))
-  look_is (Ok true) looks = record {
-    given = looks.given;
-    ended = looks.ended;
-    read = rw left at looks.gives.bytes;
-    at_end = ends_by (S.empty_reads source) (S.empty_reads source') looks.ended none ends looks.gives.end;
-    some = looks.seen;
-  }
-  look_is (Ok false) looks = (looks.given, ended_text S source source' before left none ends looks.given (rw looks.seen.0 at looks.gives), looks.seen.1)
-  look_is (Err (Read fault)) looks = (tt, (looks.given, rw left at looks.gives.bytes))
-  look_is (Err PositionLimit) looks = (tt, (looks.given, rw left at looks.gives.bytes))
-  look_is (Err error) looks = tt
+  pub look_is : (name : List ℕ) (held : Option (List ℕ)) (occurs : Result Bool StreamError) → LooksAt S r occurs source source' → LookedText (inl r) name (look_of occurs) before (S.remaining source') held held
+  look_is name held occurs looks = begun_writing S source source' before left none ends held held looks.given looks.ended [] looks.gives (by occurs looks.seen) (Appends-nil held)
+    where
+      by : (occurs : Result Bool StreamError) → IfOk occurs (λ found. CountsInGiven r found looks.given looks.ended) → LooksSo (inl r) name (look_of occurs) looks.given looks.ended []
+      by (Ok true) seen = seen
+      by (Ok false) seen = seen
+      by (Err (Read fault)) seen = tt
+      by (Err error) seen = tt
 
-pub look_failed : (occurs : Result Bool StreamError) → is_read_fault occurs ≡ is_failed_look (look_of occurs)
-look_failed (Ok true) = refl
-look_failed (Err (Read fault)) = refl
-look_failed occurs = refl
+-- it is told that one cannot be read just where a read fails or there is too much
+pub look_reads : (occurs : Result Bool StreamError) → IfOk (look_of occurs) IsReadLook
+look_reads (Ok true) = tt
+look_reads (Ok false) = tt
+look_reads (Err (Read fault)) = tt
+look_reads (Err error) = tt

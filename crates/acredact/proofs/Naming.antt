@@ -1,11 +1,11 @@
 -- What is loaded where a key names the secrets.
 use Rattle.acredact.proofs.Common.{Forms, PieceRule}
-use Rattle.std.proofs.Common.{◌≡◌, ℕ, Bool, true, false, List, Option, refl, sym, ap, subst}
+use Rattle.std.proofs.Common.{◌≡◌, ℕ, Bool, true, false, List, Option, refl, sym, subst}
 use Rattle.std.specs.Prelude.{Some, None, if◌then◌else◌}
 use Rattle.std.proofs.lemmas.List.Elements.{All-map}
 use Rattle.acredact.specs.Pseudonyms.{pseudonym_rule}
 use Rattle.acredact.specs.Arguments.{Given, has}
-use Rattle.acredact.specs.Loading.{AreLoaded, Loaded, Reading, secrets_by}
+use Rattle.acredact.specs.Loading.{Reading, secrets_by}
 use Rattle.acredact.specs.Named.{all_named, named_secret}
 use Rattle.acredact.specs.Ruled.{AreRuledLoaded, RuledLoad}
 use Rattle.acredact.specs.Tables.{HaveNoEmpty, Secret}
@@ -13,7 +13,7 @@ use Rattle.acredact.specs.declared.options.Word.TheVariants.{IgnoreCase}
 use Rattle.acredact.proofs.Ready.{IsSomeSecret, given_some}
 
 -- no pattern that is named is empty
-pub named_some : (rule : PieceRule) (secrets named : List Secret) → named ≡ all_named rule secrets → HaveNoEmpty secrets → HaveNoEmpty named
+named_some : (rule : PieceRule) (secrets named : List Secret) → named ≡ all_named rule secrets → HaveNoEmpty secrets → HaveNoEmpty named
 named_some rule secrets named is are = subst HaveNoEmpty (sym is) (All-map IsSomeSecret (named_secret rule secrets) secrets are)
 
 -- what is so of secrets, named or not, is so of those that are loaded
@@ -26,12 +26,8 @@ either_way P given secrets (Some key) plain named = by (has Forms given)
     by false = plain
 
 -- no pattern of them is empty
-some_loaded : (given : List Given) (secrets loaded : List Secret) (key : Option (List ℕ)) → loaded ≡ secrets_by given key secrets → HaveNoEmpty secrets → HaveNoEmpty loaded
+pub some_loaded : (given : List Given) (secrets loaded : List Secret) (key : Option (List ℕ)) → loaded ≡ secrets_by given key secrets → HaveNoEmpty secrets → HaveNoEmpty loaded
 some_loaded given secrets loaded key is some = subst HaveNoEmpty (sym is) (either_way HaveNoEmpty given secrets key some (λ rule. named_some rule secrets _ refl some))
-
-pub loaded_some : (reading : Reading) (given : List Given) (load : Loaded) (left left' : Option (List ℕ)) → AreLoaded reading given load left left' → HaveNoEmpty load.secrets
-loaded_some reading given load left left' loaded =
-    some_loaded given loaded.secrets load.secrets loaded.key (ap (λ (l : Loaded). l.secrets) loaded.is) (given_some reading given loaded.secrets left loaded.between loaded.given_all)
 
 pub ruled_some : (reading : Reading) (given : List Given) (load : RuledLoad) (left left' : Option (List ℕ)) → AreRuledLoaded reading given load left left' → HaveNoEmpty load.secrets
 ruled_some reading given load left left' loaded =

@@ -1,9 +1,10 @@
 -- How an argument is read: by what it begins with.
-use Rattle.std.proofs.Common.{◌≡◌, inl, inr, ◌==◌, ◌≤◌, ℕ, false, List, [], ◌∷◌, length, refl, ap, arith}
-use Rattle.std.specs.Prelude.{◌≢◌, None}
+use Rattle.acredact.proofs.Common.{same_Some}
+use Rattle.std.proofs.Common.{◌≡◌, inl, inr, ◌==◌, ℕ, false, List, [], ◌∷◌, refl, ap}
+use Rattle.std.specs.Prelude.{◌≢◌, Err, Some, slice_get}
 use Rattle.std.proofs.lemmas.Bool.{cases_Bool, eqb-true}
 use Rattle.acredact.specs.Arguments.{Given, by_letter, by_letters}
-use Rattle.acredact.specs.Mistakes.{line_of_letter, line_of_letters}
+use Rattle.acredact.specs.Mistakes.{letter_line}
 
 -- one byte in front of others, or another
 first_not : (wanted first : ℕ) (rest : List ℕ) → ((others : List ℕ) → (first ∷ rest) ≢ wanted ∷ others) → (first == wanted) ≡ false
@@ -15,19 +16,19 @@ first_not wanted first rest lacks =
 
 -- letters that do not begin with that of an option without a value
 pub last_letter : (letters : List ℕ) (items : List Given) → ((rest : List ℕ) → letters ≢ 105 ∷ rest) → ((rest : List ℕ) → letters ≢ 119 ∷ rest)
-    → (by_letters letters items ≡ by_letter letters items) × (line_of_letters letters ≡ line_of_letter letters)
-last_letter [] items lacks other = (refl, refl)
+    → by_letters letters items ≡ by_letter letters items
+last_letter [] items lacks other = refl
 last_letter (letter ∷ rest) items lacks other =
     let not = first_not 105 letter rest lacks in
     let nor = first_not 119 letter rest other in
-    (rw (not, nor) refl, rw (not, nor) refl)
+    rw (not, nor) refl
 
 -- a letter that no option has
-pub no_letter : (letters : List ℕ) (items : List Given) → 1 ≤ length letters → ((rest : List ℕ) → letters ≢ 101 ∷ rest) → ((rest : List ℕ) → letters ≢ 102 ∷ rest) → ((rest : List ℕ) → letters ≢ 116 ∷ rest)
-    → by_letter letters items ≡ None
-no_letter [] items some first second third = absurd (omega (arith, some))
-no_letter (letter ∷ behind) items some first second third =
-    let one = first_not 101 letter behind first in
-    let two = first_not 102 letter behind second in
-    let three = first_not 116 letter behind third in
-    rw one (rw two (rw three refl))
+pub no_letter : (letters : List ℕ) (letter : ℕ) (items : List Given) → slice_get letters 0 ≡ Some letter → ((rest : List ℕ) → letters ≢ 101 ∷ rest) → ((rest : List ℕ) → letters ≢ 102 ∷ rest) → ((rest : List ℕ) → letters ≢ 116 ∷ rest)
+    → by_letter letters items ≡ Err (letter_line letter)
+no_letter [] letter items is lacks_e lacks_f lacks_t = absurd (cc)
+no_letter (first ∷ behind) letter items is lacks_e lacks_f lacks_t =
+    let one = first_not 101 first behind lacks_e in
+    let two = first_not 102 first behind lacks_f in
+    let three = first_not 116 first behind lacks_t in
+    rw (one, two, three) (ap (λ (byte : ℕ). Err (letter_line byte)) (same_Some first letter is))

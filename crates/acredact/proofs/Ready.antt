@@ -1,8 +1,8 @@
 -- What is loaded can be searched for.
 use Rattle.acredact.proofs.Common.{All-append, All-cons, All-head, All-nil, All-tail, AsWord, Bor, CanBegin, Folders, Form, No, Patterns, Standard, filter_map, flat_map, length-map, pieces_of, shortest, slice_split, strip_last}
 use Rattle.std.proofs.Common.{◌≡◌, ℕ, ◌≤◌, Bool, false, true, List, [], ◌∷◌, Option, length, map, refl, sym, ap, subst, ◌∙◌, arith}
-use Rattle.std.specs.Prelude.{MatchBool, ◌||◌, ◌&&◌, codes, if◌then◌else◌, nat_eq, nat_lt, option_and_then, unwrap_or, IsOk, Some, None}
-use Rattle.std.proofs.lemmas.Bool.{ltb-false, or_parts}
+use Rattle.std.specs.Prelude.{MatchBool, ◌&&◌, codes, if◌then◌else◌, nat_eq, nat_lt, option_and_then, unwrap_or, IsOk, Some, None}
+use Rattle.std.proofs.lemmas.Bool.{ltb-false}
 use Rattle.std.proofs.lemmas.Slice.Eq.{bytes_eq-Decides}
 use Rattle.aho_core.specs.declared.search.MatchKind.{MatchKind}
 use Rattle.chromesquid.proofs.Built.{count_of, finds_by, shortest_of, start_of}
@@ -10,23 +10,22 @@ use Rattle.chromesquid.specs.Searcher.{Answers, IsBuiltFrom, Searcher}
 use Rattle.chromesquid.specs.contracts.automaton.AhoCorasickAutomaton.TheImpl.{ghosts as of_searcher}
 use Rattle.secret_rules.specs.OpenLines.{CanSearch}
 use Rattle.tool_parts.specs.Arguments.{kind_by}
-use Rattle.acredact.specs.Arguments.{Given, GivesNoPattern, covers_asked, has, is_cover, kind_asked, last_value, words_asked}
+use Rattle.acredact.specs.Arguments.{Given, covers_asked, has, is_cover, kind_asked, last_value, words_asked}
 use Rattle.acredact.specs.Builds.{patterns_by_given}
-use Rattle.acredact.specs.Calls.{call_of, gives_pattern, gives_value, reading_by, rules_asked}
 use Rattle.acredact.specs.Forms.{forms_from}
-use Rattle.acredact.specs.Loading.{AreGiven, OptionGives, Reading, Rules, form_by, reading_of_lists, rules_for, values_in_text}
-use Rattle.acredact.specs.Looks.{CanLook}
+use Rattle.acredact.specs.Loading.{AreGiven, OptionGives, Reading, Rules, reading_of_lists, rules_for, values_in_text, whole_value}
+use Rattle.acredact.specs.Checks.{IsByTexts, texts_looked_for}
 use Rattle.acredact.specs.Parts.{ArePartsBy, GivesPattern, is_of_lines, line_secrets, lines_secrets, secret_given}
 use Rattle.acredact.specs.Ready.{IsReadyFor}
 use Rattle.acredact.specs.Reads.{EachGives}
 use Rattle.acredact.specs.Secrets.{CanRedact}
 use Rattle.acredact.specs.Tables.{AreOfLines, HaveNoEmpty, Secret, patterns_in}
-use Rattle.acredact.specs.Values.{GiveEach, no_bytes, value_of_entry, whole_in}
+use Rattle.acredact.specs.Values.{GiveEach, no_bytes, value_of_entry}
 use Rattle.acredact.specs.declared.options.Word.{Word}
 use Rattle.acredact.specs.declared.options.Word.TheVariants.{Env, EnvFile, Kind, Pattern, Patterns as PatternFile, Table, Whole}
 use Rattle.acredact.specs.declared.load.Lists.{Lists}
 use Rattle.acredact.specs.declared.prepare.Ready.{Ready}
-use Rattle.acredact.proofs.FormsSome.{all_forms_some}
+use Rattle.acredact.proofs.FormRules.{all_forms_some}
 
 abbrev pub IsSomeSecret : Secret → Type 0
 IsSomeSecret secret = 1 ≤ length secret.pattern
@@ -84,11 +83,11 @@ values_some parts values secrets give = each_some _ (λ value some before after.
 
 option_some : (reading : Reading) (word : Word) (value : List ℕ) (secrets : List Secret) (left left' : Option (List ℕ)) → OptionGives reading word value secrets left left' → HaveNoEmpty secrets
 option_some reading Pattern value secrets left left' (gives, same) = pattern_some reading.rules.parts value secrets gives
-option_some reading PatternFile value secrets left left' gives = lines_some _ _ secrets gives.held.held
-option_some reading Table value secrets left left' gives = lines_some _ _ secrets gives.held.held
+option_some reading PatternFile value secrets left left' gives = lines_some _ _ secrets gives.held.holds.held
+option_some reading Table value secrets left left' gives = lines_some _ _ secrets gives.held.holds.held
 option_some reading Env value secrets left left' ((entries, of, gives), same) = values_some reading.rules.parts (filter_map (value_of_entry value) entries) secrets gives.given
-option_some reading EnvFile value secrets left left' gives = values_some reading.rules.parts (values_in_text reading.rules gives.text) secrets gives.held.given.given
-option_some reading Whole value secrets left left' gives = values_some reading.rules.parts (whole_in (form_by reading.rules false) gives.text ∷ []) secrets gives.held.given.given
+option_some reading EnvFile value secrets left left' gives = values_some reading.rules.parts (values_in_text reading.rules gives.text) secrets gives.held.holds.given.given
+option_some reading Whole value secrets left left' gives = values_some reading.rules.parts (whole_value reading.rules gives.text) secrets gives.held.holds.given
 option_some reading other value secrets left left' gives = none_some secrets gives.0
 
 -- and so is none of their forms
@@ -140,14 +139,17 @@ module _ (given : List Given) (secrets : List Secret) (ready : Ready) (is : IsRe
       }
 
   -- and looks at them
-  pub ready_looks : (words : Bool) → words ≡ words_asked given → CanLook of_searcher ready.searcher words
+  pub ready_looks : (words : Bool) → words ≡ words_asked given → IsByTexts of_searcher ready.searcher words (texts_looked_for given secrets)
   ready_looks words same =
       let p = patterns_by_given given (patterns_in secrets) in
       record {
-        patterns = p;
-        of = is.of;
-        begins = begins_of ready.searcher p is.of is.answers (some_shortest secrets some);
-        standard = λ asked. finds_by p ready.searcher is.of ∙ covers_standard given (words_cover (covers_asked given) (has AsWord given) (sym same ∙ asked));
+        can = record {
+          patterns = p;
+          of = is.of;
+          begins = begins_of ready.searcher p is.of is.answers (some_shortest secrets some);
+          standard = λ asked. finds_by p ready.searcher is.of ∙ covers_standard given (words_cover (covers_asked given) (has AsWord given) (sym same ∙ asked));
+        };
+        is = rw same refl;
       }
 
 -- lists are read alike
@@ -155,17 +157,3 @@ pub reading_from : {F X : Type 0} (D : Folders F X) (lists : Lists F) (folder : 
     → P (reading_of_lists D lists) → P (record { holds = D.holds folder; refuses = D.refuses folder; environment = D.environment folder; rules = rules })
 reading_from {F} D lists folder rules same alike P is =
     rw (← same, ← alike) is
-
--- so what they give is what a call asks for
-pub given_by : {F X : Type 0} (D : Folders F X) (folder : F) (given : List Given) (lists : Lists F) → lists.folder.now ≡ folder → rules_for lists ≡ rules_asked given
-    → {secrets : List Secret} {left left' : Option (List ℕ)} → AreGiven (reading_of_lists D lists) given secrets left left' → AreGiven (reading_by (call_of D folder given)) given secrets left left'
-given_by D folder given lists same alike {secrets} {left} {left'} is = reading_from D lists folder (rules_asked given) same alike (λ r. AreGiven r given secrets left left') is
-
-pub gives_none : (given : List Given) → gives_pattern given ≡ false → GivesNoPattern given
-gives_none given none =
-    let (patterns, values) = or_parts (has Pattern given || has PatternFile given || has Table given) (gives_value given) none in
-    let (lists, no_table) = or_parts (has Pattern given || has PatternFile given) (has Table given) patterns in
-    let (no_pattern, no_patterns) = or_parts (has Pattern given) (has PatternFile given) lists in
-    let (variables, no_whole) = or_parts (has Env given || has EnvFile given) (has Whole given) values in
-    let (no_env, no_env_file) = or_parts (has Env given) (has EnvFile given) variables in
-    record { no_pattern = no_pattern; no_patterns = no_patterns; no_table = no_table; no_env = no_env; no_env_file = no_env_file; no_whole = no_whole }

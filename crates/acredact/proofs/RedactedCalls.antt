@@ -1,11 +1,11 @@
 -- What comes of a call whose patterns were loaded, behind what is told of these, by what comes of its files.
-use Rattle.acredact.proofs.Common.{CountsThese, Errors, Failure, Other, OutOfMemory, Readers, Rule, SinkGhosts, StreamError, Streams, Strict, Tells, Volume, Writers, bytes_left, failure_of_stream, output_bytes}
+use Rattle.acredact.proofs.Common.{CountsThese, Errors, Failure, IfErr-weaker, Other, Readers, Rule, SinkGhosts, StreamError, Streams, Strict, Tells, Volume, Writers, bytes_left, failure_of_stream, on_ok_weaker, output_bytes}
 use Rattle.std.proofs.Common.{◌≡◌, inl, inr, List, Option, true, false, refl, sym, ap, subst, ◌∙◌}
 use Rattle.std.specs.Prelude.{ℕ, Bool, MatchBool, Result, Ok, Err, IfErr, IfOk, OnOk, is_some}
 use Rattle.acredact.specs.Arguments.{counts_asked, has}
-use Rattle.acredact.specs.Calls.{AreBounded, Call, CallOutcome, CalledAs, DoneCall, IsCountsFailure, IsCountsLine, IsLineOf, IsUnreadLine, IsWordLine, OutputFails, RedactsEach, TellsCounts, TellsOfFiles, WarnsAndCounts, WarnsLoaded, names_asked, reading_by, redactor_by_given, work_by}
+use Rattle.acredact.specs.Calls.{AreBounded, Call, CallOutcome, DoneCall, IsCountsFailure, IsLineOf, IsUnreadLine, IsWordLine, OutputFails, TellsCounts, TellsOfFiles, WarnsAndCounts, WarnsLoaded, names_asked, reading_by, redactor_by_given, work_by}
 use Rattle.acredact.specs.Counts.{secret_lines, zeros}
-use Rattle.acredact.specs.Files.{AreRedacted, FilesOutcome, Work}
+use Rattle.acredact.specs.Files.{EachIsWritten, FilesOutcome, Task, TaskOutcome, task_of}
 use Rattle.acredact.specs.Loading.{AreLoaded, Loaded, loaded_as}
 use Rattle.acredact.specs.Secrets.{AreCleanBy, Redactor}
 use Rattle.acredact.specs.Summaries.{no_volume, totals_text}
@@ -13,27 +13,28 @@ use Rattle.acredact.specs.Sums.{sums_of}
 use Rattle.acredact.specs.Tables.{secrets_of}
 use Rattle.acredact.specs.Totals.{CountsOfNames}
 use Rattle.acredact.specs.Volumes.{ReadsVolume}
-use Rattle.acredact.proofs.Calls.{call_ended, counts_fail, loads_so, may_fail, none_are, run_failure, some_behind, some_then, some_told, some_weaker, tells_both, tells_weaker, unread_of}
+use Rattle.acredact.proofs.Calls.{counts_fail, loads_so, may_fail, none_are, run_failure, some_told, tells_both, tells_weaker, unread_of}
 use Rattle.acredact.proofs.Done.{cut_of, redacted_of}
 use Rattle.acredact.proofs.Free.{free_of}
+use Rattle.acredact.proofs.Outcomes.{files_then}
 use Rattle.acredact.proofs.RuledFiles.{told_any}
 use Rattle.acredact.proofs.Totals.{totals_told}
 use Rattle.acredact.proofs.Warned.{clean_pieces, warnings_may}
 
--- what comes of the files of some work
-module _ {R W E : Type 0} {Reads : Readers R} (Writes : Writers W) (K : SinkGhosts E) (work : Work) (old new : Streams R W E Reads) where
+-- what comes of some files
+module _ {R W E : Type 0} {Reads : Readers R} (Writes : Writers W) (K : SinkGhosts E) (task : Task) (names : List (List ℕ)) (old new : Streams R W E Reads) where
   -- where all were read nothing is told
-  pub all_redacted : (result : Result Bool StreamError) → FilesOutcome Writes K work result old new → result ≡ Ok true
-      → AreRedacted work work.names (bytes_left old.input) (bytes_left new.input) (output_bytes Writes old.output) (output_bytes Writes new.output)
-  all_redacted result files is = let (lines, is_all, (done, told)) = rw is at files.done in redacted_of work work.names lines _ _ _ _ (none_are lines (sym is_all)) done
+  pub all_redacted : (result : Result Bool StreamError) → TaskOutcome Writes K task names result old new → result ≡ Ok true
+      → EachIsWritten task names (bytes_left old.input) (bytes_left new.input) (output_bytes Writes old.output) (output_bytes Writes new.output)
+  all_redacted result files is = let (lines, is_all, (done, told)) = rw is at files.done in redacted_of task names lines _ _ _ _ (none_are lines (sym is_all)) done
 
   -- of each other one it is told why it was not
-  pub files_told : (result : Result Bool StreamError) → FilesOutcome Writes K work result old new → TellsOfFiles K work.names result old.errors new.errors
+  pub files_told : (result : Result Bool StreamError) → TaskOutcome Writes K task names result old new → TellsOfFiles K names result old.errors new.errors
   files_told (Ok true) files = files.quiet refl
   files_told (Ok false) files =
       let (lines, is_all, (done, told)) = files.done in
-      some_told K (IsUnreadLine work.names) old.errors new.errors lines (unread_of work work.names lines _ _ _ _ (cut_of work work.names lines _ _ _ _ done)) told is_all
-  files_told (Err error) files = let (lines, (cut, told)) = files.cut in record { told = lines; are_lines = unread_of work work.names lines _ _ _ _ cut; written = told }
+      some_told K (IsUnreadLine names) old.errors new.errors lines (unread_of task names lines _ _ _ _ (cut_of task names lines _ _ _ _ done)) told is_all
+  files_told (Err error) files = let (lines, (cut, told)) = files.cut in record { told = lines; are_lines = unread_of task names lines _ _ _ _ cut; written = told }
 
 -- the pieces of what redacts are clean, and all that occurs counts
 abbrev pub FreesBy : Redactor → Type 0 → Type 0
@@ -73,85 +74,77 @@ word_line : (call : Call) (fails : Type 0) (line : List ℕ) → IsWordLine call
 word_line call fails line (inl unread) = inl unread
 word_line call fails line (inr warns) = inr (inr (inr warns))
 
-module _ {R : Type 0} {Reads : Readers R} {W E : Type 0} (Writes : Writers W) (K : SinkGhosts E) (call : Call) (left : Option (List ℕ)) where
-  module _ (load : Loaded) (old : Streams R W E Reads) (loaded : AreLoaded (reading_by call) call.given load left (bytes_left old.input)) (first : Errors E) (warnings : WarnsLoaded K call load first old.errors) where
-    warned_lines : (IsLine : List ℕ → Type 0) → ((line : List ℕ) → IsWordLine call line → IsLine line) → Tells K IsLine first old.errors
-    warned_lines IsLine may = warnings_may K call IsLine (λ line is. may line (inr is)) load left (bytes_left old.input) loaded first old.errors warnings
+module _ {R : Type 0} {Reads : Readers R} {W E : Type 0} (Writes : Writers W) (K : SinkGhosts E) (call : Call) (left : Option (List ℕ)) (load : Loaded) (old mid : Streams R W E Reads)
+    (loaded : AreLoaded (reading_by call) call.given load left (bytes_left old.input)) (first : Errors E) (warnings : WarnsLoaded K call load first old.errors) where
+  abbrev IsTold : List ℕ → Type 0
+  IsTold = IsLineOf call (OutputFails old.output mid.output)
 
-    -- memory runs out before its files
-    pub call_memory : CallOutcome Writes K call left (bytes_left old.input) (Err (Other OutOfMemory)) old.output old.output first old.errors
-    call_memory = call_ended Writes K call left (bytes_left old.input) (Other OutOfMemory) old.output first old.errors (may_fail call _ (Other OutOfMemory) (inl refl))
-        (warned_lines (IsLineOf call (OutputFails old.output old.output)) (word_line call (OutputFails old.output old.output))) (warned_lines (IsWordLine call) (λ line is. is))
+  -- what is told of these, and then of the files
+  warned_lines : (IsLine : List ℕ → Type 0) → ((line : List ℕ) → IsWordLine call line → IsLine line) → Tells K IsLine first old.errors
+  warned_lines IsLine may = warnings_may K call IsLine (λ line is. may line (inr is)) load left (bytes_left old.input) loaded first old.errors warnings
 
-    module _ (new : Streams R W E Reads) where
-      -- what is told of these, behind that
-      lines_told : (IsLine : List ℕ → Type 0) → ((line : List ℕ) → IsWordLine call line → IsLine line) → (result : Result Bool StreamError) → FilesOutcome Writes K (work_by call load) result old new → Tells K IsLine first new.errors
-      lines_told IsLine may result files =
-          tells_both K IsLine first old.errors new.errors (warned_lines IsLine may)
-          (told_any K (names_asked call.given) IsLine result old.errors new.errors (λ line is. may line (inl is)) (files_told Writes K (work_by call load) old new result files))
+  lines_told : (IsLine : List ℕ → Type 0) → ((line : List ℕ) → IsWordLine call line → IsLine line) → (result : Result Bool StreamError) → FilesOutcome Writes K (work_by call load) result old mid → Tells K IsLine first mid.errors
+  lines_told IsLine may result files =
+      tells_both K IsLine first old.errors mid.errors (warned_lines IsLine may)
+      (told_any K (names_asked call.given) IsLine result old.errors mid.errors (λ line is. may line (inl is)) (files_told Writes K (task_of (work_by call load)) (names_asked call.given) old mid result files))
 
-      -- they are not redacted
-      pub call_cut : (error : StreamError) → FilesOutcome Writes K (work_by call load) (Err error) old new
-          → CallOutcome Writes K call left (bytes_left new.input) (Err (Other (failure_of_stream error))) old.output new.output first new.errors
-      call_cut error files = record {
-        comes = (may_fail call _ _ (run_failure Writes K (work_by call load) error old new files), lines_told (IsLineOf call (OutputFails old.output new.output)) (word_line call (OutputFails old.output new.output)) (Err error) files);
-        begins = let (lines, (cut, told)) = files.cut in inr (loads_so load (bytes_left old.input) loaded (lines, cut));
-        numbers = inl (lines_told (IsWordLine call) (λ line is. is) (Err error) files);
+  -- they are not redacted
+  pub call_cut : (error : StreamError) → FilesOutcome Writes K (work_by call load) (Err error) old mid
+      → CallOutcome Writes K call left (bytes_left mid.input) (Err (Other (failure_of_stream error))) old.output mid.output first mid.errors
+  call_cut error files = record {
+    comes = record {
+      whole = tt;
+      begun = let (lines, (cut, told)) = files.cut in inr (loads_so load (bytes_left old.input) loaded (lines, cut));
+      told = lines_told IsTold (word_line call (OutputFails old.output mid.output)) (Err error) files;
+      partly = tt;
+      notes = tt;
+      fails = may_fail call _ _ (run_failure Writes K (work_by call load) error old mid files);
+    };
+    numbers = inl (lines_told (IsWordLine call) (λ line is. is) (Err error) files);
+  }
+
+-- or all were come to, by what was loaded as these rules, and the counts are told, or they are not
+module _ {R : Type 0} {Reads : Readers R} {W E : Type 0} (Writes : Writers W) (K : SinkGhosts E) (call : Call) (left : Option (List ℕ)) (rules : List Rule) (key : Option (List ℕ)) (old mid : Streams R W E Reads)
+    (loaded : AreLoaded (reading_by call) call.given (loaded_as rules key) left (bytes_left old.input)) (first : Errors E) (warnings : WarnsLoaded K call (loaded_as rules key) first old.errors) (counts : List ℕ) (volume : Volume) (new : Errors E) where
+  -- the numbers, whatever becomes of them
+  abbrev Bounded : Type 0
+  Bounded = AreBounded call.holds (names_asked call.given) (sums_of (secrets_of rules) counts) volume (bytes_left old.input) (bytes_left mid.input)
+
+  abbrev IsTotals : List ℕ → Type 0
+  IsTotals line = (counts_asked call.given ≡ true) × (line ≡ totals_text call.given (secret_lines (secrets_of rules)) (sums_of (secrets_of rules) counts) volume)
+
+  abbrev Counted : Bool → Type 0
+  Counted all = all ≡ true → CountsOfNames (bytes_left old.input) (bytes_left mid.input) (zeros (counts_asked call.given) rules) counts (work_by call (loaded_as rules key)) (names_asked call.given)
+      × ReadsVolume call.holds (names_asked call.given) no_volume volume (bytes_left old.input) (bytes_left mid.input)
+
+  abbrev CountsTold : Type 0
+  CountsTold = MatchBool (counts_asked call.given) (TellsCounts K call.given rules counts volume mid.errors new) (new ≡ mid.errors)
+
+  pub call_told : (all : Bool) (result : Result Bool Failure) → FilesOutcome Writes K (work_by call (loaded_as rules key)) (Ok all) old mid → Counted all → IfOk result (λ done. done ≡ all) → OnOk result CountsTold
+      → IfErr result (IsCountsFailure (counts_asked call.given)) → Tells K IsTotals mid.errors new → Bounded → CallOutcome Writes K call left (bytes_left mid.input) result old.output mid.output first new
+  call_told all result files grown same are_told fails told bounded =
+      let load = loaded_as rules key in
+      let Ends = OutputFails old.output mid.output in
+      let redacted = λ (is : all ≡ true). all_redacted Writes K (task_of (work_by call load)) (names_asked call.given) old mid (Ok all) files (ap Ok is) in
+      record {
+        comes = files_then StreamError K (IsLineOf call Ends) (names_asked call.given) all first old.errors mid.errors new
+            (warned_lines Writes K call left load old mid loaded first warnings (IsLineOf call Ends) (word_line call Ends)) (λ line is. inl is) (files_told Writes K (task_of (work_by call load)) (names_asked call.given) old mid (Ok all) files)
+            (tells_weaker K IsTotals (IsLineOf call Ends) mid.errors new (λ line is. inr (inr (inl (load, left, bytes_left old.input, loaded, (is.0, _, _, is.1))))) told)
+            (let (lines, is_all, (does, later)) = files.done in inr (loads_so load (bytes_left old.input) loaded (lines, cut_of (task_of (work_by call load)) _ lines _ _ _ _ does)))
+            result same (IfErr-weaker result _ _ (counts_fail call Ends) fails)
+            (λ is. on_ok_weaker result
+            (λ (counts_told : CountsTold). (
+              done_warned K call left (bytes_left old.input) (bytes_left mid.input) rules key loaded first old.errors warnings counts volume mid.errors new (loads_so load (bytes_left old.input) loaded (redacted is))
+                  (λ covers every clean. loads_so load (bytes_left old.input) loaded (free_of (work_by call load) covers every clean (names_asked call.given) _ _ _ _ (redacted is)))
+                  (λ told. loads_so load (bytes_left old.input) loaded (redacted is, told)) (files.quiet (ap Ok is)) (grown is).0 (grown is).1 counts_told,
+              tt,
+            )) are_told);
+        numbers = inr (loads_so load (bytes_left old.input) loaded (record {
+          counts = sums_of (secrets_of rules) counts;
+          volume = volume;
+          bounded = bounded;
+          meanwhile = mid.errors;
+          words = lines_told Writes K call left load old mid loaded first warnings (IsWordLine call) (λ line is. is) (Ok all) files;
+          told = tells_weaker K IsTotals _ mid.errors new (λ line is. is.1) told;
+        }));
       }
-
-  -- or all that was loaded as these rules was done
-  module _ (rules : List Rule) (key : Option (List ℕ)) (old mid : Streams R W E Reads) (loaded : AreLoaded (reading_by call) call.given (loaded_as rules key) left (bytes_left old.input)) (first : Errors E)
-      (warnings : WarnsLoaded K call (loaded_as rules key) first old.errors) (counts : List ℕ) (volume : Volume) where
-    -- the numbers, whatever becomes of them
-    abbrev Bounded : Type 0
-    Bounded = AreBounded call.holds (names_asked call.given) (sums_of (secrets_of rules) counts) volume (bytes_left old.input) (bytes_left mid.input)
-
-    abbrev IsTotals : List ℕ → Type 0
-    IsTotals line = line ≡ totals_text call.given (secret_lines (secrets_of rules)) (sums_of (secrets_of rules) counts) volume
-
-    abbrev Counted : Bool → Type 0
-    Counted all = all ≡ true → CountsOfNames (bytes_left old.input) (bytes_left mid.input) (zeros (counts_asked call.given) rules) counts (work_by call (loaded_as rules key)) (names_asked call.given)
-        × ReadsVolume call.holds (names_asked call.given) no_volume volume (bytes_left old.input) (bytes_left mid.input)
-
-    abbrev CountsTold : Errors E → Type 0
-    CountsTold errors = MatchBool (counts_asked call.given) (TellsCounts K call.given rules counts volume mid.errors errors) (errors ≡ mid.errors)
-
-    abbrev IsTold : List ℕ → Type 0
-    IsTold = IsLineOf call (OutputFails old.output mid.output)
-
-    -- the counts are told, or they are not
-    pub call_told : (all : Bool) (result : Result Bool Failure) (errors : Errors E) → FilesOutcome Writes K (work_by call (loaded_as rules key)) (Ok all) old mid → Counted all → IfOk result (λ done. done ≡ all)
-        → OnOk result (CountsTold errors) → IfErr result (IsCountsFailure (counts_asked call.given)) → Tells K (IsCountsLine call.given (secrets_of rules)) mid.errors errors → Bounded → Tells K IsTotals mid.errors errors
-        → CallOutcome Writes K call left (bytes_left mid.input) result old.output mid.output first errors
-    call_told all result errors files grown same are_told fails told bounded totals = record {
-      comes = by result same are_told fails;
-      begins = let (lines, is_all, (does, later)) = files.done in inr (loads_so (loaded_as rules key) (bytes_left old.input) loaded (lines, cut_of (work_by call (loaded_as rules key)) _ lines _ _ _ _ does));
-      numbers = inr (loads_so (loaded_as rules key) (bytes_left old.input) loaded (record {
-        counts = sums_of (secrets_of rules) counts;
-        volume = volume;
-        bounded = bounded;
-        meanwhile = mid.errors;
-        words = lines_told (loaded_as rules key) old loaded first warnings mid (IsWordLine call) (λ line is. is) (Ok all) files;
-        told = totals;
-      }));
-    }
-      where
-        counts_told : Tells K IsTold mid.errors errors
-        counts_told = tells_weaker K (IsCountsLine call.given (secrets_of rules)) IsTold mid.errors errors (λ line is. inr (inr (inl (loaded_as rules key, left, bytes_left old.input, loaded, is)))) told
-
-        by : (result : Result Bool Failure) → IfOk result (λ done. done ≡ all) → OnOk result (CountsTold errors) → IfErr result (IsCountsFailure (counts_asked call.given))
-            → CalledAs K call (RedactsEach Writes K call left (bytes_left mid.input) old.output mid.output first errors) (OutputFails old.output mid.output) result first errors
-        by (Ok true) same are_told fails =
-            let redacted = all_redacted Writes K (work_by call (loaded_as rules key)) old mid (Ok all) files (ap Ok (sym same)) in
-            let (counted, read) = grown (sym same) in
-            done_warned K call left (bytes_left old.input) (bytes_left mid.input) rules key loaded first old.errors warnings counts volume mid.errors errors (loads_so (loaded_as rules key) (bytes_left old.input) loaded redacted)
-            (λ covers every clean. loads_so (loaded_as rules key) (bytes_left old.input) loaded (free_of (work_by call (loaded_as rules key)) covers every clean (names_asked call.given) _ _ _ _ redacted))
-            (λ told. loads_so (loaded_as rules key) (bytes_left old.input) loaded (redacted, told)) (files.quiet (ap Ok (sym same))) counted read are_told
-        by (Ok false) same are_told fails =
-            some_behind K IsTold first old.errors errors (warned_lines (loaded_as rules key) old loaded first warnings IsTold (word_line call (OutputFails old.output mid.output)))
-            (some_then K IsTold old.errors mid.errors errors
-            (some_weaker K (IsUnreadLine (names_asked call.given)) IsTold old.errors mid.errors (λ line is. inl is) (rw (sym same) at (files_told Writes K (work_by call (loaded_as rules key)) old mid (Ok all) files))) counts_told)
-        by (Err failure) same are_told fails = (
-          counts_fail call (OutputFails old.output mid.output) failure fails,
-          tells_both K IsTold first mid.errors errors (lines_told (loaded_as rules key) old loaded first warnings mid IsTold (word_line call (OutputFails old.output mid.output)) (Ok all) files) counts_told,
-        )

@@ -1,5 +1,5 @@
 -- What a cover or a replacement of a stream writes is a redaction, and what it begins is begun.
-use Rattle.acredact.proofs.Common.{Appends, AreFinds, CanBegin, CountsRunsWith, Ghosts, IfErr-weaker, IsFillRefusal, Memory, No, Occurrence, Patterns, Refused, SinkGhosts, SourceGhosts, StartsWith, StreamError, all-covers, all-made, all_runs, finds-exist, on_ok_weaker, plain_search, shortest, take-length}
+use Rattle.acredact.proofs.Common.{AreFinds, CanBegin, CountsRunsWith, Ghosts, IfErr-weaker, IsFillRefusal, Memory, No, Occurrence, Patterns, Refused, SinkGhosts, SourceGhosts, StartsWith, StreamError, all-covers, all-made, all_runs, finds-exist, on_ok_weaker, plain_search, shortest}
 use Rattle.std.proofs.Common.{◌≡◌, ◌≢◌, ◌⊎◌, inl, inr, ℕ, suc, ◌<◌, ◌≤◌, ◌∷◌, ◌++◌, List, [], true, false, length, map, refl, sym, ap, subst, ◌∙◌, append-nil, arith, le_refl}
 use Rattle.std.specs.Prelude.{Bool, MatchBool, Option, None, Some, Result, Ok, Err, IfErr, OnErr, OnOk, is_some, slice_index_or}
 use Rattle.std.proofs.lemmas.Result.{on_err_weaker}
@@ -15,7 +15,10 @@ use Rattle.aho_backward.specs.declared.backward.Backward.{Backward}
 use Rattle.aho_stream.specs.After.{greatest_position}
 use Rattle.aho_stream.specs.Refills.{is_limit}
 use Rattle.aho_stream.specs.Replacing.{BeginsReplacing, GaveAsMany, IsStreamFault, MayBe, ReplacesStream}
+use Rattle.acredact.specs.Bounds.{Bounded}
+use Rattle.acredact.specs.Deeds.{Deed}
 use Rattle.acredact.specs.Faults.{IsStreamEnd}
+use Rattle.acredact.specs.Files.{deed_of}
 use Rattle.aho_cover.specs.Covers.{BeginsCoveringWith, CoversStreamUpToWith, CoversStreamWith, IsUnbegunWith, LeavesCoveredWith}
 use Rattle.aho_cover.specs.declared.progress.CoverProgress.{CoverProgress}
 use Rattle.aho_cover.specs.Pieces.{IsCoverWith, piece_in}
@@ -23,15 +26,19 @@ use Rattle.aho_cover.specs.Words.{AreRunsWith}
 use Rattle.aho_cover.proofs.Chosen.{all-are}
 use Rattle.acredact.specs.Pseudonyms.{pseudonym_rule}
 use Rattle.acredact.specs.Secrets.{AreCleanBy, AreReplaced, BeginsRedaction, CountsFor, IsRedaction, Keyed, NoByteIsKept, NoneIsWhole, NoneOccurs, Redactor, rule_by, rule_of}
-use Rattle.acredact.specs.Streams.{ReachesStream, RedactsStream, StartsStream, StreamOutcome}
-use Rattle.acredact.specs.Totals.{CountsOfStream, DoesStream}
+use Rattle.acredact.specs.Streams.{DoesStream, NearsStream, RedactsStream, StartsStream, StreamOutcome}
 use Rattle.acredact.proofs.Covered.{touched_from}
 use Rattle.acredact.proofs.MadeClean.{made-free}
-use Rattle.acredact.proofs.NoneSpelled.{pseudonyms_clean}
+use Rattle.acredact.proofs.Flaws.{pseudonyms_clean}
 
 -- some bytes with an end that was seen are all
 pub all_of : (given text : List ℕ) → MayBe given true text → text ≡ given
 all_of given text may = may.1 ∙ ap (λ more. given ++ more) may.2 ∙ append-nil given
+
+-- none may follow what was given
+pub no_more : (given : List ℕ) (ended : Bool) → MayBe given ended given
+no_more given true = ([], sym (append-nil given), refl)
+no_more given false = ([], sym (append-nil given), tt)
 
 module _ (r : Redactor) (text : List ℕ) where
   -- where all that occurs counts, runs are those of that
@@ -55,23 +62,9 @@ module _ (r : Redactor) (text : List ℕ) where
   ranges_exist true = (all_runs r.words r.patterns text, all-made r.patterns text r.words)
   ranges_exist false = finds-exist r.patterns (plain_search text) None (le_refl (length text))
 
--- what is replaced where there is a cover, or where there is none
-abbrev pub AreBy : Redactor → Bool → List ℕ → List Occurrence → Type 0
-AreBy r covers text ranges = MatchBool covers (AreRunsOf (CountsFor r text) ranges) (AreFinds r.patterns (plain_search text) None ranges)
-
-pub of_way : (r : Redactor) (covers : Bool) → r.covers ≡ covers → (text : List ℕ) (ranges : List Occurrence) → AreBy r covers text ranges → AreReplaced r text ranges
-of_way r covers is text ranges found = subst (λ (b : Bool). AreBy r b text ranges) (sym is) found
-
-pub to_way : (r : Redactor) (covers : Bool) → r.covers ≡ covers → (text : List ℕ) (ranges : List Occurrence) → AreReplaced r text ranges → AreBy r covers text ranges
-to_way r covers is text ranges found = subst (λ (b : Bool). AreBy r b text ranges) is found
-
 -- a text with ranges replaced
 abbrev pub redacted : Redactor → List ℕ → List Occurrence → List ℕ
 redacted r text ranges = replaced_by text ranges (piece_in (rule_of r) text)
-
--- without a key each pattern has its text
-pub redacted_alike : (r : Redactor) → r.key ≡ None → (text : List ℕ) (ranges : List Occurrence) → redacted r text ranges ≡ replaced text ranges r.pieces
-redacted_alike r unkeyed text ranges = ap (λ (key : Option Keyed). replaced_by text ranges (piece_in (rule_by key r.pieces) text)) unkeyed
 
 -- no pattern occurs in a cover whose pieces are clean
 clean_by : (key : Option Keyed) (p : Patterns) (pieces : List (List ℕ)) → AreCleanBy (is_some key) p pieces → (text : List ℕ) (runs : List Occurrence) → AreRuns p text runs
@@ -88,7 +81,7 @@ module _ (r : Redactor) (some : 1 ≤ shortest (map length r.patterns.words)) wh
     found = found;
     safe = safe_by r text r.covers ranges some found;
     is = refl;
-    clean = λ covers all are m. clean_by r.key r.patterns r.pieces are text ranges (plain_runs r text ranges all (to_way r true covers text ranges found)) m;
+    clean = λ covers all are m. clean_by r.key r.patterns r.pieces are text ranges (plain_runs r text ranges all (rw covers at found)) m;
   }
 
   -- what begins the replacement of each text that may come begins its redaction
@@ -103,74 +96,41 @@ module _ (r : Redactor) (some : 1 ≤ shortest (map length r.patterns.words)) wh
   pub begins_nothing : (given : List ℕ) (ended : Bool) → BeginsRedaction r given ended []
   begins_nothing given ended = begins_by given ended [] (λ text ranges may found. refl)
 
--- what is no cover is none
-pub no_cover : (r : Redactor) → r.covers ≡ false → r.covers ≡ true → ⊥
-no_cover r plain covers = let clash : false ≡ true = sym plain ∙ covers in absurd (cc)
+-- a replacement of matches that share no byte
+abbrev pub plain_by : Patterns → List (List ℕ) → Redactor
+plain_by p pieces = record { patterns = p; covers = false; words = false; pieces = pieces; key = None }
 
--- the whole is a beginning
-pub begins_whole : (r : Redactor) (text redaction : List ℕ) → IsRedaction r text redaction → BeginsRedaction r text true redaction
-begins_whole r text redaction redacts other may =
-    (redaction, subst (λ (bytes : List ℕ). IsRedaction r bytes redaction) (sym (all_of text other may)) redacts, take-length redaction)
+module _ {R W : Type 0} (S : SourceGhosts R) (K : SinkGhosts W) (p : Patterns) (pieces : List (List ℕ)) (source source' : R) (sink sink' : W) where
+  abbrev Plain : Deed
+  Plain = deed_of (plain_by p pieces)
 
-module _ {R W : Type 0} {S : SourceGhosts R} {K : SinkGhosts W} {r : Redactor} {source source' : R} {sink sink' : W} where
-  pub starts_whole : RedactsStream S K r source source' sink sink' → StartsStream S K r source source' sink sink'
-  starts_whole whole = record {
-    given = whole.text;
-    ended = true;
-    gives = whole.gives;
-    part = whole.redaction;
-    begins = begins_whole r whole.text whole.redaction whole.redacts;
-    written = whole.written;
-  }
+  -- what comes of a stream
+  pub plain_outcome : (result : Result (Unit {0}) StreamError) → OnOk result (RedactsStream S K Plain source source' sink sink') → OnErr result (StartsStream S K Plain source source' sink sink')
+      → CountsErrors S K source source' sink sink' result → (is_limit result ≡ true → GaveAsMany S source source' greatest_position) → IfErr result IsStreamEnd → StreamOutcome S K Plain source source' sink sink' result
+  plain_outcome result whole begun errors limit only = record { redacted = whole; begun = begun; near = near result begun; errors = errors; limit = λ measured. limit; only = only }
+    where
+      near : (result : Result (Unit {0}) StreamError) → OnErr result (StartsStream S K Plain source source' sink sink') → IfErr result (λ error. IsFillRefusal error → NearsStream S K Plain source source' sink sink')
+      near (Ok x) begun = tt
+      near (Err error) begun = λ fills. record { given = begun.given; ended = begun.ended; gives = begun.gives; is = λ (covers : false ≡ true). absurd (cc) }
 
-module _ {R W : Type 0} (S : SourceGhosts R) (K : SinkGhosts W) (r : Redactor) (source source' : R) (sink sink' : W) where
-  begun_or : (result : Result (Unit {0}) StreamError) → OnOk result (RedactsStream S K r source source' sink sink') → OnErr result (StartsStream S K r source source' sink sink')
-      → StartsStream S K r source source' sink sink'
-  begun_or (Ok x) whole begun = starts_whole whole
-  begun_or (Err error) whole begun = begun
+  -- what replaces the finds of the patterns that are searched for redacts by these
+  module _ (AreSearched : Patterns → Type 0) (of : AreSearched p) (some : 1 ≤ shortest (map length p.words)) where
+    whole_by : ReplacesStream S K AreSearched pieces source source' sink sink' → RedactsStream S K Plain source source' sink sink'
+    whole_by whole =
+        let (ms, found) = finds-exist p (plain_search whole.given) None (le_refl (length whole.given)) in
+        record { text = whole.given; gives = whole.gives; is = (replaced whole.given ms pieces, redaction_by (plain_by p pieces) some whole.given ms found, whole.writes p ms of found) }
 
-  -- what comes of a stream, by whether it has ended
-  pub comes_of : (result : Result (Unit {0}) StreamError) → OnOk result (RedactsStream S K r source source' sink sink') → OnErr result (StartsStream S K r source source' sink sink')
-      → (r.covers ≡ true → IfErr result (λ error. IsFillRefusal error → ReachesStream S K r source source' sink sink')) → CountsErrors S K source source' sink sink' result
-      → (is_limit result ≡ true → GaveAsMany S source source' greatest_position) → IfErr result IsStreamEnd → StreamOutcome S K r result source source' sink sink'
-  comes_of result whole begun near errors limit only = record {
-    redacted = whole;
-    begun = begun_or result whole begun;
-    near = near;
-    errors = errors;
-    limit = limit;
-    only = only;
-  }
+    begun_by : BeginsReplacing S K AreSearched pieces source source' sink sink' → StartsStream S K Plain source source' sink sink'
+    begun_by begun = record {
+      given = begun.given;
+      ended = begun.ended;
+      gives = begun.gives;
+      is = (begun.written, begins_by (plain_by p pieces) some begun.given begun.ended begun.written (λ text ms may found. begun.beginning p text ms of may found), begun.writes);
+    }
 
--- what replaces the finds of the patterns that are searched for redacts by these
-module _ {R W : Type 0} (S : SourceGhosts R) (K : SinkGhosts W) (r : Redactor) (plain : r.covers ≡ false) (unkeyed : r.key ≡ None) (AreSearched : Patterns → Type 0) (of : AreSearched r.patterns)
-    (some : 1 ≤ shortest (map length r.patterns.words)) (source source' : R) (sink sink' : W) where
-  pub whole_by : ReplacesStream S K AreSearched r.pieces source source' sink sink' → RedactsStream S K r source source' sink sink'
-  whole_by whole =
-      let finds = finds-exist r.patterns (plain_search whole.given) None (le_refl (length whole.given)) in
-      record {
-        text = whole.given;
-        gives = whole.gives;
-        redaction = redacted r whole.given finds.0;
-        redacts = redaction_by r some whole.given finds.0 (of_way r false plain whole.given finds.0 finds.1);
-        written = subst (Appends (K.taken sink) (K.taken sink')) (sym (redacted_alike r unkeyed whole.given finds.0)) (whole.writes r.patterns finds.0 of finds.1);
-      }
-
-  pub begun_by : BeginsReplacing S K AreSearched r.pieces source source' sink sink' → StartsStream S K r source source' sink sink'
-  begun_by begun = record {
-    given = begun.given;
-    ended = begun.ended;
-    gives = begun.gives;
-    part = begun.written;
-    begins = begins_by r some begun.given begun.ended begun.written (λ text ms may found.
-        subst (λ (bytes : List ℕ). StartsWith bytes begun.written) (sym (redacted_alike r unkeyed text ms)) (begun.beginning r.patterns text ms of may (to_way r false plain text ms found)));
-    written = begun.writes;
-  }
-
-  pub outcome_plain : (result : Result (Unit {0}) StreamError) → OnOk result (ReplacesStream S K AreSearched r.pieces source source' sink sink') → OnErr result (BeginsReplacing S K AreSearched r.pieces source source' sink sink')
-      → CountsErrors S K source source' sink sink' result → (is_limit result ≡ true → GaveAsMany S source source' greatest_position) → IfErr result IsStreamEnd → StreamOutcome S K r result source source' sink sink'
-  outcome_plain result whole begun errors limit only =
-      comes_of S K r source source' sink sink' result (on_ok_weaker result whole_by whole) (on_err_weaker result begun_by begun) (λ covers. absurd (no_cover r plain covers)) errors limit only
+    pub outcome_plain : (result : Result (Unit {0}) StreamError) → OnOk result (ReplacesStream S K AreSearched pieces source source' sink sink') → OnErr result (BeginsReplacing S K AreSearched pieces source source' sink sink')
+        → CountsErrors S K source source' sink sink' result → (is_limit result ≡ true → GaveAsMany S source source' greatest_position) → IfErr result IsStreamEnd → StreamOutcome S K Plain source source' sink sink' result
+    outcome_plain result whole begun errors limit only = plain_outcome result (on_ok_weaker result whole_by whole) (on_err_weaker result begun_by begun) errors limit only
 
 -- no pattern is empty of an automaton that can search streams
 pub some_of : {A : Type 0} (G : Ghosts A) (automaton : A) (p : Patterns) → G.lengths automaton ≡ map length p.words → CanBegin G automaton → 1 ≤ shortest (map length p.words)
@@ -184,7 +144,7 @@ never_refused G automaton can (Err (Refused reason)) suits = absurd (suits can.0
 never_refused G automaton can (Err error) suits = tt
 
 -- what ends a stream that was begun
-fault_ends : (error : StreamError) → IsStreamFault error → IsStreamEnd error
+pub fault_ends : (error : StreamError) → IsStreamFault error → IsStreamEnd error
 fault_ends (Refused cause) is = absurd is
 fault_ends error is = tt
 
@@ -210,65 +170,69 @@ some_cover G automaton p are can = subst (λ (ns : List ℕ). 1 ≤ shortest ns)
 -- the same of a cover
 module _ {R W : Type 0} (S : SourceGhosts R) (K : SinkGhosts W) (r : Redactor) (covers : r.covers ≡ true) (AreSearched : Patterns → Type 0) (of : AreSearched r.patterns)
     (some : 1 ≤ shortest (map length r.patterns.words)) (source source' : R) (sink sink' : W) where
-  covered_of : CoversStreamWith S K AreSearched r.words (rule_of r) source source' sink sink' → RedactsStream S K r source source' sink sink'
+  covered_of : CoversStreamWith S K AreSearched r.words (rule_of r) source source' sink sink' → RedactsStream S K (deed_of r) source source' sink sink'
   covered_of whole =
       let cover : IsCoverWith r.words r.patterns whole.given (rule_of r) whole.output = whole.covers r.patterns of in
       record {
         text = whole.given;
         gives = whole.gives;
-        redaction = whole.output;
-        redacts = subst (IsRedaction r whole.given) (sym cover.2) (redaction_by r some whole.given cover.0 (of_way r true covers whole.given cover.0 cover.1));
-        written = whole.writes;
+        is = (whole.output, subst (IsRedaction r whole.given) (sym cover.2) (redaction_by r some whole.given cover.0 (rw covers cover.1)), whole.writes);
       }
 
-  covering_of : BeginsCoveringWith S K AreSearched r.words (rule_of r) source source' sink sink' → StartsStream S K r source source' sink sink'
+  covering_of : BeginsCoveringWith S K AreSearched r.words (rule_of r) source source' sink sink' → StartsStream S K (deed_of r) source source' sink sink'
   covering_of begun = record {
     given = begun.given;
     ended = begun.ended;
     gives = begun.gives;
-    part = begun.written;
-    begins = begins_by r some begun.given begun.ended begun.written
-        (λ text runs may found. begun.beginning r.patterns text (redacted r text runs) of may (runs, to_way r true covers text runs found, refl));
-    written = begun.writes;
+    is = (
+      begun.written,
+      begins_by r some begun.given begun.ended begun.written
+          (λ text runs may found. begun.beginning r.patterns text (redacted r text runs) of may (runs, rw covers at found, refl)),
+      begun.writes,
+    );
   }
 
-  reaching_of : CoversStreamUpToWith S K AreSearched r.words (rule_of r) source source' sink sink' → ReachesStream S K r source source' sink sink'
+  reaching_of : CoversStreamUpToWith S K AreSearched r.words (rule_of r) source source' sink sink' → NearsStream S K (deed_of r) source source' sink sink'
   reaching_of up = record {
     given = up.given;
     ended = up.ended;
     gives = up.gives;
-    place = up.place;
-    within = up.within;
-    prompt = λ at behind before out. up.prompt r.patterns at of behind before out;
-    written = λ text ranges may found. up.writes r.patterns text ranges of may (to_way r true covers text ranges found);
+    is = λ covering. record {
+      place = up.place;
+      within = up.within;
+      prompt = λ at behind before out. up.prompt r.patterns at of behind before out;
+      written = λ text ranges may found. up.writes r.patterns text ranges of may (rw covers at found);
+    };
   }
 
-  -- what a cover counts
-  runs_counted : (counts counts' : List ℕ) → CountsRunsWith S AreSearched r.words source source' counts counts' → CountsOfStream S r source source' counts counts'
-  runs_counted counts counts' whole =
-      let runs = all_runs r.words r.patterns whole.given in
-      let are = all-made r.patterns whole.given r.words in
-      record { text = whole.given; gives = whole.gives; ranges = runs; found = of_way r true covers whole.given runs are; counted = whole.counted r.patterns runs of are }
-
   pub does_cover : (result : Result (Unit {0}) StreamError) (counts counts' : List ℕ) → LeavesCoveredWith S K AreSearched r.words (rule_of r) source source' sink sink' result
-      → OnOk result (CountsRunsWith S AreSearched r.words source source' counts counts') → CountsErrors S K source source' sink sink' result → IfErr result IsStreamFault
-      → DoesStream S K result source source' sink sink' counts counts' r
-  does_cover result counts counts' leaves counted errors only = record {
-    outcome = comes_of S K r source source' sink sink' result (on_ok_weaker result covered_of leaves.covered) (on_err_weaker result covering_of leaves.begun) (λ covering. IfErr-weaker result _ _ (λ error up fills. reaching_of (up fills)) leaves.near)
-        errors leaves.limit (IfErr-weaker result IsStreamFault IsStreamEnd fault_ends only);
-    counted = on_ok_weaker result (runs_counted counts counts') counted;
+      → OnOk result (CountsRunsWith S AreSearched r.words source source' counts counts') → CountsErrors S K source source' sink sink' result → IfErr result IsStreamFault → Bounded S source source' counts counts'
+      → DoesStream S K (deed_of r) source source' sink sink' result counts counts'
+  does_cover result counts counts' leaves counted errors only most = record {
+    outcome = record {
+      redacted = on_ok_weaker result covered_of leaves.covered;
+      begun = on_err_weaker result covering_of leaves.begun;
+      near = IfErr-weaker result _ _ (λ error up fills. reaching_of (up fills)) leaves.near;
+      errors = errors;
+      limit = λ measured. leaves.limit;
+      only = IfErr-weaker result IsStreamFault IsStreamEnd fault_ends only;
+    };
+    counted = on_ok_weaker result (λ whole.
+        let runs = all_runs r.words r.patterns whole.given in
+        let are = all-made r.patterns whole.given r.words in
+        (runs, record { text = whole.given; gives = whole.gives; is = rw covers are }, whole.counted r.patterns runs of are)) counted;
+    most = λ measured. most;
   }
 
 -- where there are no counts
 pub uncounted : {R W : Type 0} (S : SourceGhosts R) (K : SinkGhosts W) (r : Redactor) (result : Result (Unit {0}) StreamError) (source source' : R) (sink sink' : W) (counts : List ℕ) → length counts ≡ 0
-    → StreamOutcome S K r result source source' sink sink' → DoesStream S K result source source' sink sink' counts counts r
-uncounted S K r result source source' sink sink' counts none outcome = record {
+    → StreamOutcome S K (deed_of r) source source' sink sink' result → Bounded S source source' counts counts → DoesStream S K (deed_of r) source source' sink sink' result counts counts
+uncounted S K r result source source' sink sink' counts none outcome most = record {
   outcome = outcome;
-  counted = on_ok_weaker result (λ whole. record {
-    text = whole.text;
-    gives = whole.gives;
-    ranges = whole.redacts.ranges;
-    found = whole.redacts.found;
-    counted = record { as_many = refl; grown = λ number (within : number < length counts). absurd (omega (arith, within, none)) };
-  }) outcome.redacted;
+  counted = on_ok_weaker result (λ whole. (
+    whole.is.1.ranges,
+    record { text = whole.text; gives = whole.gives; is = whole.is.1.found },
+    record { as_many = refl; grown = λ number (within : number < length counts). absurd (omega (arith, within, none)) },
+  )) outcome.redacted;
+  most = λ measured. most;
 }

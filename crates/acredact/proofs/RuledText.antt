@@ -1,22 +1,25 @@
 -- What comes of a text, by what a cover of its lines leaves.
-use Rattle.acredact.proofs.Common.{AreSearchedFor, Automata, CanCoverLines, Covering, IfErr-weaker, IsAtEnd, Keeps, Line, LineError, Occurrence, Patterns, PieceRule, Read, SinkGhosts, SourceGave, SourceGhosts, StartsWith, Stream, Volume, covering_by, most_of, on_ok_weaker, rules_of, searched_automaton, stream_lines, words_of}
-use Rattle.std.proofs.Common.{◌≡◌, ◌≢◌, inl, inr, ℕ, List, [], ◌∷◌, ◌++◌, Option, true, false, length, map, refl, sym, ap, subst, ◌∙◌, arith}
-use Rattle.std.specs.Prelude.{Bool, None, OnOk, Result, Ok, Err}
-use Rattle.std.proofs.lemmas.Result.{on_err_weaker}
+use Rattle.acredact.proofs.Common.{AreSearchedFor, Automata, CanCoverLines, Covering, Keeps, Line, LineError, Memory, Occurrence, Patterns, PieceRule, SinkGhosts, SourceGhosts, StartsWith, Stream, StreamError, most_of, rules_of, searched_automaton, stream_lines, words_of}
+use Rattle.std.proofs.Common.{◌≡◌, ℕ, List, [], ◌∷◌, ◌++◌, Option, true, false, length, map, refl, sym, ap, subst, ◌∙◌, arith}
+use Rattle.std.specs.Prelude.{Bool, Result, Ok, Err, IfErr}
 use Rattle.aho_cover.specs.declared.pieces.Pieces.{Ghosts as PieceGhosts}
 use Rattle.aho_cover.proofs.Copied.{begins_longer}
 use Rattle.secret_rules.specs.Covering.{lines_cover}
-use Rattle.secret_rules.specs.LineCovers.{BeginsLines, BeginsNextLine, CoversLines, CoversWholeLines, LeavesLines, all_of}
+use Rattle.secret_rules.specs.LineCovers.{BeginsLines, BeginsNextLine, CoversLines, IsCoverFailure, LeavesLines, all_of, of_devices}
 use Rattle.secret_rules.specs.Ready.{CoversTheSame}
 use Rattle.secret_rules.specs.Writing.{line_cover}
 use Rattle.secret_rules.specs.declared.rule.Rule.{Rule}
 use Rattle.secret_rules.proofs.LineRuns.{lines_cover-append}
-use Rattle.acredact.specs.Ruled.{BeginsLinesText, IsLined, LinesOutcome, RedactsLines, Ruling, WritesLines, ruling_as, unread_of}
-use Rattle.acredact.specs.RunCounts.{CountsTextRuns, HasLineRuns, HasRuns}
+use Rattle.acredact.specs.Ruled.{IsLined, Ruling, deed_by, ruling_as}
+use Rattle.acredact.specs.RunCounts.{HasLineRuns}
 use Rattle.acredact.specs.declared.ruled_files.Lined.{Lined}
-use Rattle.acredact.specs.Volumes.{AddsStream}
-use Rattle.acredact.proofs.Metering.{text_bytes}
-use Rattle.acredact.proofs.OneFile.{begun_writing, ended_text, known_read}
+use Rattle.acredact.proofs.OneFile.{known_read}
+use Rattle.aho_devices.specs.Errors.{CountsErrors}
+use Rattle.secret_rules.specs.declared.error.LineError.TheVariants.{Mark}
+use Rattle.acredact.specs.Deeds.{Deed}
+use Rattle.acredact.specs.Faults.{IsStreamEnd}
+use Rattle.acredact.specs.Streams.{DoesStream, RedactsStream, StartsStream}
+use Rattle.acredact.proofs.Redactions.{fault_ends}
 
 -- a beginning behind the same bytes
 pub begins_behind : (front all first : List ℕ) → StartsWith all first → StartsWith (front ++ all) (front ++ first)
@@ -34,97 +37,59 @@ begins_cover rule lines runs part all all_runs same is =
     (begins_behind (lines_cover rule lines runs) (line_cover rule is.next is.own ++ lines_cover rule is.later is.more) part
     (begins_longer (line_cover rule is.next is.own) (lines_cover rule is.later is.more) part is.begins))
 
--- no reason is answered only where a stream has ended
-pub read_whole : {P : Type 0} (done : Result (Unit {0}) LineError) → unread_of done ≡ Ok None → OnOk done P → P
-read_whole (Ok x) is holds = holds
-read_whole (Err (Stream (Read fault))) is holds = absurd (cc)
-read_whole (Err error) is holds = absurd (cc)
-
+-- so what a cover of lines leaves is what is done by rules and patterns
 module _ {R W : Type 0} (S : SourceGhosts R) (K : SinkGhosts W) (Searched : Patterns → Type 0) (words : Bool) (rules : List Rule) (most : ℕ) (rule : PieceRule) (p : Patterns) (sought : Searched p)
-    (source source' : R) (sink sink' : W) (counts counts' : List ℕ) (before : Option (List ℕ))
-    (left : S.remaining source ≡ before) (none : S.empty_reads source ≡ 0) (ends : S.empty_reads source' ≢ 0 → IsAtEnd (S.remaining source')) where
-  covers_text : CoversLines S K Searched words rules most rule source source' sink sink' counts counts' → RedactsLines (ruling_as words rules most rule p) before (S.remaining source') (K.taken sink) (K.taken sink')
-  covers_text whole = record {
+    (source source' : R) (sink sink' : W) (counts counts' : List ℕ) where
+  abbrev LinesDeed : Deed
+  LinesDeed = deed_by (ruling_as words rules most rule p)
+
+  covers_stream : CoversLines S K Searched words rules most rule source source' sink sink' counts counts' → RedactsStream S K LinesDeed source source' sink sink'
+  covers_stream whole = record {
     text = whole.given;
-    reads = ended_text S source source' before left none ends whole.given whole.gives;
-    redaction = lines_cover rule (stream_lines whole.given) whole.runs;
-    redacts = record { runs = whole.runs; runs_are = whole.runs_are p sought; is = refl };
-    written = whole.writes;
+    gives = whole.gives;
+    is = (lines_cover rule (stream_lines whole.given) whole.runs, record { runs = whole.runs; runs_are = whole.runs_are p sought; is = refl }, whole.writes);
   }
 
-  begins_text : BeginsLines S K Searched words rules most rule source source' sink sink' counts counts' → BeginsLinesText (ruling_as words rules most rule p) before (S.remaining source') (K.taken sink) (K.taken sink')
-  begins_text begun =
-      begun_writing S source source' before left none ends (K.taken sink) (K.taken sink') begun.given begun.ended (lines_cover rule begun.lines begun.runs ++ begun.part) begun.gives
-      (λ text redaction may is.
-      subst (λ bytes. StartsWith bytes (lines_cover rule begun.lines begun.runs ++ begun.part)) (sym is.is)
-      (begins_cover rule begun.lines begun.runs begun.part (stream_lines text) is.runs begun.as_many (begun.goes_on p text is.runs sought may is.runs_are)))
-      begun.writes
-
-  -- each run is counted
-  runs_text : CoversLines S K Searched words rules most rule source source' sink sink' counts counts' → CountsTextRuns (covering_by words rules most p) before (S.remaining source') counts counts'
-  runs_text whole = (
-    all_of whole.runs,
-    (whole.runs, record { text = whole.given; reads = ended_text S source source' before left none ends whole.given whole.gives; are = whole.runs_are p sought }, refl),
-    whole.counted,
-  )
-
-  -- either by what is answered
-  writes_text : (done : Result (Unit {0}) LineError) → LeavesLines S K Searched words rules most rule source source' sink sink' counts counts' done
-      → WritesLines (ruling_as words rules most rule p) before (S.remaining source') (K.taken sink) (K.taken sink')
-  writes_text (Ok tt) leaves = inl (covers_text leaves.covered)
-  writes_text (Err error) leaves = inr (begins_text leaves.begun)
-
-  pub lines_outcome : (volume volume' : Volume) (done : Result (Unit {0}) LineError) → LeavesLines S K Searched words rules most rule source source' sink sink' counts counts' done → OnOk done (AddsStream S source source' volume.bytes volume'.bytes)
-      → LinesOutcome (ruling_as words rules most rule p) (unread_of done) counts counts' volume volume' before (S.remaining source') (K.taken sink) (K.taken sink')
-  lines_outcome volume volume' done leaves adds = record {
-    whole = λ is. covers_text (read_whole done is leaves.covered);
-    begun = writes_text done leaves;
-    counted = λ is. runs_text (read_whole done is leaves.covered);
-    read = λ is. text_bytes S source source' before volume.bytes volume'.bytes left none ends (read_whole done is adds);
+  begins_stream : BeginsLines S K Searched words rules most rule source source' sink sink' counts counts' → StartsStream S K LinesDeed source source' sink sink'
+  begins_stream begun = record {
+    given = begun.given;
+    ended = begun.ended;
+    gives = begun.gives;
+    is = (
+      lines_cover rule begun.lines begun.runs ++ begun.part,
+      λ text redaction may is. subst (λ bytes. StartsWith bytes (lines_cover rule begun.lines begun.runs ++ begun.part)) (sym is.is)
+          (begins_cover rule begun.lines begun.runs begun.part (stream_lines text) is.runs begun.as_many (begun.goes_on p text is.runs sought may is.runs_are)),
+      begun.writes,
+    );
   }
 
--- one source in the place of another, of which no less is known
-module _ {Q R W : Type 0} (P : SourceGhosts Q) (S : SourceGhosts R) (K : SinkGhosts W) (Searched : Patterns → Type 0) (words : Bool) (rules : List Rule) (most : ℕ) (rule : PieceRule)
-    (other other' : Q) (source source' : R) (sink sink' : W) (counts counts' : List ℕ)
-    (gave : (text : List ℕ) (ended : Bool) → SourceGave P other other' text ended → SourceGave S source source' text ended) where
-  pub covers_as : CoversLines P K Searched words rules most rule other other' sink sink' counts counts' → CoversLines S K Searched words rules most rule source source' sink sink' counts counts'
-  covers_as whole = record { given = whole.given; gives = gave whole.given true whole.gives; runs = whole.runs; runs_are = whole.runs_are; writes = whole.writes; counted = whole.counted }
-
-  pub leaves_as : (result : Result (Unit {0}) LineError) → LeavesLines P K Searched words rules most rule other other' sink sink' counts counts' result
-      → LeavesLines S K Searched words rules most rule source source' sink sink' counts counts' result
-  leaves_as result of = record {
-    covered = on_ok_weaker result covers_as of.covered;
-    begun = on_err_weaker result begins_as of.begun;
-    whole = IfErr-weaker result _ _ (λ error up fails. by (up fails)) of.whole;
+  -- a line that is not marked ends it as if memory had run out
+  lined_fails : (fault : StreamError) → BeginsLines S K Searched words rules most rule source source' sink sink' counts counts' → IsStreamEnd fault → CountsErrors {A = Unit {0}} S K source source' sink sink' (Err fault)
+      → DoesStream S K LinesDeed source source' sink sink' (Err fault) counts counts'
+  lined_fails fault begun only errors = record {
+    outcome = record {
+      redacted = tt;
+      begun = begins_stream begun;
+      near = λ fills. record { given = begun.given; ended = begun.ended; gives = begun.gives; is = tt };
+      errors = errors;
+      limit = λ (told : false ≡ true). absurd (cc);
+      only = only;
+    };
+    counted = tt;
+    most = λ (told : false ≡ true). absurd (cc);
   }
-    where
-      begins_as : BeginsLines P K Searched words rules most rule other other' sink sink' counts counts' → BeginsLines S K Searched words rules most rule source source' sink sink' counts counts'
-      begins_as begun = record {
-        given = begun.given;
-        ended = begun.ended;
-        gives = gave begun.given begun.ended begun.gives;
-        lines = begun.lines;
-        runs = begun.runs;
-        part = begun.part;
-        as_many = begun.as_many;
-        runs_are = begun.runs_are;
-        writes = begun.writes;
-        counted = begun.counted;
-        goes_on = begun.goes_on;
+
+  pub lined_does : (done : Result (Unit {0}) LineError) → LeavesLines S K Searched words rules most rule source source' sink sink' counts counts' done → CountsErrors S K source source' sink sink' (of_devices done)
+      → IfErr done (IsCoverFailure rules) → DoesStream S K LinesDeed source source' sink sink' (of_devices done) counts counts'
+  lined_does (Ok tt) leaves errors only =
+      let whole = leaves.covered in
+      record {
+        outcome = record { redacted = covers_stream whole; begun = tt; near = tt; errors = errors; limit = λ (told : false ≡ true). absurd (cc); only = tt };
+        counted = (all_of whole.runs, record { text = whole.given; gives = whole.gives; is = (whole.runs, whole.runs_are p sought, refl) }, whole.counted);
+        most = λ (told : false ≡ true). absurd (cc);
       }
-
-      by : CoversWholeLines P K Searched words rules most rule other other' sink sink' counts counts' → CoversWholeLines S K Searched words rules most rule source source' sink sink' counts counts'
-      by whole = record {
-        given = whole.given;
-        gives = gave whole.given false whole.gives;
-        lines = whole.lines;
-        last = whole.last;
-        runs = whole.runs;
-        lines_are = whole.lines_are;
-        runs_are = whole.runs_are;
-        writes = whole.writes;
-        counted = whole.counted;
-      }
+  lined_does (Err (Stream error)) leaves errors only = lined_fails error leaves.begun (fault_ends error only) errors
+  lined_does (Err (Mark error)) leaves errors only = lined_fails Memory leaves.begun tt errors
 
 -- it covers lines as before
 pub still_lined : {A P : Type 0} (G : Automata A) (Q : PieceGhosts P) (old new : Lined A P) (ruling : Ruling) → CanCoverLines G new.cover → CoversTheSame old.cover new.cover
@@ -160,6 +125,3 @@ known_line_runs covering runs told left left' kept has = record {
   reads = record { read = known_read told left left' has.text kept has.reads.read; ended = has.reads.ended };
   are = has.are;
 }
-
-pub known_runs : (covering : Covering) (runs : List Occurrence) (told left left' : Option (List ℕ)) → Keeps told left → HasRuns covering runs left left' → HasRuns covering runs told left'
-known_runs covering runs told left left' kept (by_line, has, are) = (by_line, known_line_runs covering by_line told left left' kept has, are)

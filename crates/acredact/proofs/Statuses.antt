@@ -1,14 +1,14 @@
 -- What the exit status says, by what is answered.
-use Rattle.acredact.proofs.Common.{Errors, Failure, Readers, SinkGhosts, Streams, TellsBytes, TellsSome, Writers, bytes_left}
-use Rattle.std.proofs.Common.{◌≡◌, inl, inr, ℕ, ◌≤◌, List, true, false, refl, arith}
-use Rattle.std.specs.Prelude.{◌⊎◌, ◌&&◌, not, Ok, Err}
+use Rattle.acredact.proofs.Common.{Errors, Failure, Readers, SinkGhosts, Streams, Writers, bytes_left}
+use Rattle.std.proofs.Common.{◌≡◌, inl, inr, ℕ, ◌≤◌, List, Option, true, false, arith}
+use Rattle.std.specs.Prelude.{◌⊎◌, ◌&&◌, not, Bool, Result, Ok, Err, IfErr, OnOk}
 use Rattle.std.proofs.lemmas.Bool.{and_parts, not-true}
 use Rattle.acredact.specs.Arguments.{AsksForRules, AsksForRulesCheck, AsksToCheck, Given, GivesNoPattern, any_check_asked, checks_asked, gives_rules, has, rules_asked, rules_check_asked}
-use Rattle.acredact.specs.Calls.{BeginsCall, Call, CallOutcome, IsLineOf, OfCall, OutputFails, TellsUpToEnd}
-use Rattle.acredact.specs.Failures.{IsFailureLine}
+use Rattle.acredact.specs.Calls.{Call, CallOutcome, IsLineOf, MayFail, OutputFails, RedactsEach, TellsAnyNumbers, TellsUpToEnd}
+use Rattle.acredact.specs.Failures.{EndsCall}
 use Rattle.acredact.specs.Statuses.{CallStatus, IsIdle}
 use Rattle.acredact.specs.declared.options.Word.TheVariants.{Check, Help, Version}
-use Rattle.acredact.proofs.Calls.{tells_last}
+use Rattle.acredact.proofs.Outcomes.{status_says}
 -- a line alone
 pub use Rattle.tool_parts.proofs.Lines.{some-one as tells_one}
 
@@ -39,38 +39,24 @@ pub is_no_one : (status : ℕ) → (status ≡ 0) ⊎ (status ≡ 2) → (status
 is_no_one status (inl is) = (omega (arith, is), λ one. omega (arith, is, one))
 is_no_one status (inr is) = (omega (arith, is), λ one. omega (arith, is, one))
 
-module _ {R : Type 0} {Reads : Readers R} {W E : Type 0} (Writes : Writers W) (K : SinkGhosts E) (call : Call) (old new : Streams R W E Reads) where
-  -- all was done
-  pub status_done : (GivesNoPattern call.given → ⊥) → CallOutcome Writes K call (bytes_left old.input) (bytes_left new.input) (Ok true) old.output new.output old.errors new.errors → CallStatus Writes K call 0 old new
-  status_done some of = record {
-    patternless = λ none. absurd (some none);
-    idle = λ none. absurd (some none);
-    done = λ is. of.comes;
-    begins = of.begins;
-    tells = λ (is : 0 ≡ 2). absurd (omega arith);
-    numbers = (new.errors, of.numbers, inl refl);
-  }
+-- the numbers that a call told, and at most why it ended early
+numbers_told : {E : Type 0} (K : SinkGhosts E) (call : Call) (fails : Type 0) (left left' : Option (List ℕ)) (result : Result Bool Failure) (status : ℕ) (old mid new : Errors E) → EndsCall K result status mid new → IfErr result (MayFail call fails)
+    → TellsAnyNumbers K call left left' old mid → TellsUpToEnd K call fails left left' old new
+numbers_told K call fails left left' (Ok all) status old mid new ends may numbers = (mid, numbers, inl ends.1)
+numbers_told K call fails left left' (Err failure) status old mid new ends may numbers = (mid, numbers, inr (failure, may, ends.1.0, ends.1.1, ends.1.2))
 
-  -- it was not, and that is told
-  status_two : (GivesNoPattern call.given → IsIdle old new) → OfCall (BeginsCall Writes) call old new → TellsSome K (IsLineOf call (OutputFails old.output new.output)) old.errors new.errors
-      → TellsUpToEnd K call (OutputFails old.output new.output) (bytes_left old.input) (bytes_left new.input) old.errors new.errors → CallStatus Writes K call 2 old new
-  status_two idle begins tells numbers = record {
-    patternless = λ none. refl;
-    idle = idle;
-    done = λ (is : 2 ≡ 0). absurd (omega arith);
-    begins = begins;
-    tells = λ two. tells;
-    numbers = numbers;
-  }
+-- where there is no pattern it ended early
+patternless : {E : Type 0} (K : SinkGhosts E) (result : Result Bool Failure) (status : ℕ) (mid new : Errors E) → EndsCall K result status mid new → OnOk result ⊥ → status ≡ 2
+patternless K (Ok all) status mid new ends none = absurd none
+patternless K (Err failure) status mid new ends none = ends.0
 
-  -- some file was not read to its end
-  pub status_partly : (GivesNoPattern call.given → IsIdle old new) → CallOutcome Writes K call (bytes_left old.input) (bytes_left new.input) (Ok false) old.output new.output old.errors new.errors → CallStatus Writes K call 2 old new
-  status_partly idle of = status_two idle of.begins of.comes (new.errors, of.numbers, inl refl)
-
--- the call ended early, and that is told
-pub status_failed : {R : Type 0} {Reads : Readers R} {W E : Type 0} (Writes : Writers W) (K : SinkGhosts E) (call : Call) (old new : Streams R W E Reads) → (GivesNoPattern call.given → IsIdle old new) → (failure : Failure) (errors : Errors E) (line : List ℕ)
-    → CallOutcome Writes K call (bytes_left old.input) (bytes_left new.input) (Err failure) old.output new.output old.errors new.errors → IsFailureLine failure line → TellsBytes K new.errors errors line → CallStatus Writes K call 2 old (record new { errors = errors })
-status_failed Writes K call old new idle failure errors line of is told =
-    let (may, before) = of.comes in
-    status_two Writes K call old (record new { errors = errors }) (λ none. record { unread = (idle none).unread; unwritten = (idle none).unwritten }) of.begins
-    (tells_last K (IsLineOf call (OutputFails old.output new.output)) _ _ _ line before (inr (inl (failure, may, is))) told) (new.errors, of.numbers, inr (failure, may, line, is, told))
+-- what came of a call, and what it told behind that
+pub status_told : {R : Type 0} {Reads : Readers R} {W E : Type 0} (Writes : Writers W) (K : SinkGhosts E) (call : Call) (old mid : Streams R W E Reads) (result : Result Bool Failure) (status : ℕ) (errors : Errors E) → (GivesNoPattern call.given → OnOk result ⊥) → (GivesNoPattern call.given → IsIdle old mid)
+    → EndsCall K result status mid.errors errors → CallOutcome Writes K call (bytes_left old.input) (bytes_left mid.input) result old.output mid.output old.errors mid.errors → CallStatus Writes K call status old (record mid { errors = errors })
+status_told {E = E} Writes K call old mid result status errors none idle ends of = record {
+  patternless = λ asks. patternless K result status mid.errors errors ends (none asks);
+  idle = λ asks. record { unread = (idle asks).unread; unwritten = (idle asks).unwritten };
+  says = status_says K (IsLineOf call (OutputFails old.output mid.output)) (λ (e : Errors E). RedactsEach Writes K call (bytes_left old.input) (bytes_left mid.input) old.output mid.output old.errors e) status old.errors mid.errors errors
+      (λ failure line fails is. inr (inl (failure, fails, is))) (λ whole noted. whole) result ends of.comes;
+  numbers = numbers_told K call (OutputFails old.output mid.output) (bytes_left old.input) (bytes_left mid.input) result status old.errors mid.errors errors ends of.comes.fails of.numbers;
+}

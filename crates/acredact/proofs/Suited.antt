@@ -1,19 +1,20 @@
 -- How an automaton redacts streams.
 use Rattle.acredact.proofs.Common.{CanBegin, Folders, Ghosts, Keeps-refl, Memory, No, Patterns, PieceRule, Readers, Refused, SinkGhosts, Standard, StreamError, Streams, Volume, Writers, ne_eqb, pieces_of, shortest, tells-nothing}
-use Rattle.std.proofs.Common.{◌≡◌, inl, ℕ, ◌≤◌, List, [], ◌∷◌, Option, true, false, length, map, refl, sym, ap, subst, ◌∙◌, arith}
-use Rattle.std.specs.Prelude.{Bool, ◌&&◌, None, Some, Ok, Err, if◌then◌else◌}
+use Rattle.std.proofs.Common.{◌≡◌, inl, ℕ, List, [], ◌∷◌, Option, true, false, length, map, refl, sym, ap, subst, ◌∙◌, arith}
+use Rattle.std.specs.Prelude.{Bool, ◌&&◌, None, Some, Err, if◌then◌else◌}
 use Rattle.aho_core.specs.declared.error.MatchErrorKind.TheVariants.{UnsupportedEmpty}
 use Rattle.aho_automaton.specs.Covering.{cover_refusal}
 use Rattle.aho_cover.specs.Covers.{IsUnbegunWith, RefusesStreamCover}
 use Rattle.aho_cover.specs.declared.progress.CoverProgress.{CoverProgress}
 use Rattle.aho_stream.specs.Replacing.{IsMakingRefusal}
-use Rattle.acredact.specs.Back.{DoesJob}
-use Rattle.acredact.specs.Files.{AreCut, CanDo, FilesOutcome, Work, key_for, redactor_of, rule_for, work_of}
+use Rattle.acredact.specs.Back.{DoesByPatterns}
+use Rattle.acredact.specs.Files.{AreCut, CanDo, Task, deed_of, key_for, redactor_of, rule_for, task_in}
 use Rattle.acredact.specs.Secrets.{CanRedact, Redactor}
 use Rattle.acredact.specs.Ways.{IsCovering, IsRedactor}
 use Rattle.acredact.specs.declared.files.Job.{Job}
+use Rattle.acredact.proofs.Jobs.{job_ended}
 use Rattle.acredact.proofs.OneFile.{named_none}
-use Rattle.acredact.proofs.Redactions.{some_of}
+use Rattle.acredact.proofs.Redactions.{begins_nothing, some_of}
 
 module _ {A : Type 0} (G : Ghosts A) where
   -- a cover is as before after a stream
@@ -41,21 +42,6 @@ module _ {A : Type 0} (G : Ghosts A) where
   only_memory automaton Memory can standard is refuses = refl
   only_memory automaton error can standard is refuses = absurd is
 
-module _ (work : Work) (some : 1 ≤ shortest (map length work.redactor.patterns.words)) where
-  cut_none : (names : List (List ℕ)) (left held : Option (List ℕ)) → AreCut work names [] left left held held
-  cut_none [] left held = (refl, refl, Keeps-refl held)
-  cut_none (name ∷ names) left held = inl (refl, named_none work some name left held)
-
-module _ {R W E : Type 0} {Reads : Readers R} (Writes : Writers W) (K : SinkGhosts E) (work : Work) (some : 1 ≤ shortest (map length work.redactor.patterns.words)) where
-  -- there was no memory to begin
-  pub files_memory : (streams : Streams R W E Reads) → FilesOutcome Writes K work (Err Memory) streams streams
-  files_memory streams = record {
-    done = tt;
-    cut = ([], (cut_none work some work.names _ _, tells-nothing K streams.errors));
-    quiet = λ (is : Err Memory ≡ Ok true). absurd (cc);
-    fails = record { write_failed = refl; took_nothing = refl; only = tt };
-  }
-
 module _ {A F : Type 0} (G : Ghosts A) (automaton : A) (job : Job F) (p : Patterns) (of : G.is_of automaton p) where
   -- an automaton that suits redacts a job by its patterns, without a cover
   pub redactor_is : CanDo G automaton job → job.covers ≡ false → IsRedactor G automaton job.replacements.now (redactor_of job p)
@@ -76,22 +62,17 @@ module _ {A F : Type 0} (G : Ghosts A) (automaton : A) (job : Job F) (p : Patter
     unbegun = subst (λ (a : A). IsUnbegunWith progress.words G a progress) (sym same) (subst (λ (b : Bool). IsUnbegunWith b G automaton progress) (sym unbegun.chosen) unbegun);
   }
 
-module _ {R W E F X : Type 0} {Reads : Readers R} (Writes : Writers W) (K : SinkGhosts E) (D : Folders F X) (job : Job F) (streams streams' : Streams R W E Reads) (counts counts' : List ℕ) (volume volume' : Volume) (r : Redactor) where
-  -- a failure ends the files of a job
-  pub job_cut : (error : StreamError) → FilesOutcome Writes K (work_of D job r) (Err error) streams streams' → DoesJob Writes K D job (Err error) streams streams' counts counts' volume volume' r
-  job_cut error cut = record {
-    outcome = cut;
-    counted = λ (is : Err error ≡ Ok true). absurd (cc);
-    read = λ (is : Err error ≡ Ok true). absurd (cc);
-    most = tt;
-    flushed = tt;
-  }
-
 -- where a cover cannot begin, memory ran out before the first file
+cut_none : (task : Task) → task.deed.begins [] false [] → (names : List (List ℕ)) (left held : Option (List ℕ)) → AreCut task names [] left left held held
+cut_none task none [] left held = (refl, refl, Keeps-refl held)
+cut_none task none (name ∷ names) left held = inl (refl, named_none task none name left left held held refl (Keeps-refl held))
+
 pub job_unbegun : {R W E F X A T : Type 0} {Reads : Readers R} (Writes : Writers W) (K : SinkGhosts E) (D : Folders F X) (G : Ghosts A) (automaton : A) (job : Job F) (streams : Streams R W E Reads) (counts : List ℕ) (volume : Volume) (p : Patterns)
     → G.lengths automaton ≡ map length p.words → CanDo G automaton job → job.covers ≡ true → (error : StreamError) → IsMakingRefusal error
     → RefusesStreamCover {T = T} (cover_refusal (G.kind automaton) (G.lengths automaton) (G.start automaton No)) (Err error)
-    → DoesJob Writes K D job (Err error) streams streams counts counts volume volume (redactor_of job p)
+    → DoesByPatterns Writes K D job (Err error) streams streams counts counts volume volume p
 job_unbegun Writes K D G automaton job streams counts volume p are ready covers error making refuses =
+    let task = task_in D job.folder.now (deed_of (redactor_of job p)) in
     rw (only_memory G automaton error ready.begins (ready.standard covers) making refuses)
-    (job_cut Writes K D job streams streams counts counts volume volume (redactor_of job p) Memory (files_memory Writes K (work_of D job (redactor_of job p)) (some_of G automaton p are ready.begins) streams))
+    (job_ended Writes K task {old = (streams, counts, volume)} {new = (streams, counts, volume)}
+    ([], (cut_none task (begins_nothing (redactor_of job p) (some_of G automaton p are ready.begins) [] false) _ _ _, tells-nothing K streams.errors)) (record { write_failed = refl; took_nothing = refl; only = tt })).is

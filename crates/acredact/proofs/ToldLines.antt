@@ -1,20 +1,18 @@
 -- What is told of lines, one after another, by what a visitor of them leaves.
-use Rattle.acredact.proofs.Common.{Appends, Appends-nil, Appends-trans, IsAtEnd, Line, LineError, MutBor, Occurrence, Patterns, PositionLimit, Read, SinkGhosts, SourceGave, SourceGhosts, Stream, StreamError, covering_by, on_ok_weaker, or-false, or_assoc, stream_lines, take-length}
+use Rattle.acredact.proofs.Common.{Appends, Appends-nil, Appends-trans, Covering, IsAtEnd, Line, LineError, MutBor, Occurrence, Patterns, PositionLimit, Read, SinkGhosts, SourceGhosts, Stream, StreamError, covering_by, or-false, or_assoc, stream_lines, take-length}
 use Rattle.std.proofs.Common.{◌++◌, ◌∙◌, ◌∷◌, ◌≡◌, ◌≢◌, List, Option, [], ap, append-nil, append_assoc, false, inl, inr, refl, subst, sym, take, true, ℕ}
-use Rattle.std.specs.Prelude.{Bool, ◌||◌, Result, Ok, Err, IfOk, OnOk}
+use Rattle.std.specs.Prelude.{Bool, ◌||◌, Result, Ok, Err, IfOk}
 use Rattle.aho_cover.proofs.Copied.{begins_shorter}
 use Rattle.aho_devices.specs.Counts.{AppendsBeginning}
-use Rattle.aho_stream.specs.Replacing.{MayBe}
 use Rattle.secret_rules.specs.Covering.{AreLineRuns}
-use Rattle.secret_rules.specs.Visits.{AreFirstLines, LeavesVisited, StopsWithin, VisitsEach, VisitsLines, taken_line}
+use Rattle.secret_rules.specs.Visits.{LeavesVisited, StopsWithin, VisitsEach, taken_line}
 use Rattle.secret_rules.specs.declared.rule.Rule.{Rule}
 use Rattle.secret_rules.specs.declared.visitor.LineVisitor.{Ghosts as VisitorGhosts}
 use Rattle.tool_parts.proofs.Beginnings.{beginning-later, beginning-whole}
-use Rattle.acredact.specs.Looks.{verdict_of}
-use Rattle.acredact.specs.RuledChecks.{BeginsTelling, IsAtFirst, LookedText, SeesText, StopsTelling, TellsLine, findings_behind, findings_of, is_some_line, is_some_run, labels_of, lines_findings, look_of_lines}
-use Rattle.acredact.specs.declared.findings.Findings.{Findings}
-use Rattle.acredact.proofs.OneFile.{begun_writing, ended_text}
-use Rattle.acredact.proofs.Redactions.{all_of}
+use Rattle.acredact.specs.Findings.{BeginsFindings, LineSought, StopsTelling, TellsLine, TellsText, findings_behind, findings_of, is_some_line, is_some_run, labels_of, lines_findings}
+use Rattle.acredact.specs.Looks.{IsReadLook, LookedText, LooksSo, look_of_lines}
+use Rattle.acredact.specs.declared.legend.Findings.{Findings}
+use Rattle.acredact.proofs.OneFile.{begun_writing}
 
 -- what was found behind some lines, and what is told of them
 abbrev pub all_behind : Findings → List (List Occurrence) → Findings
@@ -35,13 +33,23 @@ findings_append findings (own ∷ first) more =
     ap (λ l. findings_of findings own ++ l) (findings_append next first more)
     ∙ sym (append_assoc (findings_of findings own) (all_findings next first) (all_findings (all_behind next first) more))
 
--- where a file was read to its end this is so of whether something was found
-looks : (P : Bool → Type 0) (done : Result (Unit {0}) LineError) (found : Bool) → OnOk done (P found) → IfOk (look_of_lines done found) (λ look. (verdict_of look).all ≡ true → P (verdict_of look).found)
-looks P (Ok tt) true is = λ all. is
-looks P (Ok tt) false is = λ all. is
-looks P (Err (Stream (Read fault))) found is = λ (all : false ≡ true). absurd (cc)
-looks P (Err (Stream PositionLimit)) found is = λ (all : false ≡ true). absurd (cc)
-looks P (Err error) found is = tt
+-- what the end of the lines means for their file
+module _ (s : LineSought) (name given : List ℕ) (ended : Bool) (part : List ℕ) where
+  so_whole : (found : Bool) → TellsText s name found given ended part → LooksSo (inr s) name (look_of_lines (Ok tt) found) given ended part
+  so_whole true tells = tells
+  so_whole false tells = tells
+
+  so_begun : (error : LineError) (found : Bool) → BeginsFindings s name given ended part → LooksSo (inr s) name (look_of_lines (Err error) found) given ended part
+  so_begun (Stream (Read fault)) found begun = begun
+  so_begun (Stream PositionLimit) found begun = begun
+  so_begun error found begun = begun
+
+pub lines_read : (done : Result (Unit {0}) LineError) (found : Bool) → IfOk (look_of_lines done found) IsReadLook
+lines_read (Ok tt) true = tt
+lines_read (Ok tt) false = tt
+lines_read (Err (Stream (Read fault))) found = tt
+lines_read (Err (Stream PositionLimit)) found = tt
+lines_read (Err error) found = tt
 
 module _ {V W : Type 0} (L : VisitorGhosts V) (K : SinkGhosts W) (most : ℕ) (output_of : V → MutBor W) (found_in : V → Findings)
     (tells : (visitor visitor' : V) (line : Line) (runs : List Occurrence) → L.visits visitor visitor' line runs → TellsLine K (output_of visitor) (output_of visitor') (found_in visitor) (found_in visitor') runs)
@@ -88,52 +96,44 @@ module _ {V W : Type 0} (L : VisitorGhosts V) (K : SinkGhosts W) (most : ℕ) (o
             (beginning-later (K.taken (output_of visitor).now) (K.taken (output_of last.between).now) (K.taken (output_of visitor').now) front mine each.told stop.begun);
       }
 
-  module _ {R : Type 0} (S : SourceGhosts R) (Searched : Patterns → Type 0) (words : Bool) (rules : List Rule) (p : Patterns) (sought : Searched p) (source source' : R) (visitor visitor' : V) (findings : Findings) (fresh : IsAtFirst findings)
-      (is : found_in visitor ≡ findings) (before : Option (List ℕ)) (left : S.remaining source ≡ before) (none : S.empty_reads source ≡ 0) (ends : S.empty_reads source' ≢ 0 → IsAtEnd (S.remaining source')) where
-    abbrev Begun : Type 0
-    Begun = BeginsTelling (covering_by words rules most p) (labels_of findings.legend) findings.name.now before (S.remaining source') (K.taken (output_of visitor).now) (K.taken (output_of visitor').now)
-
-    abbrev Sees : Bool → Type 0
-    Sees found = SeesText (covering_by words rules most p) (labels_of findings.legend) findings.name.now found before (S.remaining source') (K.taken (output_of visitor).now) (K.taken (output_of visitor').now)
-
+  module _ {R : Type 0} (S : SourceGhosts R) (Searched : Patterns → Type 0) (words : Bool) (rules : List Rule) (s : LineSought) (sought : Searched s.covering.patterns) (covers : s.covering ≡ covering_by words rules most s.covering.patterns)
+      (source source' : R) (visitor visitor' : V) (labels : s.labels ≡ labels_of (found_in visitor).legend) (line : (found_in visitor).line ≡ 1) (unfound : (found_in visitor).found ≡ false)
+      (before : Option (List ℕ)) (left : S.remaining source ≡ before) (none : S.empty_reads source ≡ 0) (ends : S.empty_reads source' ≢ 0 → IsAtEnd (S.remaining source')) where
     abbrev Told : List (List Occurrence) → List ℕ
-    Told runs = lines_findings (labels_of findings.legend) findings.name.now 1 runs
+    Told runs = lines_findings s.labels (found_in visitor).name.now 1 runs
 
     -- from the first line on
     from_first : (runs : List (List Occurrence)) → all_findings (found_in visitor) runs ≡ Told runs
-    from_first runs = ap (λ (f : Findings). all_findings f runs) is ∙ ap (λ (n : ℕ). lines_findings (labels_of findings.legend) findings.name.now n runs) fresh.0
+    from_first runs = rw (labels, line) refl
 
-    lines_seen : VisitsLines S L Searched words rules most source source' visitor visitor' → Sees (found_in visitor').found
-    lines_seen whole =
-        let each = each_told visitor visitor' (stream_lines whole.given) whole.runs whole.visits in
-        record {
-          runs = whole.runs;
-          has = record { text = whole.given; reads = ended_text S source source' before left none ends whole.given whole.gives; are = whole.runs_are p sought };
-          found_is = ap (λ (f : Findings). f.found) each.behind ∙ found_behind (found_in visitor) whole.runs ∙ ap (λ (b : Bool). b || is_some_line whole.runs) (ap (λ (f : Findings). f.found) is ∙ fresh.1);
-          told = subst (Appends (K.taken (output_of visitor).now) (K.taken (output_of visitor').now)) (from_first whole.runs) each.told;
-        }
-
-    -- a beginning of what tells of some first lines was written
-    lines_begun : (given : List ℕ) (ended : Bool) (lines : List Line) (runs : List (List Occurrence)) → SourceGave S source source' given ended → AreLineRuns (covering_by words rules most p) [] lines runs
-        → ((bytes : List ℕ) → MayBe given ended bytes → AreFirstLines lines (stream_lines bytes)) → AppendsBeginning (K.taken (output_of visitor).now) (K.taken (output_of visitor').now) (all_findings (found_in visitor) runs) → Begun
-    lines_begun given ended lines runs gives are first begun =
-        let (count, within, written) = subst (AppendsBeginning (K.taken (output_of visitor).now) (K.taken (output_of visitor').now)) (from_first runs) begun in
-        begun_writing S source source' before left none ends (K.taken (output_of visitor).now) (K.taken (output_of visitor').now) given ended (take count (Told runs)) gives
-        (record { lines = lines; runs = runs; are = are; first = first; begins = begins_shorter (Told runs) [] (Told runs) count within (take-length (Told runs)) }) written
+    are_by : (lines : List Line) (runs : List (List Occurrence)) → AreLineRuns (covering_by words rules most s.covering.patterns) [] lines runs → AreLineRuns s.covering [] lines runs
+    are_by lines runs are = subst (λ (c : Covering). AreLineRuns c [] lines runs) (sym covers) are
 
     -- what comes of a text, by what the visits of its lines leave
     pub looked_lines : (done : Result (Unit {0}) LineError) → LeavesVisited S L Searched words rules most source source' visitor visitor' done
-        → LookedText (covering_by words rules most p) (labels_of findings.legend) findings.name.now (look_of_lines done (found_in visitor').found) before (S.remaining source') (K.taken (output_of visitor).now) (K.taken (output_of visitor').now)
-    looked_lines done leaves = record { whole = looks Sees done (found_in visitor').found (on_ok_weaker done lines_seen leaves.visited); begun = by done leaves }
-      where
-        by : (done : Result (Unit {0}) LineError) → LeavesVisited S L Searched words rules most source source' visitor visitor' done → Begun
-        by (Ok tt) leaves =
-            let whole = leaves.visited in
-            lines_begun whole.given true (stream_lines whole.given) whole.runs whole.gives (whole.runs_are p sought) (λ bytes may. ([], ap stream_lines (all_of whole.given bytes may) ∙ sym (append-nil (stream_lines whole.given))))
-            (beginning-whole (K.taken (output_of visitor).now) (K.taken (output_of visitor').now) (all_findings (found_in visitor) whole.runs) (each_told visitor visitor' (stream_lines whole.given) whole.runs whole.visits).told)
-        by (Err error) leaves =
-            let begun = leaves.begun in
-            lines_begun begun.given begun.ended begun.lines begun.runs begun.gives (begun.runs_are p sought) begun.first (stops_told visitor visitor' begun.lines begun.runs error begun.stops).begun
+        → LookedText (inr s) (found_in visitor).name.now (look_of_lines done (found_in visitor').found) before (S.remaining source') (K.taken (output_of visitor).now) (K.taken (output_of visitor').now)
+    looked_lines (Ok tt) leaves =
+        let whole = leaves.visited in
+        let each = each_told visitor visitor' (stream_lines whole.given) whole.runs whole.visits in
+        begun_writing S source source' before left none ends _ _ whole.given true (Told whole.runs) whole.gives
+        (so_whole s (found_in visitor).name.now whole.given true (Told whole.runs) (found_in visitor').found (record {
+          whole = refl;
+          runs = whole.runs;
+          are = are_by (stream_lines whole.given) whole.runs (whole.runs_are s.covering.patterns sought);
+          found_is = ap (λ (f : Findings). f.found) each.behind ∙ found_behind (found_in visitor) whole.runs ∙ ap (λ (b : Bool). b || is_some_line whole.runs) unfound;
+          told = refl;
+        })) (subst (Appends (K.taken (output_of visitor).now) (K.taken (output_of visitor').now)) (from_first whole.runs) each.told)
+    looked_lines (Err error) leaves =
+        let begun = leaves.begun in
+        let (count, within, written) = subst (AppendsBeginning (K.taken (output_of visitor).now) (K.taken (output_of visitor').now)) (from_first begun.runs) (stops_told visitor visitor' begun.lines begun.runs error begun.stops).begun in
+        begun_writing S source source' before left none ends _ _ begun.given begun.ended (take count (Told begun.runs)) begun.gives
+        (so_begun s (found_in visitor).name.now begun.given begun.ended (take count (Told begun.runs)) error (found_in visitor').found (record {
+          lines = begun.lines;
+          runs = begun.runs;
+          are = are_by begun.lines begun.runs (begun.runs_are s.covering.patterns sought);
+          first = begun.first;
+          begins = begins_shorter (Told begun.runs) [] (Told begun.runs) count within (take-length (Told begun.runs));
+        })) written
 
   -- to the same output
   pub told_same : {R : Type 0} (S : SourceGhosts R) (Searched : Patterns → Type 0) (words : Bool) (rules : List Rule) (source source' : R) (visitor visitor' : V) (done : Result (Unit {0}) LineError)

@@ -1,8 +1,10 @@
 -- What comes of files that are done one after another, whatever is done with each.
-use Rattle.acredact.proofs.Common.{and-true}
-use Rattle.std.proofs.Common.{◌≡◌, ◌∙◌, ℕ, List, [], ◌∷◌, ap, refl, subst, sym, true}
+use Rattle.acredact.proofs.Common.{Errors, SinkGhosts, Tells, TellsSome, and-true}
+use Rattle.std.proofs.Common.{◌≡◌, ◌∙◌, ℕ, List, [], ◌∷◌, ap, false, refl, subst, sym, true}
 use Rattle.std.specs.Prelude.{Bool, ◌&&◌, Result, Ok, Err}
 use Rattle.std.proofs.Math.Bool.{and_assoc}
+use Rattle.acredact.specs.Calls.{TellsUnlessAll}
+use Rattle.acredact.proofs.Calls.{some_all, some_then, some_weaker, tells_both, tells_same, tells_weaker}
 
 -- what is answered of two parts together, and of no file
 pub record Joins (V : Type 0) : Type 0 where
@@ -53,3 +55,18 @@ module _ {V X S : Type 0} {joins : Joins V} {Comes : List (List ℕ) → Result 
     pub turn_end : {end : S} → behind ≡ [] → Comes [] (Ok joins.none) mid end → Comes names (Ok first) old end
     turn_end {end} none comes =
         subst (λ (v : V). Comes names (Ok v) old end) (joins.last first) (turn.so (Ok joins.none) end (subst (λ l. Comes l (Ok joins.none) mid end) (sym none) comes))
+
+-- what is told by whether all was done may be told of more
+pub told_by : {E X : Type 0} (K : SinkGhosts E) (Less More : List ℕ → Type 0) (result : Result Bool X) (old new : Errors E) → ((line : List ℕ) → Less line → More line) → TellsUnlessAll K Less result old new → Tells K More old new
+told_by K Less More (Ok true) old new weaker same = tells_same K More old new same
+told_by K Less More (Ok false) old new weaker some = some_all K Less More old new weaker some
+told_by K Less More (Err error) old new weaker tells = tells_weaker K Less More old new weaker tells
+
+-- what is told of a file, and then of others
+module _ {E X : Type 0} (K : SinkGhosts E) (First Rest All : List ℕ → Type 0) (first : (line : List ℕ) → First line → All line) (rest : (line : List ℕ) → Rest line → All line) where
+  pub told_then : (whole : Bool) (result : Result Bool X) (old mid new : Errors E) → TellsUnlessAll {X = X} K First (Ok whole) old mid → TellsUnlessAll K Rest result mid new → TellsUnlessAll K All (also all_joined whole result) old new
+  told_then true (Ok true) old mid new same more = more ∙ same
+  told_then true (Ok false) old mid new same more = subst (λ (e : Errors E). TellsSome K All e new) same (some_weaker K Rest All mid new rest more)
+  told_then true (Err error) old mid new same more = subst (λ (e : Errors E). Tells K All e new) same (tells_weaker K Rest All mid new rest more)
+  told_then false (Ok all) old mid new some more = some_then K All old mid new (some_weaker K First All old mid first some) (told_by {X = X} K Rest All (Ok all) mid new rest more)
+  told_then false (Err error) old mid new some more = tells_both K All old mid new (some_all K First All old mid first some) (tells_weaker K Rest All mid new rest more)

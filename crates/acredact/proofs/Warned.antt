@@ -1,37 +1,23 @@
--- What comes of a call whose pieces were looked at.
-use Rattle.acredact.proofs.Common.{Errors, Failure, FromWrite, IsMember, Patterns, SinkGhosts, Strict, Tells, Writers}
+-- What may be told of a call before its files, and why it may end there.
+use Rattle.acredact.proofs.Common.{Errors, Failure, IsMember, SinkGhosts, Strict, Tells}
 use Rattle.std.proofs.Common.{◌∙◌, ◌≡◌, List, Option, false, inl, inr, refl, sym, true, ℕ}
-use Rattle.std.specs.Prelude.{◌⊎◌, Bool, Err, None, Some, Vec, is_some, option_map}
+use Rattle.std.specs.Prelude.{◌⊎◌, Bool, None, Some, is_some}
 use Rattle.secret_rules.proofs.Owners.{member-get_or}
 use Rattle.acredact.specs.Arguments.{Given, has}
-use Rattle.acredact.specs.Calls.{Call, CallOutcome, IsWarningLine, MayFail, WarnsLoaded, keyed_as, reading_by, redactor_by_given}
+use Rattle.acredact.specs.Calls.{Call, IsWarningLine, MayFail, WarnsLoaded, reading_by, redactor_by_given}
 use Rattle.acredact.specs.Doubts.{TellsDoubts, all_doubt_lines}
-use Rattle.acredact.specs.Loading.{AreLoaded, Loaded, key_in}
+use Rattle.acredact.specs.Loading.{AreLoaded, Loaded}
 use Rattle.acredact.specs.Messages.{unclean_line}
-use Rattle.acredact.specs.Pieces.{IsJudgedBy, TellsOfPieces}
+use Rattle.acredact.specs.Pieces.{TellsOfPieces}
 use Rattle.acredact.specs.Ready.{CannotPrepare}
-use Rattle.acredact.specs.Secrets.{AreCleanBy, Redactor, key_of_cover}
+use Rattle.acredact.specs.Secrets.{AreCleanBy, Redactor}
 use Rattle.acredact.specs.Tables.{Secret}
-use Rattle.acredact.specs.declared.clean.Unclean.{Unclean}
-use Rattle.acredact.proofs.Calls.{call_ended, may_fail, tells_both, tells_line, tells_same}
+use Rattle.acredact.proofs.Calls.{may_fail, tells_both, tells_line, tells_same}
 
 -- where they are to be refused, nothing is told and they are clean
 pub clean_pieces : {E : Type 0} (K : SinkGhosts E) (strict : Bool) (r : Redactor) (old new : Errors E) → strict ≡ true → TellsOfPieces K strict r old new → r.covers ≡ true → AreCleanBy (is_some r.key) r.patterns r.pieces
 clean_pieces K strict r old new is (None, judged, same) = judged
 clean_pieces K strict r old new is (Some unclean, judged, (lax, told)) = let clash : true ≡ false = sym is ∙ lax in absurd (cc)
-
--- what is answered of pieces is so where these, the way and the key are asked for
-judged_by : {Z : Type 0} (p : Patterns) (covers ignore_case : Bool) (key : Option (Vec ℕ Z)) (pieces : List (List ℕ)) (answer : Option Unclean)
-    → IsJudgedBy p covers (is_some key) pieces answer → IsJudgedBy p covers (is_some (key_of_cover covers (option_map (keyed_as ignore_case) (key_in key)))) pieces answer
-judged_by p true ignore_case None pieces answer judged = judged
-judged_by p true ignore_case (Some key) pieces answer judged = judged
-judged_by p false ignore_case key pieces None judged = λ (clash : false ≡ true). absurd (cc)
-judged_by p false ignore_case key pieces (Some unclean) (clash, judged) = absurd (cc)
-
-pub judged_as : {Z : Type 0} (p : Patterns) (covers covers' named ignore_case : Bool) (key : Option (Vec ℕ Z)) (pieces pieces' : List (List ℕ)) (answer : Option Unclean) → covers' ≡ covers → named ≡ is_some key → pieces' ≡ pieces
-    → IsJudgedBy p covers' named pieces' answer → IsJudgedBy p covers (is_some (key_of_cover covers (option_map (keyed_as ignore_case) (key_in key)))) pieces answer
-judged_as p covers covers' named ignore_case key pieces pieces' answer by is same judged =
-    judged_by p covers ignore_case key pieces answer (rw (by, is, same) at judged)
 
 -- what is told of patterns of lists is one line after another
 pub doubts_tell : {E : Type 0} (K : SinkGhosts E) (IsLine : List ℕ → Type 0) (strict : Bool) (given : List Given) (secrets : List Secret) (old new : Errors E) → (strict ≡ false → (line : List ℕ) → IsMember (all_doubt_lines given secrets) line → IsLine line)
@@ -66,11 +52,3 @@ module _ (call : Call) (load : Loaded) (left between : Option (List ℕ)) (loade
   may_prepare fails failure (inr (inl strict)) = inr (inr (inr (inl (load, left, between, loaded, strict))))
   may_prepare fails failure (inr (inr (inl refused))) = inr (inr (inr (inr (inl (load, left, between, loaded, refused)))))
   may_prepare fails failure (inr (inr (inr memory))) = may_fail call fails failure (inl memory)
-
-module _ {W E : Type 0} (Writes : Writers W) (K : SinkGhosts E) (call : Call) (left : Option (List ℕ)) (load : Loaded) where
-  -- nothing is ready
-  pub call_unready : (left' : Option (List ℕ)) (failure : Failure) (output : FromWrite W) (errors errors' : Errors E) → AreLoaded (reading_by call) call.given load left left' → CannotPrepare call.given load failure
-      → (errors' ≡ errors) ⊎ TellsDoubts K (has Strict call.given) call.given load.secrets errors errors' → CallOutcome Writes K call left left' (Err failure) output output errors errors'
-  call_unready left' failure output errors errors' loaded cannot told =
-      call_ended Writes K call left left' failure output errors errors' (may_prepare call load left left' loaded _ failure cannot)
-      (unready_may K call _ (λ line is. inr (inr (inr is))) load left left' loaded errors errors' told) (unready_may K call _ (λ line is. inr is) load left left' loaded errors errors' told)

@@ -1,11 +1,10 @@
 -- Arguments that are not UTF-8: which of them name files, and what is told of these.
 use Rattle.acredact.specs.Common.{Form, OtherFailure, OutOfMemory, argument_form, concat, joined_letters, long_name, long_with, no_more, no_option}
-use Rattle.std.specs.Prelude.{◌≡◌, ◌⊎◌, ℕ, ◌++◌, ◌||◌, not, Bool, true, false, List, [], ◌∷◌, Option, Some, None, Result, IfOk, codes, map, if◌then◌else◌}
+use Rattle.std.specs.Prelude.{◌≡◌, ◌⊎◌, ℕ, ◌==◌, ◌++◌, ◌||◌, not, Bool, MatchBool, true, false, List, [], ◌∷◌, Option, Some, None, Result, Ok, Err, IfOk, codes, length, map, if◌then◌else◌}
 use Rattle.std.specs.Str.{IsUtf8}
 use Rattle.tool_parts.specs.Arguments.{texts}
 use Rattle.tool_parts.specs.declared.failure.Failure.TheVariants.{Usage}
-use Rattle.acredact.specs.Arguments.{Given, ItemsSoFar, all_asked, by_argument, gives_rules, has}
-use Rattle.acredact.specs.Calls.{gives_pattern}
+use Rattle.acredact.specs.Arguments.{Given, ReadOrLine, all_asked, by_argument, gives_pattern, gives_rules, has}
 use Rattle.acredact.specs.Messages.{line_about}
 use Rattle.acredact.specs.Reads.{bytes_of_names}
 use Rattle.acredact.specs.declared.apart.Apart.{Apart}
@@ -16,9 +15,9 @@ use Rattle.acredact.specs.declared.arguments.Expects.TheVariants.{Any, Value, Na
 use Rattle.acredact.specs.declared.options.Word.TheVariants.{File, Help, Output, Version}
 
 -- what is expected behind an argument; behind one that is wrong that does not matter
-abbrev pub expected_by : Option ItemsSoFar → Expects
-expected_by None = Any
-expected_by (Some read) = read.next
+abbrev pub expected_by : ReadOrLine → Expects
+expected_by (Ok read) = read.next
+expected_by (Err line) = Any
 
 abbrev pub next_behind : Expects → List ℕ → Expects
 next_behind expects argument = expected_by (by_argument expects argument [])
@@ -37,52 +36,50 @@ names_file Any argument = is_no_option (argument_form argument)
 names_file (Value word) argument = false
 names_file Name argument = true
 
--- each of these arguments is UTF-8 or names a file: those that are, and the others, in order
-abbrev pub AreSetApart : Expects → List (List ℕ) → (arguments names : List (List ℕ)) → Type 0
-AreSetApart expects [] arguments names = (arguments ≡ []) × (names ≡ [])
-AreSetApart expects (one ∷ rest) arguments names =
-    (IsUtf8 one × (others : List (List ℕ)) × (arguments ≡ one ∷ others) × AreSetApart (next_behind expects one) rest others names)
-    ⊎ ((IsUtf8 one → ⊥) × (names_file expects one ≡ true) × (others : List (List ℕ)) × (names ≡ one ∷ others) × AreSetApart expects rest arguments others)
-
--- one of them is not UTF-8, and names no file
-abbrev pub HaveNoName : Expects → List (List ℕ) → Type 0
-HaveNoName expects [] = ⊥
-HaveNoName expects (one ∷ rest) =
-    (IsUtf8 one × HaveNoName (next_behind expects one) rest)
-    ⊎ ((IsUtf8 one → ⊥) × ((names_file expects one ≡ false) ⊎ ((names_file expects one ≡ true) × HaveNoName expects rest)))
+-- behind these that are UTF-8 and these names, each of some arguments is UTF-8 or names a file: all that are, and all names, in order. Or
+-- one of them is neither
+abbrev pub SetsApart : Expects → List (List ℕ) → (arguments names : List (List ℕ)) → Option (List (List ℕ) × List (List ℕ)) → Type 0
+SetsApart expects [] arguments names all = all ≡ Some (arguments, names)
+SetsApart expects (one ∷ rest) arguments names all =
+    (IsUtf8 one × SetsApart (next_behind expects one) rest (arguments ++ (one ∷ [])) names all)
+    ⊎ ((IsUtf8 one → ⊥) × MatchBool (names_file expects one) (SetsApart expects rest arguments (names ++ (one ∷ [])) all) (all ≡ None))
 
 -- so all arguments of a call were set apart
 abbrev pub IsSetApart : Expects → List (List ℕ) → Apart → Type 0
-IsSetApart expects given apart = AreSetApart expects given (texts apart.arguments.items) (bytes_of_names apart.names.items)
+IsSetApart expects given apart =
+    SetsApart expects given [] [] (Some (texts apart.arguments.items, bytes_of_names apart.names.items))
 
 -- or they were not, since memory ran out or one of them is wrong
 abbrev pub IsNotApart : List (List ℕ) → OtherFailure → Type 0
-IsNotApart given failure = (failure ≡ OutOfMemory) ⊎ ((failure ≡ Usage) × HaveNoName Any given)
+IsNotApart given failure = (failure ≡ OutOfMemory) ⊎ ((failure ≡ Usage) × SetsApart Any given [] [] None)
 
--- one argument more was put to those that are UTF-8
-pub record PutsText (expects : Expects) (argument : List ℕ) (next : Option Expects) (apart apart' : Apart) : Type 0 where
-  pub text : IsUtf8 argument
-  pub next_is : next ≡ Some (next_behind expects argument)
-  pub put : texts apart'.arguments.items ≡ texts apart.arguments.items ++ (argument ∷ [])
-  pub names : apart'.names ≡ apart.names
+module _ (expects : Expects) (argument : List ℕ) (next : Option Expects) (apart apart' : Apart) where
+  -- one argument more was put to those that are UTF-8
+  pub record PutsArgument : Type 0 where
+    pub text : IsUtf8 argument
+    pub next_is : next ≡ Some (next_behind expects argument)
+    pub put : texts apart'.arguments.items ≡ texts apart.arguments.items ++ (argument ∷ [])
+    pub names : apart'.names ≡ apart.names
 
--- or to the names
-pub record PutsName (expects : Expects) (argument : List ℕ) (next : Option Expects) (apart apart' : Apart) : Type 0 where
-  pub no_text : IsUtf8 argument → ⊥
-  pub is_name : names_file expects argument ≡ true
-  pub next_is : next ≡ Some expects
-  pub put : bytes_of_names apart'.names.items ≡ bytes_of_names apart.names.items ++ (argument ∷ [])
-  pub arguments : apart'.arguments ≡ apart.arguments
+  -- or to the names
+  pub record PutsName : Type 0 where
+    pub no_text : IsUtf8 argument → ⊥
+    pub is_name : names_file expects argument ≡ true
+    pub next_is : next ≡ Some expects
+    pub put : bytes_of_names apart'.names.items ≡ bytes_of_names apart.names.items ++ (argument ∷ [])
+    pub arguments : apart'.arguments ≡ apart.arguments
 
--- or it is wrong
-pub record IsWrong (expects : Expects) (argument : List ℕ) (next : Option Expects) : Type 0 where
-  pub no_text : IsUtf8 argument → ⊥
-  pub no_name : names_file expects argument ≡ false
-  pub next_is : next ≡ None
+  -- or it is wrong
+  pub record IsWrong : Type 0 where
+    pub no_text : IsUtf8 argument → ⊥
+    pub no_name : names_file expects argument ≡ false
+    pub next_is : next ≡ None
+
+  abbrev pub PutsOne : Type 0
+  PutsOne = PutsArgument ⊎ (PutsName ⊎ IsWrong)
 
 abbrev pub Puts : {X : Type 0} → Expects → List ℕ → Result (Option Expects) X → (apart apart' : Apart) → Type 0
-Puts expects argument result apart apart' =
-    IfOk result (λ next. PutsText expects argument next apart apart' ⊎ (PutsName expects argument next apart apart' ⊎ IsWrong expects argument next))
+Puts expects argument result apart apart' = IfOk result (λ next. PutsOne expects argument next apart apart')
 
 -- the line that tells that such a file cannot be opened
 abbrev pub unnamed_line : List ℕ → List ℕ
@@ -91,15 +88,11 @@ unnamed_line name = line_about name (codes "its name is not UTF-8, so it cannot 
 abbrev pub unnamed_lines : List (List ℕ) → List ℕ
 unnamed_lines names = concat (map unnamed_line names)
 
--- files are read for something: for patterns, or for what rules mark
-abbrev pub seeks_any : List Given → Bool
-seeks_any given = gives_pattern given || gives_rules given
-
--- what is to be told of such files, by what else is given: where no file is read, nothing. Where no other file is given, and where all
--- files have one output, nothing else is to be done
+-- what is to be told of such files, by what else is given: where no file is read, for patterns or for what rules mark, nothing. Where no
+-- other file is given, and where all files have one output, nothing else is to be done
 abbrev pub told_by : List Given → (none : Bool) → Told
 told_by given none =
-    if none || has Help given || has Version given || not (seeks_any given) then Nothing
+    if none || has Help given || has Version given || not (gives_pattern given || gives_rules given) then Nothing
     else if has Output given || not (has File given) then EachAlone
     else Each
 
@@ -108,13 +101,10 @@ tells_nothing Nothing = true
 tells_nothing Each = false
 tells_nothing EachAlone = false
 
-abbrev pub has_none : List (List ℕ) → Bool
-has_none [] = true
-has_none (name ∷ names) = false
-
 -- it is so of the arguments of a call
 abbrev pub IsToldOf : Apart → Told → Type 0
-IsToldOf apart told = (given : List Given) × (all_asked (texts apart.arguments.items) ≡ Some given) × (told ≡ told_by given (has_none (bytes_of_names apart.names.items)))
+IsToldOf apart told = (given : List Given) × (all_asked (texts apart.arguments.items) ≡ Some given)
+    × (told ≡ told_by given (length apart.names.items == 0))
 
 -- the lines of that
 abbrev pub told_lines : Told → List (List ℕ) → List ℕ

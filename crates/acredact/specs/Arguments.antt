@@ -1,11 +1,14 @@
 -- What the arguments, those after the program's name, ask for.
 use Rattle.acredact.specs.Common.{Form, Standard, argument_form, bytes_eq, joined_letters, long_name, long_with, no_more, no_option}
-use Rattle.std.specs.Prelude.{◌≡◌, ◌⊎◌, ℕ, ◌==◌, ◌++◌, ◌||◌, ◌&&◌, not, Bool, true, false, List, [], ◌∷◌, Option, Some, None, Result, IfOk, codes, is_some, map, option_and_then, unwrap_or, String, Vec, if◌then◌else◌}
+use Rattle.std.specs.Prelude.{◌≡◌, ◌⊎◌, ℕ, ◌==◌, ◌++◌, ◌||◌, ◌&&◌, not, Bool, true, false, List, [], ◌∷◌, Option, Some, None, Result, Ok, Err, IfErr, IfOk, codes, is_some, map, option_and_then, unwrap_or, String, Vec, if◌then◌else◌}
+use Rattle.std.specs.Result.{result_ok}
 use Rattle.aho_core.specs.declared.search.MatchKind.{MatchKind}
 use Rattle.tool_parts.specs.Arguments.{kind_by, texts}
+use Rattle.tool_parts.specs.declared.options.misuse.Misuse.TheVariants.{NoArgument, TakesNone}
 use Rattle.acredact.specs.Forms.{are_forms}
 use Rattle.acredact.specs.Long.{word_by_name}
 use Rattle.acredact.specs.LineSizes.{is_size}
+use Rattle.acredact.specs.Mistakes.{letter_line, misuse_line, mistake_line, option_name, value_line, value_name}
 use Rattle.acredact.specs.Values.{is_variable_name}
 use Rattle.acredact.specs.declared.options.Word.{Word}
 use Rattle.acredact.specs.declared.options.Word.TheVariants.{IgnoreCase, Kind, Pattern, Patterns, Table, Env, EnvFile, Whole, With, Pseudonym, Forms, AsWord, Rules, After, MaxLine, Output, InPlace, Count, Summary, Crlf, AllowEmpty, Strict, Check, Help, Version, File}
@@ -14,6 +17,8 @@ use Rattle.acredact.specs.declared.arguments.Expects.TheVariants.{Any, Value, Na
 use Rattle.acredact.specs.declared.destination.Destination.{Destination}
 use Rattle.acredact.specs.declared.destination.Destination.TheVariants.{EachFile, NewFile, StandardOutput}
 use Rattle.acredact.specs.declared.options.Item.{Item}
+use Rattle.acredact.specs.declared.mistakes.Mistake.{Mistake}
+use Rattle.acredact.specs.declared.mistakes.Mistake.TheVariants.{Mixed, OutOfMemory}
 use Rattle.acredact.specs.declared.mistakes.Mixture.{Mixture}
 use Rattle.acredact.specs.declared.mistakes.Mixture.TheVariants.{StrictKind, PseudonymKind, PseudonymWith, PseudonymTable, FormsKind, WordsKind, WordsForms, RulesKind, RulesInPlace, RulesStrict, MaxLineAlone, CountCheck, SummaryCheck, OutputCheck, InPlaceCheck, InPlaceOutput}
 
@@ -33,21 +38,7 @@ all_given items = map given_of items
 
 -- the options that need a value
 abbrev pub takes_value : Word → Bool
-takes_value Kind = true
-takes_value Pattern = true
-takes_value Patterns = true
-takes_value Table = true
-takes_value Env = true
-takes_value EnvFile = true
-takes_value Whole = true
-takes_value With = true
-takes_value Pseudonym = true
-takes_value Forms = true
-takes_value Rules = true
-takes_value After = true
-takes_value MaxLine = true
-takes_value Output = true
-takes_value other = false
+takes_value word = is_some (value_name word)
 
 -- the kind that covers each byte of each match
 abbrev pub is_cover : List ℕ → Bool
@@ -66,48 +57,58 @@ pub record ItemsSoFar : Type 0 where
   pub next : Expects
   pub items : List Given
 
-abbrev pub items_so_far : Expects → List Given → Option ItemsSoFar
-items_so_far next items = Some (record { next = next; items = items })
+-- that, or the line that tells what is wrong
+abbrev pub ReadOrLine : Type 0
+ReadOrLine = Result ItemsSoFar (List ℕ)
+
+abbrev pub items_so_far : Expects → List Given → ReadOrLine
+items_so_far next items = Ok (record { next = next; items = items })
+
+-- what follows, where nothing is wrong so far
+abbrev pub if_right : {X Y : Type 0} → (X → Result Y (List ℕ)) → Result X (List ℕ) → Result Y (List ℕ)
+if_right follows (Ok so_far) = follows so_far
+if_right follows (Err line) = Err line
 
 -- an item more
-abbrev pub with_item : Word → List ℕ → Expects → List Given → Option ItemsSoFar
+abbrev pub with_item : Word → List ℕ → Expects → List Given → ReadOrLine
 with_item word value next items = items_so_far next (items ++ (given word value ∷ []))
 
 -- the value of an option
-abbrev pub by_value : Word → List ℕ → List Given → Option ItemsSoFar
-by_value word value items = if is_value_of word value then with_item word value Any items else None
+abbrev pub by_value : Word → List ℕ → List Given → ReadOrLine
+by_value word value items = if is_value_of word value then with_item word value Any items else Err (value_line word)
 
 -- an option that needs a value waits for it
-abbrev pub word_by : Word → List Given → Option ItemsSoFar
+abbrev pub word_by : Word → List Given → ReadOrLine
 word_by word items = if takes_value word then items_so_far (Value word) items else with_item word [] Any items
 
 -- a long name without a value
-abbrev pub by_name : List ℕ → List Given → Option ItemsSoFar
-by_name name items = option_and_then (λ word. word_by word items) (word_by_name name)
+abbrev pub by_name : List ℕ → List Given → ReadOrLine
+by_name name items = if_right (λ word. word_by word items) (word_by_name name)
 
 -- one with a value behind an equals sign, which the option has to take
-abbrev pub by_valued : Word → List ℕ → List Given → Option ItemsSoFar
-by_valued word value items = if takes_value word then by_value word value items else None
+abbrev pub by_valued : Word → (name value : List ℕ) → List Given → ReadOrLine
+by_valued word name value items =
+    if takes_value word then by_value word value items else Err (misuse_line TakesNone name)
 
-abbrev pub by_joined : (name value : List ℕ) → List Given → Option ItemsSoFar
-by_joined name value items = option_and_then (λ word. by_valued word value items) (word_by_name name)
+abbrev pub by_joined : (name value : List ℕ) → List Given → ReadOrLine
+by_joined name value items = if_right (λ word. by_valued word name value items) (word_by_name name)
 
 -- the value of an option stands behind its letter, or is the next argument
-abbrev pub by_taken : Word → List ℕ → List Given → Option ItemsSoFar
+abbrev pub by_taken : Word → List ℕ → List Given → ReadOrLine
 by_taken word [] items = items_so_far (Value word) items
 by_taken word (first ∷ rest) items = with_item word (first ∷ rest) Any items
 
 -- the letter of an option with a value, and what stands behind it
-abbrev pub by_letter : List ℕ → List Given → Option ItemsSoFar
+abbrev pub by_letter : List ℕ → List Given → ReadOrLine
 by_letter [] items = items_so_far Any items
 by_letter (letter ∷ rest) items =
     if letter == 101 then by_taken Pattern rest items
     else if letter == 102 then by_taken Patterns rest items
     else if letter == 116 then by_taken Table rest items
-    else None
+    else Err (letter_line letter)
 
 -- joined letters: those of options without a value stand in front
-abbrev pub by_letters : List ℕ → List Given → Option ItemsSoFar
+abbrev pub by_letters : List ℕ → List Given → ReadOrLine
 by_letters [] items = items_so_far Any items
 by_letters (letter ∷ rest) items =
     if letter == 105 then by_letters rest (items ++ (given IgnoreCase [] ∷ []))
@@ -115,41 +116,47 @@ by_letters (letter ∷ rest) items =
     else by_letter (letter ∷ rest) items
 
 -- an argument that stands where an option may, by what it is; behind '--' there are files alone
-abbrev pub by_form : Form → List ℕ → List Given → Option ItemsSoFar
+abbrev pub by_form : Form → List ℕ → List Given → ReadOrLine
 by_form no_more argument items = items_so_far Name items
 by_form (long_name name) argument items = by_name name items
 by_form (long_with name value) argument items = by_joined name value items
 by_form (joined_letters letters) argument items = by_letters letters items
 by_form no_option argument items = with_item File argument Any items
 
-abbrev pub by_any : List ℕ → List Given → Option ItemsSoFar
+abbrev pub by_any : List ℕ → List Given → ReadOrLine
 by_any argument items = by_form (argument_form argument) argument items
 
 -- an argument, by what is expected of it
-abbrev pub by_argument : Expects → List ℕ → List Given → Option ItemsSoFar
+abbrev pub by_argument : Expects → List ℕ → List Given → ReadOrLine
 by_argument Any argument items = by_any argument items
 by_argument (Value word) argument items = by_value word argument items
 by_argument Name argument items = with_item File argument Name items
 
 -- no option may wait for its value at the end
-abbrev pub items_at_end : Expects → List Given → Option (List Given)
-items_at_end Any items = Some items
-items_at_end (Value word) items = None
-items_at_end Name items = Some items
+abbrev pub items_at_end : Expects → List Given → Result (List Given) (List ℕ)
+items_at_end Any items = Ok items
+items_at_end (Value word) items = Err (misuse_line NoArgument (option_name word))
+items_at_end Name items = Ok items
 
 -- one argument after another
-abbrev pub given_from : Expects → List (List ℕ) → List Given → Option (List Given)
+abbrev pub given_from : Expects → List (List ℕ) → List Given → Result (List Given) (List ℕ)
 given_from expects [] items = items_at_end expects items
 given_from expects (argument ∷ rest) items =
-    option_and_then (λ read. given_from read.next rest read.items) (by_argument expects argument items)
+    if_right (λ read. given_from read.next rest read.items) (by_argument expects argument items)
 
--- all options and files, in order; none where an argument is wrong, or a value is missing at the end
-abbrev pub given_by : List (List ℕ) → Option (List Given)
+-- all options and files, in order; or the line that tells the first argument that is wrong, or the value that is missing at the end
+abbrev pub given_by : List (List ℕ) → Result (List Given) (List ℕ)
 given_by arguments = given_from Any arguments []
 
 -- where it does not fail an argument was read by this
-abbrev pub ReadsAs : {X Z : Type 0} → (List Given → Option ItemsSoFar) → Vec Item Z → Vec Item Z → Result Expects X → Type 0
-ReadsAs reads old new result = IfOk result (λ next. reads (all_given old.items) ≡ items_so_far next (all_given new.items))
+abbrev pub ReadsAs : {X Z : Type 0} → (List Given → ReadOrLine) → Vec Item Z → Vec Item Z → Result Expects X → Type 0
+ReadsAs reads old new result =
+    IfOk result (λ next. reads (all_given old.items) ≡ items_so_far next (all_given new.items))
+
+-- where it fails it is wrong by this, and that is told; or memory runs out
+abbrev pub FailsAs : {X Z : Type 0} → (List Given → ReadOrLine) → Vec Item Z → Result X Mistake → Type 0
+FailsAs reads old result =
+    IfErr result (λ mistake. (mistake ≡ OutOfMemory) ⊎ (reads (all_given old.items) ≡ Err (mistake_line mistake)))
 
 -- this option
 abbrev pub is_same : Word → Word → Bool
@@ -199,24 +206,6 @@ last_value word (item ∷ items) = or_else (last_value word items) (value_of wor
 abbrev pub has : Word → List Given → Bool
 has word items = is_some (last_value word items)
 
--- how an option that needs a value is called
-abbrev pub option_name : Word → List ℕ
-option_name Kind = codes "--kind"
-option_name Pattern = codes "-e"
-option_name Patterns = codes "-f"
-option_name Table = codes "-t"
-option_name Env = codes "--env"
-option_name EnvFile = codes "--env-file"
-option_name Whole = codes "--whole"
-option_name With = codes "--with"
-option_name Pseudonym = codes "--pseudonym"
-option_name Forms = codes "--forms"
-option_name Rules = codes "--rules"
-option_name After = codes "--after"
-option_name MaxLine = codes "--max-line"
-option_name Output = codes "--output"
-option_name other = codes "-e"
-
 -- the file that is written in the place of standard output, where one is asked for; help and the version go to that
 abbrev pub output_asked : List Given → Option (List ℕ)
 output_asked items = if has Help items || has Version items then None else last_value Output items
@@ -244,32 +233,23 @@ words_asked items = covers_asked items && has AsWord items
 abbrev pub gives_rules : List Given → Bool
 gives_rules items = has Rules items || has After items
 
--- the length of lines is that of rules
-abbrev pub max_line_mixture_of : List Given → Option Mixture
-max_line_mixture_of given = if has MaxLine given then Some MaxLineAlone else None
-
--- the options that do not go together with rules
+-- the options that do not go together with rules; the length of lines is that of rules
 abbrev pub rules_mixture_of : List Given → Option Mixture
 rules_mixture_of given =
-    if not (gives_rules given) then max_line_mixture_of given
-    else if not (covers_asked given) then Some RulesKind
-    else if has InPlace given then Some RulesInPlace
-    else if has Strict given then Some RulesStrict
+    if not (gives_rules given) && has MaxLine given then Some MaxLineAlone
+    else if gives_rules given && not (covers_asked given) then Some RulesKind
+    else if gives_rules given && has InPlace given then Some RulesInPlace
+    else if gives_rules given && has Strict given then Some RulesStrict
     else None
 
--- those of --in-place
-abbrev pub in_place_mixture_of : List Given → Option Mixture
-in_place_mixture_of given =
-    if has InPlace given && has Check given then Some InPlaceCheck
-    else if has InPlace given && has Output given then Some InPlaceOutput
-    else rules_mixture_of given
-
--- and those of --word
+-- those of --word and --in-place
 abbrev pub words_mixture_of : List Given → Option Mixture
 words_mixture_of given =
     if has AsWord given && not (covers_asked given) then Some WordsKind
     else if has AsWord given && has Forms given then Some WordsForms
-    else in_place_mixture_of given
+    else if has InPlace given && has Check given then Some InPlaceCheck
+    else if has InPlace given && has Output given then Some InPlaceOutput
+    else rules_mixture_of given
 
 -- the options that do not go together, where some do not: pieces are refused of covers alone, pseudonyms are of covers and leave no
 -- choice of what is written, and a check counts nothing
@@ -292,7 +272,21 @@ fitting_by (Some mixture) given = None
 
 -- all options and files that arguments ask for; none where the arguments are wrong
 abbrev pub all_asked : List (List ℕ) → Option (List Given)
-all_asked arguments = option_and_then (λ given. fitting_by (mixture_of given) given) (given_by arguments)
+all_asked arguments = option_and_then (λ given. fitting_by (mixture_of given) given) (result_ok (given_by arguments))
+
+-- this is what is wrong with one of the arguments, or memory runs out
+abbrev pub IsMistake : List (List ℕ) → Mistake → Type 0
+IsMistake arguments mistake = (mistake ≡ OutOfMemory) ⊎ (given_by arguments ≡ Err (mistake_line mistake))
+
+-- options that are right each do not go together
+abbrev pub AreMixed : List (List ℕ) → Mistake → Type 0
+AreMixed arguments mistake =
+    (given : List Given) × (mixture : Mixture) × (given_by arguments ≡ Ok given)
+    × (mixture_of given ≡ Some mixture) × (mistake ≡ Mixed mixture)
+
+-- what is wrong with the arguments of a call: one of them, or that they do not go together
+abbrev pub IsMistakeOfCall : List (List ℕ) → Mistake → Type 0
+IsMistakeOfCall arguments mistake = IsMistake arguments mistake ⊎ AreMixed arguments mistake
 
 -- a redaction is asked for: no help, no version and no check; and there are no rules
 pub record AsksToRedact (given : List Given) : Type 0 where
@@ -348,14 +342,12 @@ pub record RefusesUnclean (given : List Given) : Type 0 where
   pub covers : covers_asked given ≡ true
   pub all : words_asked given ≡ false
 
--- no option gives patterns
-pub record GivesNoPattern (given : List Given) : Type 0 where
-  pub no_pattern : has Pattern given ≡ false
-  pub no_patterns : has Patterns given ≡ false
-  pub no_table : has Table given ≡ false
-  pub no_env : has Env given ≡ false
-  pub no_env_file : has EnvFile given ≡ false
-  pub no_whole : has Whole given ≡ false
+-- whether an option gives patterns
+abbrev pub gives_pattern : List Given → Bool
+gives_pattern given = has Pattern given || has Patterns given || has Table given || has Env given || has EnvFile given || has Whole given
+
+abbrev pub GivesNoPattern : List Given → Type 0
+GivesNoPattern given = gives_pattern given ≡ false
 
 -- what holds of the options and files that are given, where the arguments are right
 abbrev pub IfRight : {Z : Type 0} → List (String Z) → (List Given → Type 0) → Type 0
@@ -385,7 +377,8 @@ GoesTo given StandardOutput = (in_place_asked given ≡ false) × (output_asked 
 
 -- and with these arguments
 abbrev pub IsDestination : {Z : Type 0} → List (String Z) → Destination → Type 0
-IsDestination arguments destination = (given : List Given) × (all_asked (texts arguments) ≡ Some given) × GoesTo given destination
+IsDestination arguments destination =
+    (given : List Given) × (all_asked (texts arguments) ≡ Some given) × GoesTo given destination
 
 -- these arguments ask for a check
 abbrev pub IsCheck : {Z : Type 0} → List (String Z) → Type 0

@@ -1,11 +1,9 @@
 -- How great the numbers are that are told: none has grown by more than the bytes that were read, whether all were read or not.
-use Rattle.acredact.specs.Common.{Consumes, Readers, SourceGave, SourceGhosts, bytes_left, name_bytes}
-use Rattle.std.specs.Prelude.{◌≡◌, ℕ, ◌+◌, ◌<◌, ◌≤◌, Bool, List, [], ◌∷◌, Option, length, slice_index}
+use Rattle.acredact.specs.Common.{Consumes, SourceGhosts}
+use Rattle.std.specs.Prelude.{◌≡◌, ℕ, ◌+◌, ◌<◌, ◌≤◌, List, [], ◌∷◌, Option, length, slice_index}
 use Rattle.std.specs.List.{sum}
+use Rattle.acredact.specs.Deeds.{SomeStream}
 use Rattle.acredact.specs.Reads.{OfName}
-use Rattle.acredact.specs.declared.files.Job.{Job}
-use Rattle.acredact.specs.declared.folder.Folder.{Ghosts as Folders}
-use Rattle.acredact.specs.declared.streams.Streams.{Streams}
 use Rattle.acredact.specs.declared.summary.Volume.{Volume}
 
 -- no count has grown by more than this, nor have all together
@@ -15,32 +13,24 @@ pub record GrowAtMost (most : ℕ) (counts counts' : List ℕ) : Type 0 where
   pub together : sum counts' ≤ sum counts + most
 
 -- no count has grown by more than a source gave
-pub record Bounded {R : Type 0} (S : SourceGhosts R) (source source' : R) (counts counts' : List ℕ) : Type 0 where
-  pub given : List ℕ
-  pub ended : Bool
-  pub gives : SourceGave S source source' given ended
-  pub counted : GrowAtMost (length given) counts counts'
+abbrev pub Bounded : {R : Type 0} → SourceGhosts R → (source source' : R) → (counts counts' : List ℕ) → Type 0
+Bounded S source source' counts counts' = SomeStream S (λ given ended. GrowAtMost (length given) counts counts') source source'
 
-module _ (counts counts' : List ℕ) (bytes bytes' : ℕ) where
-  -- nor a number of bytes, by more than was read of a text
-  pub record NumbersRead (left left' : Option (List ℕ)) : Type 0 where
-    pub given : List ℕ
-    pub read : Consumes left left' given
-    pub counted : GrowAtMost (length given) counts counts'
-    pub added : bytes' ≤ bytes + length given
+-- so many bytes were read of a text
+abbrev pub ReadsSize : ℕ → (left left' : Option (List ℕ)) → Type 0
+ReadsSize size left left' = (given : List ℕ) × Consumes left left' given × (length given ≡ size)
 
-  -- of the file of a name
-  abbrev pub NumbersOfName : (holds : List ℕ → Option (List ℕ)) → List ℕ → (left left' : Option (List ℕ)) → Type 0
-  NumbersOfName holds name left left' = OfName holds name NumbersRead left left'
-
--- of a source
-abbrev pub NumbersOfSource : {R : Type 0} → SourceGhosts R → (counts counts' : List ℕ) → (bytes bytes' : ℕ) → (source source' : R) → Type 0
-NumbersOfSource S counts counts' bytes bytes' source source' = NumbersRead counts counts' bytes bytes' (S.remaining source) (S.remaining source')
+-- nor has a number of bytes, by more than was read of something
+pub record NumbersRead (Of : (Option (List ℕ) → Option (List ℕ) → Type 0) → Type 0) (counts counts' : List ℕ) (bytes bytes' : ℕ) : Type 0 where
+  pub size : ℕ
+  pub read : Of (ReadsSize size)
+  pub counted : GrowAtMost size counts counts'
+  pub added : bytes' ≤ bytes + size
 
 module _ (holds : List ℕ → Option (List ℕ)) where
   -- so many bytes were read of the file of a name
   abbrev pub ReadsSome : List ℕ → ℕ → (left left' : Option (List ℕ)) → Type 0
-  ReadsSome name size left left' = OfName holds name (λ l l'. (given : List ℕ) × Consumes l l' given × (length given ≡ size)) left left'
+  ReadsSome name size left left' = OfName holds name (ReadsSize size) left left'
 
   -- and of all files, one after another
   abbrev pub ReadInAll : List (List ℕ) → ℕ → (left left' : Option (List ℕ)) → Type 0
@@ -56,10 +46,3 @@ module _ (holds : List ℕ → Option (List ℕ)) where
     pub counted : GrowAtMost size counts counts'
     pub bytes : volume'.bytes ≤ volume.bytes + size
     pub files : volume'.files ≤ volume.files + length names
-
-module _ {F X : Type 0} (D : Folders F X) (job : Job F) {R : Type 0} {Reads : Readers R} where
-  -- of all files of a job
-  abbrev pub JobNumbers : {W E : Type 0} → (counts counts' : List ℕ)
-      → (volume volume' : Volume) → (streams streams' : Streams R W E Reads) → Type 0
-  JobNumbers counts counts' volume volume' streams streams' =
-      NumbersOfAll (D.holds job.folder.now) (name_bytes job.names.now) counts counts' volume volume' (bytes_left streams.input) (bytes_left streams'.input)

@@ -1,22 +1,22 @@
 -- What a call does, by what its arguments ask for, and what it tells.
 use Rattle.acredact.specs.Common.{Errors, FromWrite, IsMember, Occurrence, OtherFailure, OutOfMemory, Patterns, Readers, Reason, SinkGhosts, Tells, TellsBytes, TellsSome, Writers, bytes_left, counted, output_bytes}
-use Rattle.std.specs.Prelude.{◌≡◌, ◌⊎◌, ℕ, ◌<◌, ◌≤◌, slice_index, ◌||◌, Bool, MatchBool, true, false, List, [], ◌∷◌, Option, Result, Ok, Err, codes, is_some, length, map, option_map, unwrap_or, if◌then◌else◌}
+use Rattle.std.specs.Prelude.{◌≡◌, ◌⊎◌, ℕ, ◌<◌, ◌≤◌, slice_index, Bool, true, false, List, [], ◌∷◌, Option, Result, Ok, Err, Vec, codes, is_some, length, map, option_map, unwrap_or, if◌then◌else◌}
 use Rattle.aho_core.specs.declared.error.BuildError.{BuildError}
 use Rattle.tool_parts.specs.Building.{RefusesPatterns}
 use Rattle.tool_parts.specs.Names.{IsOneOf, or_input}
 use Rattle.tool_parts.specs.declared.failure.Failure.TheVariants.{Build, Write, WriteZero}
-use Rattle.acredact.specs.Arguments.{Given, GivesNoPattern, RefusesUnclean, all_given, counts_asked, covers_asked, has, is_same, last_value, words_asked}
+use Rattle.acredact.specs.Arguments.{Given, GivesNoPattern, IsMistakeOfCall, RefusesUnclean, all_given, counts_asked, covers_asked, has, is_same, last_value, words_asked}
 use Rattle.acredact.specs.Bounds.{ReadInAll}
 use Rattle.acredact.specs.Builds.{patterns_by_given}
 use Rattle.acredact.specs.Counts.{secret_lines, lines_of_rules}
 use Rattle.acredact.specs.Doubts.{IsDoubtFailure, TellsWarnings, all_doubt_lines}
 use Rattle.acredact.specs.Failures.{IsFailureLine}
 use Rattle.acredact.specs.Forms.{forms_asked}
-use Rattle.acredact.specs.Files.{AreCut, AreFree, AreRedacted, Work, unread_line}
+use Rattle.acredact.specs.Files.{AreCut, AreFree, AreRedacted, Work, task_of, unread_line}
 use Rattle.acredact.specs.Hidden.{AreHidden}
-use Rattle.acredact.specs.Loading.{AreLoaded, CannotLoadAll, CannotLoadKey, CannotLoadOne, IsKeyGiven, Loaded, Reading, Rules, loaded_in, loaded_of, secrets_by}
+use Rattle.acredact.specs.Loading.{AreGiven, AreLoaded, CannotLoadAll, CannotLoadKey, CannotLoadOne, IsKeyGiven, Loaded, Reading, Rules, loaded_in, loaded_of, secrets_by}
 use Rattle.acredact.specs.Messages.{output_line, unclean_line}
-use Rattle.acredact.specs.Mistakes.{IsMistakeOfCall}
+use Rattle.acredact.specs.Outcomes.{ComesOf}
 use Rattle.acredact.specs.Pieces.{IsUncleanBy}
 use Rattle.acredact.specs.Secrets.{Keyed, Redactor, key_of_cover}
 use Rattle.acredact.specs.Tables.{Secret, patterns_in, piece_by, secrets_of}
@@ -26,7 +26,7 @@ use Rattle.acredact.specs.Totals.{AreTotals, NamesHaveRanges}
 use Rattle.acredact.specs.Volumes.{ReadsVolume}
 use Rattle.acredact.specs.declared.options.Item.{Item}
 use Rattle.acredact.specs.declared.mistakes.Mistake.TheVariants.{NoPattern, OutOfMemory as NoRoom}
-use Rattle.acredact.specs.declared.options.Word.TheVariants.{Crlf, Forms, AllowEmpty, IgnoreCase, Strict, File, Pseudonym, Pattern as PatternOption, Patterns as PatternFile, Table, Env, EnvFile, Whole, With}
+use Rattle.acredact.specs.declared.options.Word.TheVariants.{Crlf, Forms, AllowEmpty, IgnoreCase, Strict, File, Pseudonym, With}
 use Rattle.acredact.specs.declared.clean.Unclean.{Unclean}
 use Rattle.acredact.specs.declared.failure.Failure.{Failure}
 use Rattle.acredact.specs.declared.failure.Failure.TheVariants.{NotText, Arguments, Unclean as UncleanPiece, Counts, Other}
@@ -47,14 +47,6 @@ pub record Call : Type 1 where
 
 abbrev pub call_of : {F X : Type 0} → Folders F X → F → List Given → Call
 call_of D folder given = record { holds = D.holds folder; refuses = D.refuses folder; meets = D.meets folder; environment = D.environment folder; given = given }
-
--- whether an option gives values that are patterns
-abbrev pub gives_value : List Given → Bool
-gives_value given = has Env given || has EnvFile given || has Whole given
-
--- whether an option gives patterns
-abbrev pub gives_pattern : List Given → Bool
-gives_pattern given = has PatternOption given || has PatternFile given || has Table given || gives_value given
 
 abbrev pub rules_asked : List Given → Rules
 rules_asked given = record { crlf = has Crlf given; allow_empty = has AllowEmpty given; parts = covers_asked given; forms = forms_asked (last_value Forms given) }
@@ -131,20 +123,6 @@ abbrev pub IsOfLoaded : Call → (Loaded → Type 0) → Type 0
 IsOfLoaded call Is = (load : Loaded) × (left : Option (List ℕ)) × (between : Option (List ℕ))
     × AreLoaded (reading_by call) call.given load left between × Is load
 
--- such a piece is refused of the patterns that were loaded
-abbrev pub IsUncleanFailure : Call → Failure → Type 0
-IsUncleanFailure call failure =
-    IsOfLoaded call (λ load. IsStrictFailure (has Strict call.given) (redactor_by_given call.given load) failure)
-
--- a pattern of a list that may be meant otherwise is refused
-abbrev pub IsDoubtedCall : Call → Failure → Type 0
-IsDoubtedCall call failure = IsOfLoaded call (λ load. IsDoubtFailure (has Strict call.given) call.given load.secrets failure)
-
--- those that were loaded are refused
-abbrev pub IsRefusedCall : Call → Failure → Type 0
-IsRefusedCall call failure =
-    IsOfLoaded call (λ load. IsBuildRefusal (patterns_by_given call.given (patterns_in load.secrets)) failure)
-
 -- one of the options or the key cannot be loaded, or memory runs out
 abbrev pub CannotLoadCall : Call → Failure → Type 0
 CannotLoadCall call failure = CannotLoadAll (reading_by call) call.given failure ⊎ CannotLoadKey (reading_by call) call.given failure
@@ -155,6 +133,12 @@ IsKeyedBy items rules key made = loaded_in made ≡ loaded_of (secrets_by (all_g
 
 -- what is loaded for some arguments, and what is where the rules were
 module _ {F X : Type 0} (D : Folders F X) (folder : F) (items : List Item) where
+  abbrev pub CannotGiveBy : Failure → Type 0
+  CannotGiveBy failure = CannotLoadAll (reading_by (call_of D folder (all_given items))) (all_given items) failure
+
+  abbrev pub AreGivenBy : {Z : Type 0} → (left left' : Option (List ℕ)) → Vec Rule Z → Type 0
+  AreGivenBy left left' rules = AreGiven (reading_by (call_of D folder (all_given items))) (all_given items) (secrets_of rules.items) left left'
+
   abbrev pub CannotLoadBy : Failure → Type 0
   CannotLoadBy failure = CannotLoadCall (call_of D folder (all_given items)) failure
 
@@ -174,33 +158,30 @@ MayFail call fails failure =
     ((failure ≡ Arguments NoRoom) ⊎ ((failure ≡ Arguments NoPattern) × GivesNoPattern call.given))
     ⊎ ((CannotLoadOne (reading_by call) call.given failure ⊎ CannotLoadKey (reading_by call) call.given failure)
     ⊎ (((failure ≡ Counts) × (counts_asked call.given ≡ true))
-    ⊎ (IsUncleanFailure call failure
-    ⊎ (IsRefusedCall call failure
+    ⊎ (IsOfLoaded call (λ load. IsStrictFailure (has Strict call.given) (redactor_by_given call.given load) failure)
+    ⊎ (IsOfLoaded call (λ load. IsBuildRefusal (patterns_by_given call.given (patterns_in load.secrets)) failure)
     ⊎ (IsRunFailure fails failure
-    ⊎ IsDoubtedCall call failure)))))
+    ⊎ IsOfLoaded call (λ load. IsDoubtFailure (has Strict call.given) call.given load.secrets failure))))))
 
 -- the line that tells why a file was not read to its end, or that the output goes to it
 abbrev pub IsUnreadLine : List (List ℕ) → List ℕ → Type 0
 IsUnreadLine names line =
     (name : List ℕ) × IsOneOf name names × (((reason : Reason) × (line ≡ unread_line name reason)) ⊎ (line ≡ output_line name))
 
--- what is told of files, by whether all were read to their ends, where that is answered
+-- what is told by whether all was done, where that is answered: nothing, or one line or more
+abbrev pub TellsUnlessAll : {E X : Type 0} → SinkGhosts E → (IsLine : List ℕ → Type 0) → Result Bool X → (errors errors' : Errors E) → Type 0
+TellsUnlessAll K IsLine (Ok true) errors errors' = errors' ≡ errors
+TellsUnlessAll K IsLine (Ok false) errors errors' = TellsSome K IsLine errors errors'
+TellsUnlessAll K IsLine (Err error) errors errors' = Tells K IsLine errors errors'
+
+-- of files, by whether all were read to their ends
 abbrev pub TellsOfFiles : {E X : Type 0} → SinkGhosts E → List (List ℕ) → Result Bool X → (errors errors' : Errors E) → Type 0
-TellsOfFiles K names (Ok true) errors errors' = errors' ≡ errors
-TellsOfFiles K names (Ok false) errors errors' = TellsSome K (IsUnreadLine names) errors errors'
-TellsOfFiles K names (Err error) errors errors' = Tells K (IsUnreadLine names) errors errors'
+TellsOfFiles K names result errors errors' = TellsUnlessAll K (IsUnreadLine names) result errors errors'
 
--- the lines of the counts of some patterns, each with the line of its file
-abbrev pub IsCountsText : List Given → List Secret → List ℕ → Type 0
-IsCountsText given secrets text = (counts : List ℕ) × (volume : Volume) × (text ≡ totals_text given (secret_lines secrets) counts volume)
-
--- that, where they are asked for
+-- the lines of the counts of some patterns, each with the line of its file, where they are asked for
 abbrev pub IsCountsLine : List Given → List Secret → List ℕ → Type 0
-IsCountsLine given secrets line = (counts_asked given ≡ true) × IsCountsText given secrets line
-
--- of the patterns that were loaded
-abbrev pub CountsLoaded : Call → List ℕ → Type 0
-CountsLoaded call line = IsOfLoaded call (λ load. IsCountsLine call.given load.secrets line)
+IsCountsLine given secrets line = (counts_asked given ≡ true)
+    × (counts : List ℕ) × (volume : Volume) × (line ≡ totals_text given (secret_lines secrets) counts volume)
 
 -- why the counts are not told
 abbrev pub IsCountsFailure : Bool → Failure → Type 0
@@ -236,7 +217,7 @@ abbrev pub IsLineOf : Call → (fails : Type 0) → List ℕ → Type 0
 IsLineOf call fails line =
     IsUnreadLine (names_asked call.given) line
     ⊎ (((failure : Failure) × MayFail call fails failure × IsFailureLine failure line)
-    ⊎ (CountsLoaded call line
+    ⊎ (IsOfLoaded call (λ load. IsCountsLine call.given load.secrets line)
     ⊎ IsWarningLine call line))
 
 -- what is told of wrong arguments
@@ -250,16 +231,15 @@ IsWrongLine arguments line = (failure : Failure) × IsWrongFailure arguments fai
 abbrev pub IsRefusedLine : OtherFailure → List ℕ → Type 0
 IsRefusedLine failure line = IsFailureLine NotText line ⊎ IsFailureLine (Other failure) line
 
--- the counts of these rules are told whole
-pub record TellsCounts {E : Type 0} (K : SinkGhosts E) (given : List Given) (rules : List Rule) (counts : List ℕ) (volume : Volume) (errors errors' : Errors E) : Type 0 where
-  pub told : TellsBytes K errors errors' (totals_text given (lines_of_rules rules) (sums_of (secrets_of rules) counts) volume)
+-- a text is told whole
+pub record TellsWhole {E : Type 0} (K : SinkGhosts E) (text : List ℕ) (errors errors' : Errors E) : Type 0 where
+  pub told : TellsBytes K errors errors' text
   pub whole : errors'.failed ≡ false
 
--- they are, or nothing is
-abbrev pub TellsAnyCounts : {E : Type 0} → SinkGhosts E → List Given → List Rule
-    → (counts : List ℕ) → Volume → (errors errors' : Errors E) → Type 0
-TellsAnyCounts K given rules counts volume errors errors' =
-    MatchBool (counts_asked given) (TellsCounts K given rules counts volume errors errors') (errors' ≡ errors)
+-- the counts of these rules are
+abbrev pub TellsCounts : {E : Type 0} → SinkGhosts E → List Given → List Rule → (counts : List ℕ) → Volume → (errors errors' : Errors E) → Type 0
+TellsCounts K given rules counts volume errors errors' =
+    TellsWhole K (totals_text given (lines_of_rules rules) (sums_of (secrets_of rules) counts) volume) errors errors'
 
 -- it is told whole how many of these ranges have the text of each pattern in their place, and a form counts for its pattern
 pub record TellsTotals {E : Type 0} (K : SinkGhosts E) (given : List Given) (secrets : List Secret) (ranges : List Occurrence) (volume : Volume) (errors errors' : Errors E) : Type 0 where
@@ -305,13 +285,6 @@ module _ {E : Type 0} (K : SinkGhosts E) (call : Call) where
     pub quiet : counts_asked call.given ≡ false → WarnsCall left errors errors'
     pub counts : counts_asked call.given ≡ true → Counts
 
-  -- what comes of a call: this, where all was done; or some file was not read to its end, or a failure ended it, and that is told
-  abbrev pub CalledAs : (Done fails : Type 0) → Result Bool Failure → (errors errors' : Errors E) → Type 0
-  CalledAs Done fails (Ok true) errors errors' = Done
-  CalledAs Done fails (Ok false) errors errors' = TellsSome K (IsLineOf call fails) errors errors'
-  CalledAs Done fails (Err failure) errors errors' =
-      MayFail call fails failure × Tells K (IsLineOf call fails) errors errors'
-
 -- such lines are told, and behind them such numbers
 pub record TellsNumbers {E : Type 0} (K : SinkGhosts E) (call : Call) (secrets : List Secret) (left left' : Option (List ℕ)) (errors errors' : Errors E) : Type 0 where
   pub counts : List ℕ
@@ -351,7 +324,7 @@ module _ {W : Type 0} (Writes : Writers W) where
     -- of some first files the redaction or a beginning of it was written, or nothing
     abbrev pub BeginsCall : Type 0
     BeginsCall = (output' ≡ output) ⊎ LoadsCall call left (λ load between. (lines : List (List ℕ))
-        × AreCut (work_by call load) (names_asked call.given) lines between left' (output_bytes Writes output) (output_bytes Writes output'))
+        × AreCut (task_of (work_by call load)) (names_asked call.given) lines between left' (output_bytes Writes output) (output_bytes Writes output'))
 
   module _ {E : Type 0} (K : SinkGhosts E) (call : Call) (left left' : Option (List ℕ)) where
     -- all files were redacted. What pieces are not clean is told, and then the counts
@@ -367,8 +340,8 @@ module _ {W : Type 0} (Writes : Writers W) where
 
     -- what comes of a call
     pub record CallOutcome (result : Result Bool Failure) (output output' : FromWrite W) (errors errors' : Errors E) : Type 0 where
-      pub comes : CalledAs K call (RedactsEach output output' errors errors') (OutputFails output output') result errors errors'
-      pub begins : BeginsCall call left left' output output'
+      pub comes : ComesOf K (IsLineOf call (OutputFails output output')) (λ all. all) (λ all. RedactsEach output output' errors errors')
+          (BeginsCall call left left' output output') (Unit {0}) (MayFail call (OutputFails output output')) result errors errors'
       pub numbers : TellsAnyNumbers K call left left' errors errors'
 
 -- what holds of a call from one state of the streams to another

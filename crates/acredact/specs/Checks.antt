@@ -1,17 +1,17 @@
 -- What a check sees of files, one after another, and what it tells.
-use Rattle.acredact.specs.Common.{All, Errors, FromRead, IsMember, OutOfMemory, Patterns, Readers, Reason, SinkGhosts, Tells, TellsBytes, bytes_left, concat, name_bytes}
-use Rattle.std.specs.Prelude.{◌≡◌, ◌⊎◌, ℕ, ◌<◌, ◌≤◌, ◌||◌, Bool, true, false, List, [], ◌∷◌, ◌++◌, Option, Result, IfErr, IfOk, OnErr}
-use Rattle.acredact.specs.Arguments.{AsksToCheck, Given, GivesNoPattern, has, words_asked}
+use Rattle.acredact.specs.Common.{All, Errors, FromRead, Ghosts, IsMember, Keeps, OutOfMemory, Patterns, Readers, Reason, SinkGhosts, Tells, TellsBytes, bytes_left, concat, name_bytes}
+use Rattle.std.specs.Prelude.{◌≡◌, ◌⊎◌, ℕ, ◌<◌, ◌≤◌, ◌||◌, Bool, true, false, List, [], ◌∷◌, ◌++◌, Option, None, Result, Ok, Err, IfErr, IfOk, OnErr}
+use mathlib.Core.Logic.{inl}
+use Rattle.acredact.specs.Arguments.{AsksToCheck, Given, GivesNoPattern, has, words_asked, gives_pattern}
 use Rattle.acredact.specs.Builds.{patterns_by_given}
-use Rattle.acredact.specs.Calls.{Call, IsBuildRefusal, IsUnreadLine, call_of, gives_pattern, names_asked, reading_by}
+use Rattle.acredact.specs.Calls.{Call, IsBuildRefusal, IsUnreadLine, TellsOfFiles, call_of, names_asked, reading_by}
 use Rattle.acredact.specs.Doubts.{IsDoubtFailure, TellsDoubts, all_doubt_lines}
 use Rattle.acredact.specs.Failures.{IsFailureLine}
 use Rattle.acredact.specs.Faults.{IsReadReason}
-use Rattle.acredact.specs.Files.{are_none, unread_line}
+use Rattle.acredact.specs.Files.{BeginsWriting, are_none}
 use Rattle.acredact.specs.Loading.{AreGiven, CannotLoadOne}
-use Rattle.acredact.specs.Looks.{IsLook, HoldsNoMatch, is_found, sought}
-use Rattle.acredact.specs.Reads.{OfName}
-use Rattle.acredact.specs.Secrets.{Redactor}
+use Rattle.acredact.specs.Looks.{CanLook, BeginsToTell, IsLook, Sought, all_seen, look_lines, sought, verdict_of}
+use Rattle.acredact.specs.Reads.{EachName, OfName}
 use Rattle.acredact.specs.Tables.{Secret, patterns_in}
 use Rattle.acredact.specs.declared.mistakes.Mistake.TheVariants.{NoPattern, OutOfMemory as NoRoom}
 use Rattle.acredact.specs.declared.options.Word.TheVariants.{Strict}
@@ -19,66 +19,71 @@ use Rattle.acredact.specs.declared.failure.Failure.{Failure}
 use Rattle.acredact.specs.declared.failure.Failure.TheVariants.{Arguments, Other}
 use Rattle.acredact.specs.declared.folder.Folder.{Ghosts as Folders}
 use Rattle.acredact.specs.declared.look.Look.{Look}
-use Rattle.acredact.specs.declared.look.Look.TheVariants.{Clean, Found, Unread}
+use Rattle.acredact.specs.declared.look.Look.TheVariants.{Clean, Found, Output, Unread}
+use Rattle.acredact.specs.declared.looker.Looker.{Ghosts as Lookers}
 use Rattle.acredact.specs.declared.look.Searched.{Searched}
 use Rattle.acredact.specs.declared.look.Verdict.{Verdict}
 use Rattle.acredact.specs.declared.streams.Streams.{Streams}
 
--- what is looked for, what the folder holds under a name, where it tells that, and why it may not open what has the name
+-- what is looked for, what the folder holds under a name, where it tells that, why it may not open what has the name, and whether it is told to
+-- the output what is found
 pub record Quest : Type 1 where
   pub holds : List ℕ → Option (List ℕ)
   pub refuses : List ℕ → Reason → Type 0
-  pub redactor : Redactor
+  pub tells : Bool
+  pub sought : Sought
 
-abbrev pub quest_of : {F X : Type 0} → Folders F X → F → (words : Bool) → Patterns → Quest
-quest_of D folder words p = record { holds = D.holds folder; refuses = D.refuses folder; redactor = sought p words }
+abbrev pub quest_of : {F X : Type 0} → Folders F X → Searched F → Sought → Quest
+quest_of D files s = record { holds = D.holds files.folder.now; refuses = D.refuses files.folder.now; tells = files.tells; sought = s }
+
+-- of a call
+abbrev pub quest_for : Call → (tells : Bool) → Sought → Quest
+quest_for call tells s = record { holds = call.holds; refuses = call.refuses; tells = tells; sought = s }
+
+abbrev pub texts_looked_for : List Given → List Secret → Sought
+texts_looked_for given secrets = inl (sought (patterns_by_given given (patterns_in secrets)) (words_asked given))
 
 abbrev pub quest_by : Call → List Secret → Quest
-quest_by call secrets = record {
-  holds = call.holds;
-  refuses = call.refuses;
-  redactor = sought (patterns_by_given call.given (patterns_in secrets)) (words_asked call.given);
-}
+quest_by call secrets = quest_for call false (texts_looked_for call.given secrets)
 
--- the file of this name was found to be this: what may be told of one is that a read fails, or that the folder refuses it
-abbrev pub IsLookOf : Quest → List ℕ → Look → (left left' : Option (List ℕ)) → Type 0
-IsLookOf quest name look left left' =
-    OfName quest.holds name (IsLook quest.redactor (λ reason. IsReadReason reason ⊎ quest.refuses name reason) look) left left'
+-- what may be told of the file of a name: that a read fails, that the folder refuses it, or that the output goes to it
+abbrev pub MayBeTold : Quest → List ℕ → Look → Type 0
+MayBeTold quest name Clean = Unit {0}
+MayBeTold quest name Found = Unit {0}
+MayBeTold quest name (Unread reason) = IsReadReason reason ⊎ quest.refuses name reason
+MayBeTold quest name Output = quest.tells ≡ true
 
--- what is told of it
-abbrev pub look_lines : List ℕ → Look → List (List ℕ)
-look_lines name Clean = []
-look_lines name Found = []
-look_lines name (Unread reason) = unread_line name reason ∷ []
+-- it was found to be this
+abbrev pub IsLookOf : Quest → List ℕ → Look → (left left' held held' : Option (List ℕ)) → Type 0
+IsLookOf quest name look left left' held held' =
+    MayBeTold quest name look
+    × OfName quest.holds name (λ l l'. BeginsWriting (λ given ended part. IsLook quest.sought name look given ended part) l l' held held') left left'
+
+-- or it was read up to some place
+abbrev pub BeginsLook : Quest → List ℕ → (left left' held held' : Option (List ℕ)) → Type 0
+BeginsLook quest name left left' held held' =
+    OfName quest.holds name (λ l l'. BeginsWriting (λ given ended part. BeginsToTell quest.sought name given ended part) l l' held held') left left'
+
+-- what comes of it
+abbrev pub LookedNamed : {X : Type 0} → Quest → List ℕ → Result Look X → (left left' held held' : Option (List ℕ)) → Type 0
+LookedNamed quest name (Ok look) left left' held held' = IsLookOf quest name look left left' held held'
+LookedNamed quest name (Err error) left left' held held' = BeginsLook quest name left left' held held'
 
 -- each file was looked at, one after another: whether something was found in one, and the lines that were told
-abbrev pub AreSeen : Quest → List (List ℕ) → (found : Bool) → (lines : List (List ℕ)) → (left left' : Option (List ℕ)) → Type 0
-AreSeen quest [] found lines left left' = (found ≡ false) × (lines ≡ []) × (left' ≡ left)
-AreSeen quest (name ∷ names) found lines left left' =
-    (look : Look) × (others : Bool) × (rest : List (List ℕ)) × (found ≡ (is_found look || others)) × (lines ≡ look_lines name look ++ rest)
-    × (between : Option (List ℕ)) × IsLookOf quest name look left between × AreSeen quest names others rest between left'
+abbrev pub AreSeen : Quest → List (List ℕ) → (found : Bool) → (lines : List (List ℕ)) → (left left' held held' : Option (List ℕ)) → Type 0
+AreSeen quest [] found lines left left' held held' = (found ≡ false) × (lines ≡ []) × (left' ≡ left) × Keeps held held'
+AreSeen quest (name ∷ names) found lines left left' held held' =
+    (look : Look) × (others : Bool) × (rest : List (List ℕ)) × (found ≡ ((verdict_of look).found || others)) × (lines ≡ look_lines name look ++ rest)
+    × (between : Option (List ℕ)) × (meanwhile : Option (List ℕ))
+    × IsLookOf quest name look left between held meanwhile × AreSeen quest names others rest between left' meanwhile held'
 
--- each file was read to its end, one after another, and nothing counts in any
-abbrev pub AreUnmatched : Quest → List (List ℕ) → (left left' : Option (List ℕ)) → Type 0
-AreUnmatched quest [] left left' = left' ≡ left
-AreUnmatched quest (name ∷ names) left left' =
-    (between : Option (List ℕ)) × OfName quest.holds name (HoldsNoMatch quest.redactor) left between × AreUnmatched quest names between left'
-
--- of a call whose patterns were loaded each file was looked at so
+-- of a call whose patterns were loaded each file was looked at so: where nothing was found and no line told, nothing counts in any
 pub record SeesCall (call : Call) (found : Bool) (lines : List (List ℕ)) (left left' : Option (List ℕ)) : Type 0 where
   pub some : gives_pattern call.given ≡ true
   pub secrets : List Secret
   pub between : Option (List ℕ)
   pub loaded : AreGiven (reading_by call) call.given secrets left between
-  pub seen : AreSeen (quest_by call secrets) (names_asked call.given) found lines between left'
-
--- and nothing counts in any
-pub record IsUnmatchedCall (call : Call) (left left' : Option (List ℕ)) : Type 0 where
-  pub some : gives_pattern call.given ≡ true
-  pub secrets : List Secret
-  pub between : Option (List ℕ)
-  pub loaded : AreGiven (reading_by call) call.given secrets left between
-  pub unmatched : AreUnmatched (quest_by call secrets) (names_asked call.given) between left'
+  pub seen : AreSeen (quest_by call secrets) (names_asked call.given) found lines between left' None None
 
 -- why patterns are not searched for: the library refuses just these, or memory runs out
 abbrev pub IsBuildFailure : Patterns → Failure → Type 0
@@ -135,10 +140,10 @@ module _ {E : Type 0} (K : SinkGhosts E) where
     pub doubts : TellsDoubts K (has Strict call.given) call.given secrets errors errors'
 
   -- what comes of looking at files by these names, where the error says why not all were looked at
-  pub record SeesFiles {X : Type 0} (quest : Quest) (names : List (List ℕ)) (result : Result Verdict X) (left left' : Option (List ℕ)) (errors errors' : Errors E) : Type 0 where
-    pub seen : IfOk result (λ verdict. (lines : List (List ℕ)) × (verdict.all ≡ are_none lines) × AreSeen quest names verdict.found lines left left' × TellsBytes K errors errors' (concat lines))
-    pub quiet : IfOk result (λ verdict. verdict.all ≡ true → errors' ≡ errors)
-    pub told : OnErr result (Tells K (IsUnreadLine names) errors errors')
+  pub record SeesFiles {X : Type 0} (quest : Quest) (names : List (List ℕ)) (result : Result Verdict X) (left left' held held' : Option (List ℕ)) (errors errors' : Errors E) : Type 0 where
+    pub seen : IfOk result (λ verdict. (lines : List (List ℕ)) × (verdict.all ≡ are_none lines) × AreSeen quest names verdict.found lines left left' held held' × TellsBytes K errors errors' (concat lines))
+    pub begun : EachName (BeginsLook quest) names left left' held held'
+    pub told : TellsOfFiles K names (all_seen result) errors errors'
 
   -- what comes of a check
   pub record CheckOutcome (call : Call) (result : Result Verdict Failure) (left left' : Option (List ℕ)) (errors errors' : Errors E) : Type 0 where
@@ -167,18 +172,34 @@ module _ {E : Type 0} (K : SinkGhosts E) where
   -- what the exit status of a check says
   abbrev pub CheckStatus : Call → (status : ℕ) → (left left' : Option (List ℕ)) → (errors errors' : Errors E) → Type 0
   CheckStatus call status left left' errors errors' =
-      CheckSays (IsUnmatchedCall call left left') (SeesCall call true [] left left') (TellsListsAlone call left errors errors')
+      CheckSays (SeesCall call false [] left left') (SeesCall call true [] left left') (TellsListsAlone call left errors errors')
       (TellsUnread call left left' errors errors' ⊎ TellsCheckEnd call errors errors') status
+
+-- what holds of all that is looked for
+abbrev pub IfSought : {L X : Type 0} → Lookers L X → L → (Sought → Type 0) → Type 0
+IfSought G looker Holds = (s : Sought) → G.by looker s → Holds s
+
+-- what looks for patterns looks for these
+pub record IsByTexts {A : Type 0} (G : Ghosts A) (automaton : A) (words : Bool) (s : Sought) : Type 0 where
+  pub can : CanLook G automaton words
+  pub is : s ≡ inl (sought can.patterns words)
+
+module _ {F X R W : Type 0} {Reads : Readers R} (J : SinkGhosts W) where
+  -- what comes of looking at the file of a name
+  abbrev pub LooksAtName : Folders F X → Searched F → List ℕ → {Y : Type 0} → Result Look Y
+      → (input input' : FromRead R Reads) → (output output' : W) → Sought → Type 0
+  LooksAtName D files name result input input' output output' s =
+      LookedNamed (quest_of D files s) name result (bytes_left input) (bytes_left input') (J.taken output) (J.taken output')
+
+  -- and at all files
+  abbrev pub SeesSearched : {E : Type 0} → SinkGhosts E → Folders F X → Searched F → {Y : Type 0} → Result Verdict Y
+      → (input input' : FromRead R Reads) → (output output' : W) → (errors errors' : Errors E) → Sought → Type 0
+  SeesSearched K D files result input input' output output' errors errors' s =
+      SeesFiles K (quest_of D files s) (name_bytes files.names.now) result (bytes_left input) (bytes_left input') (J.taken output) (J.taken output') errors errors'
 
 -- the same of the input, by what the folder and the options say
 module _ {E F Y R : Type 0} {Reads : Readers R} (K : SinkGhosts E) (D : Folders F Y) where
-  -- what comes of looking for patterns in some files
-  abbrev pub SeesSearched : {X : Type 0} → Searched F → Result Verdict X
-      → (input input' : FromRead R Reads) → (errors errors' : Errors E) → Patterns → Type 0
-  SeesSearched files result input input' errors errors' p =
-      SeesFiles K (quest_of D files.folder.now files.words p) (name_bytes files.names.now) result (bytes_left input) (bytes_left input') errors errors'
-
-  -- and for those that are given
+  -- what comes of looking for patterns that are given
   abbrev pub ChecksGiven : F → List Given → Result Verdict Failure
       → (input input' : FromRead R Reads) → (errors errors' : Errors E) → Type 0
   ChecksGiven folder given result input input' errors errors' =
@@ -203,7 +224,7 @@ SaysOfCheck K D folder given status streams streams' = AsksToCheck given → Che
 module _ {R W E F X : Type 0} {Reads : Readers R} (D : Folders F X) (folder : F) (given : List Given) (streams streams' : Streams R W E Reads) where
   -- of a call that asks for this each file was read to its end, and nothing counts in any
   abbrev pub UnmatchedAsked : Type 0
-  UnmatchedAsked = IsUnmatchedCall (call_of D folder given) (bytes_left streams.input) (bytes_left streams'.input)
+  UnmatchedAsked = SeesCall (call_of D folder given) false [] (bytes_left streams.input) (bytes_left streams'.input)
 
   -- each file was read to its end or up to what counts, and there is that in one
   abbrev pub MatchedAsked : Type 0

@@ -1,5 +1,5 @@
 -- How many matches of each pattern were replaced, and how that is told.
-use Rattle.std.specs.Prelude.{◌≡◌, ℕ, ◌+◌, ◌-◌, ◌^◌, ◌==◌, min, Bool, List, [], ◌∷◌, ◌++◌, codes, decimal, map, Vec, if◌then◌else◌}
+use Rattle.std.specs.Prelude.{◌≡◌, ℕ, ◌+◌, ◌-◌, ◌^◌, ◌==◌, min, Bool, List, [], ◌∷◌, ◌++◌, codes, decimal, length, map, replicate, Vec, if◌then◌else◌}
 use Rattle.acredact.specs.Tables.{Secret, secrets_of}
 use Rattle.acredact.specs.declared.patterns.Rule.{Rule}
 
@@ -13,7 +13,7 @@ counted_more count = min (count + 1) (2 ^ 64 - 1)
 
 -- before anything was replaced
 abbrev pub zeros : Bool → List Rule → List ℕ
-zeros counted rules = if counted then map (λ rule. 0) rules else []
+zeros counted rules = replicate (if counted then length rules else 0) 0
 
 -- the line of a pattern in its file, or '-e'
 abbrev pub place_told : ℕ → List ℕ

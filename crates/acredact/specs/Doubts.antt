@@ -1,5 +1,5 @@
 -- Which patterns of lists may be meant otherwise than they stand there, which are too short for forms, and what is told of them.
-use Rattle.acredact.specs.Common.{All, Errors, SinkGhosts, TellsBytes, concat, flat_map}
+use Rattle.acredact.specs.Common.{Errors, SinkGhosts, TellsBytes, concat, flat_map}
 use Rattle.std.specs.Prelude.{◌≡◌, ◌⊎◌, ℕ, ◌-◌, ◌==◌, ◌&&◌, ◌||◌, Bool, MatchBool, true, List, [], ◌∷◌, ◌++◌, Option, Some, None, codes, get_or, map, if◌then◌else◌, length, nat_lt, slice_index}
 use Rattle.acredact.specs.Arguments.{Given}
 use Rattle.acredact.specs.Failures.{bad_line}
@@ -60,25 +60,26 @@ list_doubt_lines given secrets = flat_map (doubt_lines given) secrets
 abbrev pub all_doubt_lines : List Given → List Secret → List (List ℕ)
 all_doubt_lines given secrets = list_doubt_lines given secrets ++ short_told given secrets
 
+-- the first of them: the number of the option that gives it, and its line
+abbrev pub doubt_or : Secret → Option LineFault → Option (ℕ × BadLine) → Option (ℕ × BadLine)
+doubt_or secret None later = later
+doubt_or secret (Some fault) later = Some (secret.list, bad_at secret.line fault)
+
+abbrev pub first_doubt : List Secret → Option (ℕ × BadLine)
+first_doubt [] = None
+first_doubt (secret ∷ secrets) = doubt_or secret (doubt_of secret) (first_doubt secrets)
+
 abbrev pub AreUndoubted : List Secret → Type 0
-AreUndoubted secrets = All (λ secret. doubt_of secret ≡ None) secrets
+AreUndoubted secrets = first_doubt secrets ≡ None
 
--- a pattern of which that is so is refused
-pub record RefusesDoubt (given : List Given) (secret : Secret) (failure : Failure) : Type 0 where
-  pub fault : LineFault
-  pub doubt : doubt_of secret ≡ Some fault
-  pub name : _
-  pub is : failure ≡ Line name (bad_at secret.line fault)
-  pub named : name.now ≡ list_name given secret.list
-
--- and of several the first
+-- it is refused
 pub record RefusesFirstDoubt (given : List Given) (secrets : List Secret) (failure : Failure) : Type 0 where
-  pub front : List Secret
-  pub secret : Secret
-  pub rest : List Secret
-  pub are : secrets ≡ front ++ (secret ∷ rest)
-  pub before : AreUndoubted front
-  pub of : RefusesDoubt given secret failure
+  pub list : ℕ
+  pub bad : BadLine
+  pub first : first_doubt secrets ≡ Some (list, bad)
+  pub name : _
+  pub is : failure ≡ Line name bad
+  pub named : name.now ≡ list_name given list
 
 -- or there is none, and the first that is too short for forms is
 abbrev pub IsDoubtFailure : (strict : Bool) → List Given → List Secret → Failure → Type 0

@@ -1,6 +1,8 @@
 -- Why a call ends early, and how that is told.
-use Rattle.acredact.specs.Common.{OtherFailure, Reason}
-use Rattle.std.specs.Prelude.{◌≡◌, ◌⊎◌, ℕ, Bool, true, false, List, Some, codes}
+use Rattle.acredact.specs.Common.{Errors, OtherFailure, Reason, SinkGhosts, TellsBytes}
+use Rattle.std.specs.Prelude.{◌≡◌, ◌⊎◌, ℕ, Bool, true, false, List, None, Some, Result, Ok, Err, codes, if◌then◌else◌}
+use Rattle.aho_core.specs.Texts.{build_error_text}
+use Rattle.rule_files.specs.Flaws.{IsFaultLine}
 use Rattle.tool_parts.specs.Failures.{failure_text}
 use Rattle.tool_parts.specs.Messages.{Message, reason_text}
 use Rattle.tool_parts.specs.declared.failure.Failure.TheVariants.{Write, WriteZero}
@@ -8,7 +10,7 @@ use Rattle.acredact.specs.LineFaults.{line_fault_text}
 use Rattle.acredact.specs.Messages.{about, alone, line_about, message_about, numbered_line, told_line, unclean_line}
 use Rattle.acredact.specs.Mistakes.{mistake_line}
 use Rattle.acredact.specs.declared.failure.Failure.{Failure}
-use Rattle.acredact.specs.declared.failure.Failure.TheVariants.{NotText, Arguments, Pattern, Unread, Empty, NoValue, ValueForName, ShortKey, Line, Short, Unclean, Counts, Other}
+use Rattle.acredact.specs.declared.failure.Failure.TheVariants.{NotText, Arguments, Pattern, Unread, Empty, NoValue, ValueForName, ShortKey, Line, Short, Unclean, Counts, Text, Keywords, LineEnd, Other}
 use Rattle.acredact.specs.declared.patterns.BadLine.{BadLine}
 
 -- the output failed, or took nothing
@@ -45,4 +47,13 @@ IsFailureLine (Line name bad) line = line ≡ told_line (bad_line name.now bad)
 IsFailureLine (Short number) line = line ≡ short_line number
 IsFailureLine (Unclean unclean) line = line ≡ unclean_line unclean
 IsFailureLine Counts line = line ≡ told_line (alone (codes "the counts cannot be written"))
+IsFailureLine (Text name fault) line = IsFaultLine (codes "acredact") name.now fault line
+IsFailureLine (Keywords error) line = line ≡ told_line (message_about (codes "--rules") None (build_error_text error))
+IsFailureLine (LineEnd number) line =
+    line ≡ numbered_line (codes ": pattern ") number (codes " holds a line end: it stands in no line, and rules go line by line\n")
 IsFailureLine (Other other) line = IsOtherLine other line
+
+-- the status of a redaction, and why it ended early, if it did: then that is told
+abbrev pub EndsCall : {E : Type 0} → SinkGhosts E → Result Bool Failure → (status : ℕ) → (errors errors' : Errors E) → Type 0
+EndsCall K (Ok all) status errors errors' = (status ≡ (if all then 0 else 2)) × (errors' ≡ errors)
+EndsCall K (Err failure) status errors errors' = (status ≡ 2) × ((line : List ℕ) × IsFailureLine failure line × TellsBytes K errors errors' line)

@@ -1,12 +1,13 @@
 -- What is written of files, one after another, and what is told of those that cannot be read.
-use Rattle.acredact.specs.Common.{Appends, Consumes, FromWrite, Ghosts, IsAtEnd, Keeps, Patterns, PieceRule, Readers, Reason, SinkGhosts, StreamError, TellsBytes, Writers, bytes_left, concat, counted, name_bytes, output_bytes, pieces_of}
+use Rattle.acredact.specs.Common.{FromWrite, Ghosts, Keeps, Patterns, PieceRule, Readers, Reason, SinkGhosts, StreamError, TellsBytes, Writers, bytes_left, concat, counted, name_bytes, output_bytes, pieces_of}
 use Rattle.std.specs.Prelude.{◌≡◌, ◌⊎◌, ℕ, ◌≤◌, ◌&&◌, length, Bool, true, false, List, [], ◌∷◌, ◌++◌, Option, None, Some, Result, Ok, Err, IfErr, IfOk, OnErr, option_map}
 use Rattle.aho_devices.specs.Refusals.{is_write_fault, is_write_of_nothing}
 use Rattle.tool_parts.specs.Messages.{reason_text}
+use Rattle.acredact.specs.Deeds.{BegunAs, Deed, SomeText, WholeText, WrittenAs}
 use Rattle.acredact.specs.Faults.{IsOutputEnd, IsReadReason}
 use Rattle.acredact.specs.Messages.{line_about, output_line}
-use Rattle.acredact.specs.Reads.{EachName, OfName, ReadsText}
-use Rattle.acredact.specs.Secrets.{BeginsRedaction, IsPromptUpTo, IsRedaction, IsWrittenUpTo, CanRedact, Keyed, NoneOccurs, Redactor, key_of_cover, rule_by}
+use Rattle.acredact.specs.Reads.{EachName, OfName}
+use Rattle.acredact.specs.Secrets.{AreReplaced, BeginsRedaction, IsPromptUpTo, IsRedaction, IsWrittenUpTo, CanRedact, Keyed, NoneOccurs, Redactor, key_of_cover, rule_by}
 use Rattle.acredact.specs.declared.files.Job.{Job}
 use Rattle.acredact.specs.declared.folder.Folder.{Ghosts as Folders}
 use Rattle.acredact.specs.declared.ways.Key.{Key}
@@ -53,104 +54,121 @@ work_of D job r = record {
   redactor = r;
 }
 
--- a text was read to its end, and what is this of it was written
-pub record WritesText (Is : List ℕ → List ℕ → Type 0) (left left' held held' : Option (List ℕ)) : Type 0 where
-  pub text : List ℕ
-  pub reads : ReadsText text left left'
-  pub redaction : List ℕ
-  pub redacts : Is text redaction
-  pub written : Appends held held' redaction
+-- the same, whatever is done to each file
+pub record Task : Type 1 where
+  pub holds : List ℕ → Option (List ℕ)
+  pub refuses : List ℕ → Reason → Type 0
+  pub meets : List ℕ → Bool → Type 0
+  pub deed : Deed
 
--- its redaction was
-abbrev pub RedactsText : Redactor → (left left' held held' : Option (List ℕ)) → Type 0
-RedactsText r left left' held held' = WritesText (IsRedaction r) left left' held held'
+abbrev pub task_in : {F X : Type 0} → Folders F X → F → Deed → Task
+task_in D folder deed = record { holds = D.holds folder; refuses = D.refuses folder; meets = D.meets folder; deed = deed }
 
--- a redaction in which no pattern occurs
-abbrev pub IsFree : Redactor → List ℕ → List ℕ → Type 0
-IsFree r text redaction = IsRedaction r text redaction × NoneOccurs r.patterns redaction
-
--- some of a text was read, and what is this for so much of it was written
-pub record BeginsWriting (Begins : List ℕ → Bool → List ℕ → Type 0) (left left' held held' : Option (List ℕ)) : Type 0 where
-  pub given : List ℕ
-  pub ended : Bool
-  pub read : Consumes left left' given
-  pub at_end : ended ≡ true → IsAtEnd left'
-  pub part : List ℕ
-  pub begins : Begins given ended part
-  pub written : Appends held held' part
-
--- a beginning of its redaction was
-abbrev pub BeginsText : Redactor → (left left' held held' : Option (List ℕ)) → Type 0
-BeginsText r left left' held held' = BeginsWriting (BeginsRedaction r) left left' held held'
-
--- some of a text was read, and its redaction was written but for what lies in a match or may
-pub record ReachesText (r : Redactor) (left left' held held' : Option (List ℕ)) : Type 0 where
-  pub given : List ℕ
-  pub ended : Bool
-  pub read : Consumes left left' given
-  pub at_end : ended ≡ true → IsAtEnd left'
+-- some bytes were read, and the redaction was written up to a place, behind which lies what is in a match or may be
+pub record ReachesPlace (r : Redactor) (given : List ℕ) (ended : Bool) (held held' : Option (List ℕ)) : Type 0 where
   pub place : ℕ
   pub within : place ≤ length given
   pub prompt : IsPromptUpTo r given place
   pub written : IsWrittenUpTo r given ended place held held'
 
--- the redaction of the file of this name was written
-abbrev pub RedactsName : Work → List ℕ → (left left' held held' : Option (List ℕ)) → Type 0
-RedactsName work name left left' held held' = OfName work.holds name (λ l l'. RedactsText work.redactor l l' held held') left left'
+-- what is done by patterns
+abbrev pub deed_of : Redactor → Deed
+deed_of r = record {
+  writes = IsRedaction r;
+  begins = BeginsRedaction r;
+  nears = λ given ended held held'. r.covers ≡ true → ReachesPlace r given ended held held';
+  counts = AreReplaced r;
+  measured = true;
+}
+
+abbrev pub task_of : Work → Task
+task_of work = record { holds = work.holds; refuses = work.refuses; meets = work.meets; deed = deed_of work.redactor }
+
+-- a text was read to its end, and what is this of it was written
+abbrev pub WritesText : (Is : List ℕ → List ℕ → Type 0) → (left left' held held' : Option (List ℕ)) → Type 0
+WritesText Is left left' held held' = WholeText (WrittenAs Is held held') left left'
+
+-- some of a text was read, and what is this for so much of it was written
+abbrev pub BeginsWriting : (Begins : List ℕ → Bool → List ℕ → Type 0) → (left left' held held' : Option (List ℕ)) → Type 0
+BeginsWriting Begins left left' held held' = SomeText (BegunAs Begins held held') left left'
+
+-- and what was written comes so near to it
+abbrev pub NearsText : Deed → (left left' held held' : Option (List ℕ)) → Type 0
+NearsText d left left' held held' = SomeText (λ given ended. d.nears given ended held held') left left'
+
+-- a redaction in which no pattern occurs
+abbrev pub IsFree : Redactor → List ℕ → List ℕ → Type 0
+IsFree r text redaction = IsRedaction r text redaction × NoneOccurs r.patterns redaction
+
+-- this of the file of a name was written
+abbrev pub WritesNamed : (holds : List ℕ → Option (List ℕ)) → (Is : List ℕ → List ℕ → Type 0) → List ℕ → (left left' held held' : Option (List ℕ)) → Type 0
+WritesNamed holds Is name left left' held held' = OfName holds name (λ l l'. WritesText Is l l' held held') left left'
+
+-- its redaction was
+abbrev pub RedactsName : Task → List ℕ → (left left' held held' : Option (List ℕ)) → Type 0
+RedactsName task name left left' held held' = WritesNamed task.holds task.deed.writes name left left' held held'
 
 -- or a beginning of it
-abbrev pub BeginsNamed : Work → List ℕ → (left left' held held' : Option (List ℕ)) → Type 0
-BeginsNamed work name left left' held held' = OfName work.holds name (λ l l'. BeginsText work.redactor l l' held held') left left'
+abbrev pub BeginsNamed : Task → List ℕ → (left left' held held' : Option (List ℕ)) → Type 0
+BeginsNamed task name left left' held held' = OfName task.holds name (λ l l'. BeginsWriting task.deed.begins l l' held held') left left'
 
--- or all of it but for what lies in a match or may
-abbrev pub ReachesNamed : Work → List ℕ → (left left' held held' : Option (List ℕ)) → Type 0
-ReachesNamed work name left left' held held' = OfName work.holds name (λ l l'. ReachesText work.redactor l l' held held') left left'
+-- of each file its redaction was written, one after another: the output goes to none
+abbrev pub EachIsWritten : Task → List (List ℕ) → (left left' held held' : Option (List ℕ)) → Type 0
+EachIsWritten task names left left' held held' = EachName (λ name l l' h h'. task.meets name false × RedactsName task name l l' h h') names left left' held held'
 
--- and of each file, one after another: the output goes to none
 abbrev pub AreRedacted : Work → List (List ℕ) → (left left' held held' : Option (List ℕ)) → Type 0
-AreRedacted work [] left left' held held' = (left' ≡ left) × Keeps held held'
-AreRedacted work (name ∷ names) left left' held held' = (between : Option (List ℕ)) × (meanwhile : Option (List ℕ))
-    × work.meets name false × RedactsName work name left between held meanwhile × AreRedacted work names between left' meanwhile held'
+AreRedacted work names left left' held held' = EachIsWritten (task_of work) names left left' held held'
 
 -- and no pattern occurs in the redaction of any file
 abbrev pub AreFree : Work → List (List ℕ) → (left left' held held' : Option (List ℕ)) → Type 0
-AreFree work names left left' held held' = EachName (λ name l l' h h'. OfName work.holds name (λ given rest. WritesText (IsFree work.redactor) given rest h h') l l') names left left' held held'
+AreFree work names left left' held held' = EachName (WritesNamed work.holds (IsFree work.redactor)) names left left' held held'
 
--- a file was not read to its end for this reason: a read failed, and a beginning of its redaction was written; of a cover all but for
--- what lies in a match or may. Or the folder refuses it, and nothing was read or written
-abbrev pub IsUnread : Work → List ℕ → Reason → (left left' held held' : Option (List ℕ)) → Type 0
-IsUnread work name reason left left' held held' =
-    (IsReadReason reason × BeginsNamed work name left left' held held' × (work.redactor.covers ≡ true → ReachesNamed work name left left' held held'))
-    ⊎ (work.refuses name reason × (left' ≡ left) × Keeps held held')
+-- what comes of what was read of something: its redaction was written; or, where a read failed or there was too much, a beginning of it, that
+-- comes near to what was read; or it was refused for a reason. Where the call ends a beginning was
+abbrev pub ComesOfReading : (Of : (Option (List ℕ) → Option (List ℕ) → Type 0) → Type 0) → (Refused : Reason → Type 0) → Deed
+    → Result (Option Reason) StreamError → (held held' : Option (List ℕ)) → Type 0
+ComesOfReading Of Refused d (Ok None) held held' = Of (λ l l'. WritesText d.writes l l' held held')
+ComesOfReading Of Refused d (Ok (Some reason)) held held' =
+    (IsReadReason reason × Of (λ l l'. BeginsWriting d.begins l l' held held') × Of (λ l l'. NearsText d l l' held held')) ⊎ Refused reason
+ComesOfReading Of Refused d (Err error) held held' = Of (λ l l'. BeginsWriting d.begins l l' held held')
 
--- the line that tells it
+-- the folder refuses the file of a name, and nothing was read or written
+abbrev pub RefusesName : Task → List ℕ → (left left' held held' : Option (List ℕ)) → Reason → Type 0
+RefusesName task name left left' held held' reason = task.refuses name reason × (left' ≡ left) × Keeps held held'
+
+-- what comes of the file of a name
+abbrev pub ComesOfFile : Task → List ℕ → Result (Option Reason) StreamError → (left left' held held' : Option (List ℕ)) → Type 0
+ComesOfFile task name result left left' held held' =
+    ComesOfReading (λ Reads. OfName task.holds name Reads left left') (RefusesName task name left left' held held') task.deed result held held'
+
+-- the line that tells why a file was not read to its end
 abbrev pub unread_line : List ℕ → Reason → List ℕ
 unread_line name reason = line_about name (reason_text reason)
 
 -- the redaction of a file was written, and nothing is told; or the file was not read to its end, and it is told why; or it is told that
 -- the output goes to the file, which was not read
-abbrev pub IsDone : Work → List ℕ → (lines : List (List ℕ)) → (left left' held held' : Option (List ℕ)) → Type 0
-IsDone work name lines left left' held held' =
-    ((lines ≡ []) × work.meets name false × RedactsName work name left left' held held')
-    ⊎ (((reason : Reason) × (lines ≡ unread_line name reason ∷ []) × IsUnread work name reason left left' held held')
-    ⊎ ((lines ≡ output_line name ∷ []) × work.meets name true × (left' ≡ left) × Keeps held held'))
+abbrev pub IsDone : Task → List ℕ → (lines : List (List ℕ)) → (left left' held held' : Option (List ℕ)) → Type 0
+IsDone task name lines left left' held held' =
+    ((lines ≡ []) × task.meets name false × RedactsName task name left left' held held')
+    ⊎ (((reason : Reason) × (lines ≡ unread_line name reason ∷ []) × ComesOfFile task name (Ok (Some reason)) left left' held held')
+    ⊎ ((lines ≡ output_line name ∷ []) × task.meets name true × (left' ≡ left) × Keeps held held'))
 
 -- that is so of each file, one after another
-abbrev pub AreDone : Work → List (List ℕ) → (lines : List (List ℕ)) → (left left' held held' : Option (List ℕ)) → Type 0
-AreDone work [] lines left left' held held' = (lines ≡ []) × (left' ≡ left) × Keeps held held'
-AreDone work (name ∷ names) lines left left' held held' =
+abbrev pub AreDone : Task → List (List ℕ) → (lines : List (List ℕ)) → (left left' held held' : Option (List ℕ)) → Type 0
+AreDone task [] lines left left' held held' = (lines ≡ []) × (left' ≡ left) × Keeps held held'
+AreDone task (name ∷ names) lines left left' held held' =
     (first : List (List ℕ)) × (rest : List (List ℕ)) × (lines ≡ first ++ rest)
     × (between : Option (List ℕ)) × (meanwhile : Option (List ℕ))
-    × IsDone work name first left between held meanwhile × AreDone work names rest between left' meanwhile held'
+    × IsDone task name first left between held meanwhile × AreDone task names rest between left' meanwhile held'
 
 -- that is so of some first files, and then a beginning of the redaction of the next was written
-abbrev pub AreCut : Work → List (List ℕ) → (lines : List (List ℕ)) → (left left' held held' : Option (List ℕ)) → Type 0
-AreCut work [] lines left left' held held' = (lines ≡ []) × (left' ≡ left) × Keeps held held'
-AreCut work (name ∷ names) lines left left' held held' =
-    ((lines ≡ []) × BeginsNamed work name left left' held held')
+abbrev pub AreCut : Task → List (List ℕ) → (lines : List (List ℕ)) → (left left' held held' : Option (List ℕ)) → Type 0
+AreCut task [] lines left left' held held' = (lines ≡ []) × (left' ≡ left) × Keeps held held'
+AreCut task (name ∷ names) lines left left' held held' =
+    ((lines ≡ []) × BeginsNamed task name left left' held held')
     ⊎ ((first : List (List ℕ)) × (rest : List (List ℕ)) × (lines ≡ first ++ rest)
     × (between : Option (List ℕ)) × (meanwhile : Option (List ℕ))
-    × IsDone work name first left between held meanwhile × AreCut work names rest between left' meanwhile held')
+    × IsDone task name first left between held meanwhile × AreCut task names rest between left' meanwhile held')
 
 -- whether there are none
 abbrev pub are_none : List (List ℕ) → Bool
@@ -163,19 +181,6 @@ pub record FailsByOutput {X W : Type 0} (result : Result X StreamError) (output 
   pub took_nothing : output'.empty_writes ≡ counted (is_write_of_nothing result) output.empty_writes
   pub only : IfErr result IsOutputEnd
 
--- what comes of a text: where no reason is answered it was read to its end, and its redaction was written; else a beginning was
-abbrev pub ComesOfText : Redactor → Result (Option Reason) StreamError → (left left' held held' : Option (List ℕ)) → Type 0
-ComesOfText r (Ok None) left left' held held' = RedactsText r left left' held held'
-ComesOfText r (Ok (Some reason)) left left' held held' =
-    IsReadReason reason × BeginsText r left left' held held' × (r.covers ≡ true → ReachesText r left left' held held')
-ComesOfText r (Err error) left left' held held' = BeginsText r left left' held held'
-
--- and of the file of a name
-abbrev pub ComesOfFile : Work → List ℕ → Result (Option Reason) StreamError → (left left' held held' : Option (List ℕ)) → Type 0
-ComesOfFile work name (Ok None) left left' held held' = RedactsName work name left left' held held'
-ComesOfFile work name (Ok (Some reason)) left left' held held' = IsUnread work name reason left left' held held'
-ComesOfFile work name (Err error) left left' held held' = BeginsNamed work name left left' held held'
-
 module _ {W : Type 0} (Writes : Writers W) {R : Type 0} {Reads : Readers R} {E : Type 0} (K : SinkGhosts E) where
   -- this is written, and these lines are told
   abbrev pub Does : Streams R W E Reads → Streams R W E Reads
@@ -185,8 +190,12 @@ module _ {W : Type 0} (Writes : Writers W) {R : Type 0} {Reads : Readers R} {E :
       × TellsBytes K streams.errors streams'.errors (concat lines)
 
   -- what comes of all files
-  pub record FilesOutcome (work : Work) (result : Result Bool StreamError) (streams streams' : Streams R W E Reads) : Type 0 where
-    pub done : IfOk result (λ all. (lines : List (List ℕ)) × (all ≡ are_none lines) × Does streams streams' (AreDone work work.names lines) lines)
-    pub cut : OnErr result ((lines : List (List ℕ)) × Does streams streams' (AreCut work work.names lines) lines)
+  pub record TaskOutcome (task : Task) (names : List (List ℕ)) (result : Result Bool StreamError) (streams streams' : Streams R W E Reads) : Type 0 where
+    pub done : IfOk result (λ all. (lines : List (List ℕ)) × (all ≡ are_none lines) × Does streams streams' (AreDone task names lines) lines)
+    pub cut : OnErr result ((lines : List (List ℕ)) × Does streams streams' (AreCut task names lines) lines)
     pub quiet : result ≡ Ok true → streams'.errors ≡ streams.errors
     pub fails : FailsByOutput result streams.output streams'.output
+
+  -- by patterns
+  abbrev pub FilesOutcome : Work → Result Bool StreamError → (streams streams' : Streams R W E Reads) → Type 0
+  FilesOutcome work result streams streams' = TaskOutcome (task_of work) work.names result streams streams'

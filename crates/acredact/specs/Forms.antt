@@ -6,7 +6,7 @@ use Rattle.secret_forms.specs.Forms.{HidesForm, HidesNested, form_name, form_pat
 use Rattle.secret_forms.specs.Patterns.{added_all}
 use Rattle.secret_forms.specs.declared.form.Form.{Form as SecretForm}
 use Rattle.secret_forms.specs.declared.form.Form.TheVariants.{Base64, Hex, Url, Json, Xml, Shell, Lines}
-use Rattle.acredact.specs.Tables.{Secret, secret_of, secrets_of}
+use Rattle.acredact.specs.Tables.{Secret, secrets_of}
 use Rattle.acredact.specs.declared.forms.Asked.{Asked}
 use Rattle.acredact.specs.declared.forms.Nested.{Nested}
 use Rattle.acredact.specs.declared.patterns.Rule.{Rule}
@@ -75,7 +75,7 @@ pub record AskedForms : Type 0 where
   pub nested : List Nested
 
 abbrev pub asked_forms : Asked → AskedForms
-asked_forms asked = record { forms = asked.forms.now; nested = asked.nested.now }
+asked_forms asked = record { forms = asked.forms.items; nested = asked.nested.items }
 
 abbrev pub forms_asked : Option (List ℕ) → AskedForms
 forms_asked None = record { forms = []; nested = [] }
@@ -105,10 +105,9 @@ abbrev pub form_secret : ℕ → Secret → List ℕ → Secret
 form_secret number secret pattern =
     record { pattern = pattern; replacement = secret.replacement; list = secret.list; line = 0; form_of = Some number }
 
--- such patterns of a rule are added
-abbrev pub AddsFormsOf : {Z : Type 0} → Rule → ℕ → List (List ℕ) → (rules rules' : Vec Rule Z) → Type 0
-AddsFormsOf rule number patterns rules rules' =
-    secrets_of rules'.items ≡ secrets_of rules.items ++ map (form_secret number (secret_of rule)) (filled patterns)
+-- these secrets are added
+abbrev pub AddsSecrets : {Z : Type 0} → List Secret → (rules rules' : Vec Rule Z) → Type 0
+AddsSecrets more rules rules' = secrets_of rules'.items ≡ secrets_of rules.items ++ more
 
 -- the forms of a secret that has this number; one of fewer than four bytes has none
 abbrev pub forms_of : AskedForms → ℕ → Secret → List Secret
@@ -123,6 +122,10 @@ forms_from asked number (secret ∷ secrets) = forms_of asked number secret ++ f
 -- secrets, and behind them their forms
 abbrev pub with_forms : AskedForms → List Secret → List Secret
 with_forms asked secrets = secrets ++ forms_from asked 0 secrets
+
+-- those that a value names stand behind these rules
+abbrev pub AddsForms : {Z : Type 0} → Option (List ℕ) → (rules rules' : Vec Rule Z) → Type 0
+AddsForms value rules rules' = secrets_of rules'.items ≡ with_forms (forms_asked value) (secrets_of rules.items)
 
 -- none of the forms shows a character that holds a bit of the secret outside the patterns
 abbrev pub HidesOnce : List SecretForm → List ℕ → Type 0
@@ -140,8 +143,3 @@ HidesSecret asked secret = 4 ≤ length secret.pattern → HidesOnce asked.forms
 
 abbrev pub HideSecrets : AskedForms → List Secret → Type 0
 HideSecrets asked secrets = All (HidesSecret asked) secrets
-
--- these rules have those behind them
-pub record HaveForms (asked : AskedForms) (plain rules : List Rule) : Type 0 where
-  pub are : secrets_of rules ≡ with_forms asked (secrets_of plain)
-  pub hidden : HideSecrets asked (secrets_of plain)

@@ -1,5 +1,5 @@
 -- What shows a secret in a form, and that none of it stays.
-use Rattle.acredact.specs.Common.{IsMember, Keeps, Occurrence}
+use Rattle.acredact.specs.Common.{IsMember, Occurrence}
 use Rattle.std.specs.Prelude.{◌≡◌, ◌⊎◌, ℕ, ◌+◌, ◌<◌, ◌≤◌, Contains, IsUtf8, List, [], ◌∷◌, ◌++◌, Option, chars, flat_map, length}
 use Rattle.base64.specs.Engines.{standard, standard_no_pad, url_safe, url_safe_no_pad}
 use Rattle.base64.specs.GeneralPurpose.{encode_of}
@@ -14,9 +14,9 @@ use Rattle.secret_forms.specs.declared.bytewise.Json.{Json as JsonWay}
 use Rattle.secret_forms.specs.declared.bytewise.Spelling.{Spelling}
 use Rattle.secret_forms.specs.declared.form.Form.{Form}
 use Rattle.secret_forms.specs.declared.form.Form.TheVariants.{Base64, Hex, Url, Json, Xml, Shell, Lines}
-use Rattle.acredact.specs.Files.{Work, WritesText}
+use Rattle.acredact.specs.Files.{Work, WritesNamed}
 use Rattle.acredact.specs.Forms.{AskedForms}
-use Rattle.acredact.specs.Reads.{OfName}
+use Rattle.acredact.specs.Reads.{EachName}
 use Rattle.acredact.specs.Secrets.{IsRedaction, Redactor}
 use Rattle.acredact.specs.Tables.{Secret}
 use Rattle.acredact.specs.declared.forms.Nested.{Nested}
@@ -93,7 +93,5 @@ pub record HidesForms (asked : AskedForms) (secrets : List Secret) (r : Redactor
 
 -- that of each file, one after another
 abbrev pub AreHidden : AskedForms → List Secret → Work → List (List ℕ) → (left left' held held' : Option (List ℕ)) → Type 0
-AreHidden asked secrets work [] left left' held held' = (left' ≡ left) × Keeps held held'
-AreHidden asked secrets work (name ∷ names) left left' held held' = (between : Option (List ℕ)) × (meanwhile : Option (List ℕ))
-    × OfName work.holds name (λ l l'. WritesText (HidesForms asked secrets work.redactor) l l' held meanwhile) left between
-    × AreHidden asked secrets work names between left' meanwhile held'
+AreHidden asked secrets work names left left' held held' =
+    EachName (WritesNamed work.holds (HidesForms asked secrets work.redactor)) names left left' held held'

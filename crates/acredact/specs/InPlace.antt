@@ -1,13 +1,15 @@
--- What becomes of files that are replaced in place: of each a new one is filled, and takes its place where all was done.
-use Rattle.acredact.specs.Common.{Errors, FromWrite, Memory, OutOfMemory, Patterns, Readers, Reason, SinkGhosts, StreamError, Tells, TellsBytes, TellsSome, Writers, bytes_left, is_input, output_bytes}
-use Rattle.std.specs.Prelude.{◌≡◌, ◌⊎◌, ℕ, Bool, true, false, List, [], ◌∷◌, Option, Result, Ok, Err}
+-- What becomes of a file that is named for the output, and of files that are replaced in place: of each a new one is filled, and takes
+-- its place where all was done.
+use Rattle.acredact.specs.Common.{Errors, FromWrite, OutOfMemory, Patterns, Readers, Reason, SinkGhosts, StreamError, Tells, TellsBytes, TellsSome, Writers, bytes_left, is_input, output_bytes}
+use Rattle.std.specs.declared.alloc.AllocError.{AllocError}
+use Rattle.std.specs.Prelude.{◌≡◌, ◌⊎◌, ℕ, Bool, true, false, List, [], ◌∷◌, IfSome, Option, Result, Ok, Err, OnOk}
 use Rattle.tool_parts.specs.Names.{IsOneOf}
 use Rattle.acredact.specs.Arguments.{Given}
-use Rattle.acredact.specs.Calls.{Call, DoneCall, IsLineOf, LoadsCall, MayFail, WarnsAndCounts, call_of, names_asked, work_by}
+use Rattle.acredact.specs.Calls.{Call, DoneCall, IsLineOf, LoadsCall, MayFail, OutputFails, RedactsWhole, TellsUnlessAll, WarnsAndCounts, call_of, names_asked, work_by}
 use Rattle.acredact.specs.Failures.{IsFailureLine}
 use Rattle.acredact.specs.Files.{AreFree, AreRedacted, Work, redactor_of, unread_line, work_of}
-use Rattle.acredact.specs.Into.{IsKept, IsSpared, TakesPlace, TellsUnread}
-use Rattle.acredact.specs.Messages.{no_file_line, output_line}
+use Rattle.acredact.specs.Messages.{no_file_line, no_output_line, output_line}
+use Rattle.acredact.specs.Ruled.{IsRuledTold, NotesAsked, RuledAsked}
 use Rattle.acredact.specs.Totals.{CountsOfName, CountsOfNames}
 use Rattle.acredact.specs.Volumes.{ReadsVolume}
 use Rattle.acredact.specs.declared.failure.Failure.{Failure}
@@ -17,6 +19,43 @@ use Rattle.acredact.specs.declared.folder.Folder.{Ghosts as Folders}
 use Rattle.acredact.specs.declared.outputs.Outputs.{Ghosts as Places}
 use Rattle.acredact.specs.declared.streams.Streams.{Streams}
 use Rattle.acredact.specs.declared.summary.Volume.{Volume}
+
+module _ {O Z : Type 0} (U : Places O Z) (name : List ℕ) where
+  -- a new file did not take the place of the one of this name, and was removed: it was not asked to, or it could not
+  pub record IsRefused (outputs outputs' : O) : Type 0 where
+    pub reason : Reason
+    pub meanwhile : O
+    pub refused : U.puts_none outputs meanwhile name reason
+    pub removed : U.removes meanwhile outputs' name
+
+  abbrev pub IsKept : (outputs outputs' : O) → Type 0
+  IsKept outputs outputs' = U.removes outputs outputs' name ⊎ IsRefused outputs outputs'
+
+  -- one was made, and that became of it
+  pub record IsDropped (outputs outputs' : O) : Type 0 where
+    pub held : Option (List ℕ)
+    pub meanwhile : O
+    pub made : U.makes outputs meanwhile name held
+    pub kept : IsKept meanwhile outputs'
+
+  -- what has the name is as it was: standard input and output have none, or no file was made, or that became of it
+  abbrev pub IsSpared : (outputs outputs' : O) → Type 0
+  IsSpared outputs outputs' = ((is_input name ≡ true) × (outputs' ≡ outputs))
+      ⊎ (((reason : Reason) × U.makes_none outputs outputs' name reason) ⊎ IsDropped outputs outputs')
+
+-- a new file was made, which was empty; as it was left it was flushed, and took the place of the one of this name
+pub record TakesPlace {O Z : Type 0} (Writes : Writers Z) (U : Places O Z) (name : List ℕ) (outputs outputs' : O) (file' : FromWrite Z) : Type 0 where
+  pub named : is_input name ≡ false
+  pub file : FromWrite Z
+  pub meanwhile : O
+  pub made : U.makes outputs meanwhile name (output_bytes Writes file)
+  pub empty : IfSome (output_bytes Writes file) (λ held. held ≡ [])
+  pub flushed : file'.device.flushed ≡ true
+  pub puts : U.puts meanwhile outputs' name (output_bytes Writes file')
+
+-- it is told why the file of a name is not read or replaced
+abbrev pub TellsUnread : {E : Type 0} → SinkGhosts E → List ℕ → (errors errors' : Errors E) → Type 0
+TellsUnread K name errors errors' = (reason : Reason) × TellsBytes K errors errors' (unread_line name reason)
 
 -- what a job is to do by these patterns
 abbrev pub work_for : {F X : Type 0} → Folders F X → Job F → Patterns → Work
@@ -29,6 +68,10 @@ IsSparedLine name line = ((reason : Reason) × (line ≡ unread_line name reason
 -- the same of one of some files
 abbrev pub IsSparedOf : List (List ℕ) → List ℕ → Type 0
 IsSparedOf names line = (name : List ℕ) × IsOneOf name names × IsSparedLine name line
+
+-- the new files and their places, the streams, the counts, and how much was read
+abbrev pub PlaceState : {R : Type 0} → Readers R → (O Z E : Type 0) → Type 0
+PlaceState {R} Reads O Z E = O × Streams R Z E Reads × List ℕ × Volume
 
 -- this became of each file, one after another
 abbrev pub AreInTurn : {O : Type 0} → (List ℕ → (outputs outputs' : O) → Type 0) → List (List ℕ) → (outputs outputs' : O) → Type 0
@@ -44,7 +87,8 @@ BeginInTurn {O} Is (name ∷ names) outputs outputs' =
 module _ {O Z : Type 0} (Writes : Writers Z) (U : Places O Z) (work : Work) where
   -- a new file took the place of the one of this name, and this of that was written into it
   abbrev pub IsFilledBy : (Written : (left left' held held' : Option (List ℕ)) → Type 0) → List ℕ → (outputs outputs' : O) → Type 0
-  IsFilledBy Written name outputs outputs' = (file' : FromWrite Z) × (new : TakesPlace Writes U name outputs outputs' file')
+  IsFilledBy Written name outputs outputs' =
+      (file' : FromWrite Z) × (new : TakesPlace Writes U name outputs outputs' file')
       × (left : Option (List ℕ)) × (left' : Option (List ℕ)) × Written left left' (output_bytes Writes new.file) (output_bytes Writes file')
 
   -- all of it was redacted
@@ -59,41 +103,32 @@ module _ {O Z : Type 0} (Writes : Writers Z) (U : Places O Z) (work : Work) wher
   abbrev pub IsPlaced : List ℕ → (outputs outputs' : O) → Type 0
   IsPlaced name outputs outputs' = IsReplaced name outputs outputs' ⊎ IsSpared U name outputs outputs'
 
-  module _ {R E : Type 0} {Reads : Readers R} (K : SinkGhosts E) where
-    -- what comes of the file of a name: one that is replaced is counted; one that is spared is told; that ends the call only where memory ran out
-    abbrev pub PlaceOutcome : List ℕ → Result Bool StreamError → (outputs outputs' : O)
-        → (streams streams' : Streams R Z E Reads) → (counts counts' : List ℕ) → (volume volume' : Volume) → Type 0
-    PlaceOutcome name (Ok true) outputs outputs' streams streams' counts counts' volume volume' =
-        IsReplaced name outputs outputs' × (streams'.errors ≡ streams.errors)
-        × CountsOfName (bytes_left streams.input) (bytes_left streams'.input) counts counts' work name
-        × ReadsVolume work.holds (name ∷ []) volume volume' (bytes_left streams.input) (bytes_left streams'.input)
-    PlaceOutcome name (Ok false) outputs outputs' streams streams' counts counts' volume volume' =
-        IsSpared U name outputs outputs' × TellsSome K (IsSparedLine name) streams.errors streams'.errors
-    PlaceOutcome name (Err error) outputs outputs' streams streams' counts counts' volume volume' =
-        IsSpared U name outputs outputs' × Tells K (IsSparedLine name) streams.errors streams'.errors × (error ≡ Memory)
+module _ {R O Z E : Type 0} {Reads : Readers R} (Writes : Writers Z) (K : SinkGhosts E) (U : Places O Z) (work : Work) where
+  -- what comes of the file of a name: one that is replaced is counted, and one that is spared is told
+  pub record PlaceOutcome (name : List ℕ) (result : Result Bool AllocError) (old new : PlaceState Reads O Z E) : Type 0 where
+    pub replaced : result ≡ Ok true → IsReplaced Writes U work name old.0 new.0
+        × CountsOfName (bytes_left old.1.input) (bytes_left new.1.input) old.2 new.2 work name
+        × ReadsVolume work.holds (name ∷ []) old.3 new.3 (bytes_left old.1.input) (bytes_left new.1.input)
+    pub placed : IsPlaced Writes U work name old.0 new.0
+    pub told : TellsUnlessAll K (IsSparedLine name) result old.1.errors new.1.errors
 
-    -- and of some files
-    abbrev pub PlacesOutcome : List (List ℕ) → Result Bool StreamError → (outputs outputs' : O)
-        → (streams streams' : Streams R Z E Reads) → (counts counts' : List ℕ) → (volume volume' : Volume) → Type 0
-    PlacesOutcome names (Ok true) outputs outputs' streams streams' counts counts' volume volume' =
-        AreInTurn IsReplaced names outputs outputs' × (streams'.errors ≡ streams.errors)
-        × CountsOfNames (bytes_left streams.input) (bytes_left streams'.input) counts counts' work names
-        × ReadsVolume work.holds names volume volume' (bytes_left streams.input) (bytes_left streams'.input)
-    PlacesOutcome names (Ok false) outputs outputs' streams streams' counts counts' volume volume' =
-        AreInTurn IsPlaced names outputs outputs' × TellsSome K (IsSparedOf names) streams.errors streams'.errors
-    PlacesOutcome names (Err error) outputs outputs' streams streams' counts counts' volume volume' =
-        BeginInTurn IsPlaced names outputs outputs' × Tells K (IsSparedOf names) streams.errors streams'.errors × (error ≡ Memory)
+  -- and of some files, up to one that was not come to where memory ran out
+  pub record PlacesOutcome (names : List (List ℕ)) (result : Result Bool AllocError) (old new : PlaceState Reads O Z E) : Type 0 where
+    pub replaced : result ≡ Ok true → AreInTurn (IsReplaced Writes U work) names old.0 new.0
+        × CountsOfNames (bytes_left old.1.input) (bytes_left new.1.input) old.2 new.2 work names
+        × ReadsVolume work.holds names old.3 new.3 (bytes_left old.1.input) (bytes_left new.1.input)
+    pub placed : OnOk result (AreInTurn (IsPlaced Writes U work) names old.0 new.0)
+    pub begun : BeginInTurn (IsPlaced Writes U work) names old.0 new.0
+    pub told : TellsUnlessAll K (IsSparedOf names) result old.1.errors new.1.errors
 
 module _ {R O Z E : Type 0} {Reads : Readers R} (Writes : Writers Z) (K : SinkGhosts E) (U : Places O Z) (name : List ℕ) (done : Result Bool StreamError) where
-  -- a new file took its place, where all was redacted; or it was removed, and it is told why, or was before, or memory ran out
-  abbrev pub IsSettled : Result Bool StreamError → (outputs outputs' : O) → (streams streams' : Streams R Z E Reads) → Type 0
-  IsSettled (Ok true) outputs outputs' streams streams' =
+  -- a new file took its place, where all was done; or it was removed, and it is told why, or was before
+  abbrev pub IsSettled : Bool → (outputs outputs' : O) → (streams streams' : Streams R Z E Reads) → Type 0
+  IsSettled true outputs outputs' streams streams' =
       (done ≡ Ok true) × (streams'.errors ≡ streams.errors) × U.puts outputs outputs' name (output_bytes Writes streams.output)
-  IsSettled (Ok false) outputs outputs' streams streams' =
+  IsSettled false outputs outputs' streams streams' =
       IsKept U name outputs outputs'
       × (((done ≡ Ok false) × (streams'.errors ≡ streams.errors)) ⊎ TellsUnread K name streams.errors streams'.errors)
-  IsSettled (Err error) outputs outputs' streams streams' =
-      IsKept U name outputs outputs' × (streams'.errors ≡ streams.errors) × (error ≡ Memory)
 
 -- what may be told of a call: what is told of a redaction that writes nothing to standard output, and that standard input is no file
 abbrev pub IsPlaceLine : Call → List ℕ → Type 0
@@ -125,34 +160,35 @@ module _ {O Z : Type 0} (Writes : Writers Z) (U : Places O Z) (call : Call) (lef
   KeepsCall = (outputs' ≡ outputs) ⊎ SparesCall
 
   -- a failure ends a call before a file is made, or behind all files, or where memory runs out
-  pub record EndsCall (failure : Failure) : Type 0 where
+  pub record EndsPlaces (failure : Failure) : Type 0 where
     pub may : MayFail call ⊥ failure
     pub ends : (outputs' ≡ outputs) ⊎ (ReachesCall ⊎ ((failure ≡ Other OutOfMemory) × SparesCall))
-
-module _ {E : Type 0} (K : SinkGhosts E) (call : Call) (left : Option (List ℕ)) where
-  -- each file was replaced, and it is told whole how often the text of each pattern was written
-  abbrev pub CountsPlaces : (errors errors' : Errors E) → Type 0
-  CountsPlaces errors errors' = LoadsCall call left (λ load between.
-      (after : Option (List ℕ)) × WarnsAndCounts K call load between after errors errors')
 
 module _ {O Z E : Type 0} (Writes : Writers Z) (K : SinkGhosts E) (U : Places O Z) (call : Call) (left : Option (List ℕ)) where
   -- each file was replaced, and nothing is told but of pieces, and counts
   abbrev pub PlacesEach : (outputs outputs' : O) → (errors errors' : Errors E) → Type 0
-  PlacesEach outputs outputs' errors errors' = DoneCall K call left (ReplacesCall Writes U call left outputs outputs')
-      (FreesCall Writes U call left outputs outputs') (CountsPlaces K call left errors errors') errors errors'
+  PlacesEach outputs outputs' errors errors' = DoneCall K call left
+      (ReplacesCall Writes U call left outputs outputs') (FreesCall Writes U call left outputs outputs')
+      (LoadsCall call left (λ load between. (after : Option (List ℕ)) × WarnsAndCounts K call load between after errors errors'))
+      errors errors'
 
   -- what comes of a call: that, or each file was replaced or spared, or a failure ended it
-  abbrev pub CalledPlaces : Result Bool Failure → (outputs outputs' : O) → (errors errors' : Errors E) → Type 0
-  CalledPlaces (Ok true) outputs outputs' errors errors' = PlacesEach outputs outputs' errors errors'
-  CalledPlaces (Ok false) outputs outputs' errors errors' =
+  abbrev pub ComesOfCall : Result Bool Failure → (outputs outputs' : O) → (errors errors' : Errors E) → Type 0
+  ComesOfCall (Ok true) outputs outputs' errors errors' = PlacesEach outputs outputs' errors errors'
+  ComesOfCall (Ok false) outputs outputs' errors errors' =
       ReachesCall Writes U call left outputs outputs' × TellsSome K (IsPlaceLine call) errors errors'
-  CalledPlaces (Err failure) outputs outputs' errors errors' =
-      EndsCall Writes U call left outputs outputs' failure × Tells K (IsPlaceLine call) errors errors'
+  ComesOfCall (Err failure) outputs outputs' errors errors' =
+      EndsPlaces Writes U call left outputs outputs' failure × Tells K (IsPlaceLine call) errors errors'
+
+  -- each file was replaced by its whole redaction, or is as it was
+  pub record CalledPlaces (result : Result Bool Failure) (outputs outputs' : O) (errors errors' : Errors E) : Type 0 where
+    pub comes : ComesOfCall result outputs outputs' errors errors'
+    pub keeps : KeepsCall Writes U call left outputs outputs'
 
   -- a failure ended it, which is told last
   pub record TellsEnd (outputs outputs' : O) (errors errors' : Errors E) : Type 0 where
     pub failure : Failure
-    pub ends : EndsCall Writes U call left outputs outputs' failure
+    pub ends : EndsPlaces Writes U call left outputs outputs' failure
     pub meanwhile : Errors E
     pub told : Tells K (IsPlaceLine call) errors meanwhile
     pub line : List ℕ
@@ -174,3 +210,36 @@ module _ {F X O Z E R : Type 0} {Reads : Readers R} (Writes : Writers Z) (K : Si
   abbrev pub PlacesAsked : ℕ → (outputs outputs' : O) → (streams streams' : Streams R Z E Reads) → List Given → Type 0
   PlacesAsked status outputs outputs' streams streams' given =
       PlacesStatus Writes K U (call_of D folder given) (bytes_left streams.input) status outputs outputs' streams.errors streams'.errors
+
+-- what may be told where no file is replaced: what is told of a call, or why no new file is made or none takes the place
+abbrev pub IsOutputLine : (IsTold : List ℕ → Type 0) → List ℕ → List ℕ → Type 0
+IsOutputLine IsTold name line =
+    IsTold line ⊎ (((reason : Reason) × (line ≡ unread_line name reason)) ⊎ ((is_input name ≡ true) × (line ≡ no_output_line name)))
+
+module _ {R Z E F X O : Type 0} {Reads : Readers R} (Writes : Writers Z) (K : SinkGhosts E) (D : Folders F X) (U : Places O Z) (folder : F)
+    (name : List ℕ) (status : ℕ) (outputs outputs' : O) (streams streams' : Streams R Z E Reads) (given : List Given) where
+  -- where the status is 0, a new file took the place of the one of this name, and this was done with it for the output
+  abbrev pub WritesNew : (Done : (begun : Streams R Z E Reads) → Type 0) → Type 0
+  WritesNew Done = status ≡ 0
+      → (new : TakesPlace Writes U name outputs outputs' streams'.output) × Done (record streams { output = new.file })
+
+  -- all was redacted, and what is told is what is told of standard output
+  abbrev pub WritesAll : Type 0
+  WritesAll = WritesNew (λ begun. RedactsWhole Writes K (call_of D folder given) begun streams')
+
+  -- the same by rules
+  abbrev pub WritesAllByRules : Type 0
+  WritesAllByRules = WritesNew (λ begun. RuledAsked Writes D folder given begun streams' × NotesAsked K D folder given begun streams')
+
+  -- and where it is not, one line or more says why none did: of what was written to the new file, if one was made
+  abbrev pub TellsNone : Type 0
+  TellsNone = (status ≡ 0 → ⊥)
+      → TellsSome K (IsOutputLine (IsLineOf (call_of D folder given) ⊥) name) streams.errors streams'.errors
+      ⊎ ((file : FromWrite Z) × (meanwhile : O) × U.makes outputs meanwhile name (output_bytes Writes file)
+      × TellsSome K (IsOutputLine (IsLineOf (call_of D folder given) (OutputFails file streams'.output)) name) streams.errors streams'.errors)
+
+-- what is told of a call with rules where no new file takes the place, whether one was made or not
+abbrev pub RuledTellsUnput : {R W E F X : Type 0} {Reads : Readers R} → SinkGhosts E → Folders F X
+    → F → List ℕ → ℕ → (streams streams' : Streams R W E Reads) → List Given → Type 0
+RuledTellsUnput K D folder name status streams streams' given = (status ≡ 0 → ⊥)
+    → TellsSome K (IsOutputLine (IsRuledTold (call_of D folder given)) name) streams.errors streams'.errors

@@ -24,6 +24,7 @@ pub mod Ways
 pub mod Pieces
 -- what is written of files
 pub mod Reads
+pub mod Deeds
 pub mod Files
 pub mod Hidden
 -- how often the text of each pattern was written
@@ -36,12 +37,14 @@ pub mod Sums
 pub mod Summaries
 -- what the options add to the patterns
 pub mod Loading
--- which texts hold a match
+-- which texts hold a match, and what lines have
 pub mod Looks
+pub mod Findings
 -- what a call does and tells
 pub mod Builds
 pub mod Counts
 pub mod Failures
+pub mod Outcomes
 pub mod Short
 pub mod Doubts
 pub mod Calls
@@ -53,13 +56,10 @@ pub mod Apart
 -- by what a walk backward redacts
 pub mod Back
 -- files for the output
-pub mod Into
 pub mod InPlace
 -- calls with rules
 pub mod LineRules
-pub mod RuleLines
 pub mod LongLines
-pub mod RunSummaries
 pub mod RunCounts
 pub mod RunPieces
 pub mod Ruled

@@ -53,7 +53,8 @@ abbrev pub GivesNoRules : List Rule → (left left' : Option (List ℕ)) → Typ
 GivesNoRules rules left left' = (rules ≡ []) × (left' ≡ left)
 
 -- the rules that an option gives
-abbrev pub OptionGivesRules : Reading → Word → List ℕ → List Rule → (left left' : Option (List ℕ)) → Type 0
+abbrev pub OptionGivesRules : Reading → Word → List ℕ → List Rule
+    → (left left' : Option (List ℕ)) → Type 0
 OptionGivesRules reading Rules value rules left left' = GivesNamedRules reading value rules left left'
 OptionGivesRules reading After value rules left left' = GivesBehind value rules × (left' ≡ left)
 OptionGivesRules reading other value rules left left' = GivesNoRules rules left left'

@@ -11,8 +11,8 @@ use Rattle.acredact.specs.LineFaults.{IsLineFault, IsListFault, mark_in}
 use Rattle.acredact.specs.Named.{all_named}
 use Rattle.acredact.specs.Parts.{GivesPattern}
 use Rattle.acredact.specs.Reads.{EachGives, OfName, ReadsText}
-use Rattle.acredact.specs.Tables.{AreOfLines, HaveNoEmpty, Secret, lines_in, secrets_of, stripped_by}
-use Rattle.acredact.specs.Values.{GiveEach, are_refused, first_fault, is_some_value, value_in_line, value_of_entry, whole_in}
+use Rattle.acredact.specs.Tables.{AreOfLines, HaveNoEmpty, Secret, lines_in, secrets_of}
+use Rattle.acredact.specs.Values.{GiveEach, are_refused, first_fault, is_some_value, value_of_entry, values_in_lines, whole_in}
 use Rattle.acredact.specs.declared.options.Word.{Word}
 use Rattle.acredact.specs.declared.options.Word.TheVariants.{Env, EnvFile, Forms, IgnoreCase, Pattern, Patterns, Pseudonym, Table, Whole}
 use Rattle.acredact.specs.declared.failure.Failure.{Failure}
@@ -49,10 +49,9 @@ reading_of_lists D lists = record { holds = D.holds lists.folder.now; refuses = 
 abbrev pub form_by : Rules → Bool → Form
 form_by rules table = record { table = table; crlf = rules.crlf }
 
--- the text of a list holds these secrets, one in each line, and no byte order mark stands in front of them
+-- the text of a list holds these secrets, one in each line
 pub record HoldsSecrets (rules : Rules) (table : Bool) (text : List ℕ) (secrets : List Secret) : Type 0 where
   pub some : text ≡ [] → rules.allow_empty ≡ true
-  pub unmarked : mark_in text ≡ None
   pub held : AreOfLines (form_by rules table) (lines_in text) secrets
 
 -- some values give these; they may lack one only where that is allowed
@@ -62,25 +61,28 @@ pub record GivesValues (rules : Rules) (values : List (List ℕ)) (secrets : Lis
 
 -- the values in a text of variables
 abbrev pub values_in_text : Rules → List ℕ → List (List ℕ)
-values_in_text rules text = filter_map (λ line. value_in_line (stripped_by (form_by rules false) line)) (lines_in text)
+values_in_text rules text = values_in_lines (form_by rules false) (lines_in text)
 
 -- such a text holds these: no line of it is wrong
 pub record HoldsVariables (rules : Rules) (text : List ℕ) (secrets : List Secret) : Type 0 where
-  pub unmarked : mark_in text ≡ None
   pub right : first_fault rules.allow_empty (form_by rules false) 1 (lines_in text) ≡ None
   pub given : GivesValues rules (values_in_text rules text) secrets
 
--- and so does the text of a file that is one pattern
-pub record HoldsWhole (rules : Rules) (text : List ℕ) (secrets : List Secret) : Type 0 where
-  pub unmarked : mark_in text ≡ None
-  pub given : GivesValues rules (whole_in (form_by rules false) text ∷ []) secrets
+-- the text of a file that is one pattern is its value
+abbrev pub whole_value : Rules → List ℕ → List (List ℕ)
+whole_value rules text = whole_in (form_by rules false) text ∷ []
 
 -- by what kind of file it is
-abbrev pub HoldsListed : Rules → Listed → List ℕ → List Secret → Type 0
-HoldsListed rules Plain text secrets = HoldsSecrets rules false text secrets
-HoldsListed rules Rows text secrets = HoldsSecrets rules true text secrets
-HoldsListed rules Variables text secrets = HoldsVariables rules text secrets
-HoldsListed rules WholeFile text secrets = HoldsWhole rules text secrets
+abbrev pub HoldsByKind : Rules → Listed → List ℕ → List Secret → Type 0
+HoldsByKind rules Plain text secrets = HoldsSecrets rules false text secrets
+HoldsByKind rules Rows text secrets = HoldsSecrets rules true text secrets
+HoldsByKind rules Variables text secrets = HoldsVariables rules text secrets
+HoldsByKind rules WholeFile text secrets = GivesValues rules (whole_value rules text) secrets
+
+-- and no byte order mark stands in front of it
+pub record HoldsListed (rules : Rules) (listed : Listed) (text : List ℕ) (secrets : List Secret) : Type 0 where
+  pub unmarked : mark_in text ≡ None
+  pub holds : HoldsByKind rules listed text secrets
 
 -- the file of this name was read, and it holds these
 pub record GivesSecrets (reading : Reading) (listed : Listed) (name : List ℕ) (secrets : List Secret) (left left' : Option (List ℕ)) : Type 0 where
@@ -185,6 +187,15 @@ is_failed_text other = false
 abbrev pub CannotRead : Reading → List ℕ → Reason → Type 0
 CannotRead reading name reason = IsTextReason reason ⊎ reading.refuses name reason
 
+-- and it is told of the file
+abbrev pub IsUnreadFailure : Reading → List ℕ → Failure → Type 0
+IsUnreadFailure reading file failure =
+    (name : _) × (reason : Reason) × (failure ≡ Unread name reason) × (name.now ≡ file) × CannotRead reading file reason
+
+-- a line of a file is told, of which this is so
+abbrev pub IsFaultOfFile : List ℕ → (BadLine → Type 0) → Failure → Type 0
+IsFaultOfFile file Is failure = (name : _) × (bad : BadLine) × (failure ≡ Line name bad) × (name.now ≡ file) × Is bad
+
 -- a pattern among the arguments holds no secret
 abbrev pub IsPatternFailure : List ℕ → Failure → Type 0
 IsPatternFailure value (BadPattern fault) = IsLineFault false value fault
@@ -193,8 +204,7 @@ IsPatternFailure value other = ⊥
 -- the text of the list of a name holds none
 abbrev pub IsTextFailure : Rules → Bool → List ℕ → List ℕ → Failure → Type 0
 IsTextFailure rules table file text (Empty name) = (name.now ≡ file) × (text ≡ []) × (rules.allow_empty ≡ false)
-IsTextFailure rules table file text (Line name bad) =
-    (name.now ≡ file) × (((bad.number ≡ 1) × (mark_in text ≡ Some bad.fault)) ⊎ IsListFault (form_by rules table) (lines_in text) bad)
+IsTextFailure rules table file text (Line name bad) = (name.now ≡ file) × IsListFault (form_by rules table) (lines_in text) bad
 IsTextFailure rules table file text other = ⊥
 
 -- there is no value of what has this name, or an empty one; or memory runs out
@@ -202,27 +212,25 @@ abbrev pub IsValuesFailure : Rules → List ℕ → List (List ℕ) → Failure 
 IsValuesFailure rules file values failure =
     ((name : _) × (failure ≡ NoValue name) × (name.now ≡ file) × (are_refused rules.allow_empty values ≡ true)) ⊎ (failure ≡ Other NoMemory)
 
--- the first line of a text is marked
-abbrev pub IsMarkedFailure : List ℕ → List ℕ → Failure → Type 0
-IsMarkedFailure file text failure = (name : _) × (bad : BadLine) × (failure ≡ Line name bad) × (name.now ≡ file) × (bad.number ≡ 1) × (mark_in text ≡ Some bad.fault)
-
 -- a text of variables does not give its values
 abbrev pub IsVariablesFailure : Rules → List ℕ → List ℕ → Failure → Type 0
 IsVariablesFailure rules file text failure =
-    IsMarkedFailure file text failure
-    ⊎ (((name : _) × (bad : BadLine) × (failure ≡ Line name bad) × (name.now ≡ file) × (first_fault rules.allow_empty (form_by rules false) 1 (lines_in text) ≡ Some bad))
-    ⊎ IsValuesFailure rules file (values_in_text rules text) failure)
+    IsFaultOfFile file (λ bad. first_fault rules.allow_empty (form_by rules false) 1 (lines_in text) ≡ Some bad) failure
+    ⊎ IsValuesFailure rules file (values_in_text rules text) failure
 
--- nor does one that is one pattern
-abbrev pub IsWholeFailure : Rules → List ℕ → List ℕ → Failure → Type 0
-IsWholeFailure rules file text failure =
-    IsMarkedFailure file text failure ⊎ IsValuesFailure rules file (whole_in (form_by rules false) text ∷ []) failure
+abbrev pub IsKindFailure : Rules → Listed → List ℕ → List ℕ → Failure → Type 0
+IsKindFailure rules Plain file text failure = IsTextFailure rules false file text failure
+IsKindFailure rules Rows file text failure = IsTextFailure rules true file text failure
+IsKindFailure rules Variables file text failure = IsVariablesFailure rules file text failure
+IsKindFailure rules WholeFile file text failure = IsValuesFailure rules file (whole_value rules text) failure
 
+-- the first line of a text is marked
+abbrev pub IsMarkedFailure : List ℕ → List ℕ → Failure → Type 0
+IsMarkedFailure file text failure = IsFaultOfFile file (λ bad. (bad.number ≡ 1) × (mark_in text ≡ Some bad.fault)) failure
+
+-- or its text holds none
 abbrev pub IsListedFailure : Rules → Listed → List ℕ → List ℕ → Failure → Type 0
-IsListedFailure rules Plain file text failure = IsTextFailure rules false file text failure
-IsListedFailure rules Rows file text failure = IsTextFailure rules true file text failure
-IsListedFailure rules Variables file text failure = IsVariablesFailure rules file text failure
-IsListedFailure rules WholeFile file text failure = IsWholeFailure rules file text failure
+IsListedFailure rules listed file text failure = IsMarkedFailure file text failure ⊎ IsKindFailure rules listed file text failure
 
 -- no variable that has a value is called so, and a value of some variable is: it is not told
 abbrev pub IsValueForName : Rules → List (List ℕ) → List ℕ → Type 0
@@ -244,13 +252,12 @@ IsListText reading file text = is_input file ≡ false → IfSome (reading.holds
 -- the list of a name cannot be read, or its text holds none
 abbrev pub IsFileFailure : Reading → Listed → List ℕ → Failure → Type 0
 IsFileFailure reading listed file failure =
-    ((name : _) × (reason : Reason) × (failure ≡ Unread name reason) × (name.now ≡ file) × CannotRead reading file reason)
-    ⊎ ((text : List ℕ) × IsListText reading file text × IsListedFailure reading.rules listed file text failure)
+    IsUnreadFailure reading file failure ⊎ ((text : List ℕ) × IsListText reading file text × IsListedFailure reading.rules listed file text failure)
 
 -- the file of a name gives no key: it cannot be read, or has less than 16 bytes
 abbrev pub IsKeyFailure : Reading → List ℕ → Failure → Type 0
 IsKeyFailure reading file failure =
-    ((name : _) × (reason : Reason) × (failure ≡ Unread name reason) × (name.now ≡ file) × CannotRead reading file reason)
+    IsUnreadFailure reading file failure
     ⊎ ((name : _) × (text : List ℕ) × (failure ≡ ShortKey name) × (name.now ≡ file) × (length text < 16) × IsListText reading file text)
 
 -- nor does that of the option

@@ -1,9 +1,9 @@
 -- How many lines are too long, and so covered whole.
 use Rattle.acredact.specs.Common.{Covering, Errors, SinkGhosts, TellsBytes, stream_lines}
-use Rattle.std.specs.Prelude.{◌≡◌, ℕ, ◌+◌, ◌-◌, ◌^◌, ◌==◌, min, nat_lt, List, [], ◌∷◌, Option, filter, if◌then◌else◌, length}
+use Rattle.std.specs.Prelude.{◌≡◌, ℕ, ◌+◌, ◌-◌, ◌^◌, ◌==◌, min, nat_lt, List, [], ◌∷◌, ◌++◌, Option, codes, decimal, filter, if◌then◌else◌, length}
 use Rattle.secret_rules.specs.Lines.{Line}
 use Rattle.acredact.specs.Reads.{OfName, ReadsText}
-use Rattle.acredact.specs.RuleLines.{too_long_line}
+use Rattle.acredact.specs.Messages.{numbered_line}
 
 -- the number of such a line, behind those of patterns and rules
 abbrev pub whole_number : Covering → ℕ
@@ -24,6 +24,11 @@ abbrev pub HaveLong : (holds : List ℕ → Option (List ℕ)) → (most : ℕ) 
 HaveLong holds most [] count left left' = (count ≡ 0) × (left' ≡ left)
 HaveLong holds most (name ∷ names) count left left' = (first : ℕ) × (rest : ℕ) × (count ≡ first + rest)
     × (between : Option (List ℕ)) × OfName holds name (HasLong most first) left between × HaveLong holds most names rest between left'
+
+-- the line that tells how many lines were too long: none where no line was
+abbrev pub too_long_line : (most count : ℕ) → List ℕ
+too_long_line most count =
+    numbered_line (codes ": lines of more than ") most (codes " bytes, each covered whole: " ++ (decimal count ++ codes "\n"))
 
 -- what is told of so many: nothing where there is none
 abbrev pub long_told : (most count : ℕ) → List ℕ

@@ -1,15 +1,19 @@
--- Whether something counts in what is read: what a check looks for.
-use Rattle.acredact.specs.Common.{Consumes, Ghosts, IsAtEnd, MayBe, Memory, Occurrence, Patterns, PositionLimit, Read, ReadFault, Reason, SourceGave, SourceGhosts, Standard, StreamError, TooLong, counted}
-use Rattle.std.specs.Prelude.{◌≡◌, ℕ, ◌||◌, ◌&&◌, not, Bool, MatchBool, true, false, List, [], Option, Some, Result, Ok, Err, IfErr, IfOk, alloc_error}
+-- What a check looks for in texts, and what it sees of one and tells of it.
+use Rattle.acredact.specs.Common.{Ghosts, MayBe, Memory, Occurrence, Patterns, PositionLimit, Read, ReadFault, SourceGave, SourceGhosts, Standard, StreamError, TooLong}
+use Rattle.std.specs.Prelude.{◌≡◌, ◌⊎◌, ℕ, ◌||◌, ◌&&◌, Bool, MatchBool, true, false, List, [], ◌∷◌, Option, None, Some, Result, Ok, Err, IfErr, IfOk, alloc_error}
+use mathlib.Core.Logic.{inl, inr}
 use Rattle.std.specs.declared.alloc.AllocError.{AllocError}
 use Rattle.aho_core.specs.declared.error.stream.StreamError.TheVariants.{Match, Write, WriteZero}
-use Rattle.aho_devices.specs.Refusals.{is_read_fault}
 use Rattle.aho_stream.specs.StreamRun.{CanBegin}
-use Rattle.acredact.specs.Faults.{is_unread}
-use Rattle.acredact.specs.Reads.{ReadsText}
+use Rattle.secret_rules.specs.declared.error.LineError.{LineError}
+use Rattle.secret_rules.specs.declared.error.LineError.TheVariants.{Stream}
+use Rattle.acredact.specs.Faults.{IsReadReason}
+use Rattle.acredact.specs.Files.{BeginsWriting, unread_line}
+use Rattle.acredact.specs.Findings.{BeginsFindings, LineSought, TellsText}
+use Rattle.acredact.specs.Messages.{output_line}
 use Rattle.acredact.specs.Secrets.{CountsFor, Redactor, redactor_by}
 use Rattle.acredact.specs.declared.look.Look.{Look}
-use Rattle.acredact.specs.declared.look.Look.TheVariants.{Clean, Found, Unread}
+use Rattle.acredact.specs.declared.look.Look.TheVariants.{Clean, Found, Output, Unread}
 use Rattle.acredact.specs.declared.look.Verdict.{Verdict}
 
 -- an automaton of some patterns can search streams, for all that occurs or for words
@@ -30,6 +34,11 @@ SomeCounts r bytes = (m : Occurrence) × CountsFor r bytes m
 abbrev pub NoneCounts : Redactor → List ℕ → Type 0
 NoneCounts r bytes = (m : Occurrence) → CountsFor r bytes m → ⊥
 
+-- something counts in a text of which this was given, whatever bytes may follow; or it was given to its end, and nothing does
+abbrev pub CountsInGiven : Redactor → (found : Bool) → (given : List ℕ) → (ended : Bool) → Type 0
+CountsInGiven r found given ended =
+    MatchBool found ((bytes : List ℕ) → MayBe given ended bytes → SomeCounts r bytes) ((ended ≡ true) × NoneCounts r given)
+
 -- why a stream is not looked through: a read fails, it is too long, or memory runs out
 abbrev pub IsLookEnd : StreamError → Type 0
 IsLookEnd (Match cause) = ⊥
@@ -39,15 +48,19 @@ IsLookEnd WriteZero = ⊥
 IsLookEnd Memory = Unit {0}
 IsLookEnd PositionLimit = Unit {0}
 
--- a source gave some bytes. It was read to its end and nothing counts in them, or something does, whatever bytes may follow; a read
--- fault is answered exactly where a read failed
+-- a source gave some bytes, and something counts in them or nothing does
 pub record LooksAt {R : Type 0} (S : SourceGhosts R) (r : Redactor) (result : Result Bool StreamError) (source source' : R) : Type 0 where
   pub given : List ℕ
   pub ended : Bool
   pub gives : SourceGave S source source' given ended
-  pub seen : IfOk result (λ found. MatchBool found ((bytes : List ℕ) → MayBe given ended bytes → SomeCounts r bytes) ((ended ≡ true) × NoneCounts r given))
-  pub read_failed : S.failures source' ≡ counted (is_read_fault result) (S.failures source)
+  pub seen : IfOk result (λ found. CountsInGiven r found given ended)
   pub only : IfErr result IsLookEnd
+
+-- what a first find says
+abbrev pub occurs_of : Option (Result Occurrence StreamError) → Result Bool StreamError
+occurs_of None = Ok false
+occurs_of (Some (Ok m)) = Ok true
+occurs_of (Some (Err error)) = Err error
 
 -- what that means for a file: one that cannot be read is told, and anything else ends the program
 abbrev pub look_of : Result Bool StreamError → Result Look AllocError
@@ -60,52 +73,73 @@ look_of (Err WriteZero) = Err alloc_error
 look_of (Err Memory) = Err alloc_error
 look_of (Err PositionLimit) = Ok (Unread TooLong)
 
--- whether a read failed
-abbrev pub is_failed_look : Result Look AllocError → Bool
-is_failed_look (Ok Clean) = false
-is_failed_look (Ok Found) = false
-is_failed_look (Ok (Unread reason)) = is_unread (Ok (Some reason))
-is_failed_look (Err error) = false
+-- the same of lines, by whether something was found in those that were told
+abbrev pub look_of_lines : Result (Unit {0}) LineError → (found : Bool) → Result Look LineError
+look_of_lines (Ok done) true = Ok Found
+look_of_lines (Ok done) false = Ok Clean
+look_of_lines (Err (Stream (Read fault))) found = Ok (Unread ReadFault)
+look_of_lines (Err (Stream PositionLimit)) found = Ok (Unread TooLong)
+look_of_lines (Err error) found = Err error
 
--- whether a pattern was found
-abbrev pub is_found : Look → Bool
-is_found Clean = false
-is_found Found = true
-is_found (Unread reason) = false
+-- what is seen of a file: whether something was found, and whether it was read to its end or up to that
+abbrev pub verdict_as : (found all : Bool) → Verdict
+verdict_as found all = record { found = found; all = all }
 
--- whether the file was not read to its end, and nothing was found
-abbrev pub is_unread_look : Look → Bool
-is_unread_look Clean = false
-is_unread_look Found = false
-is_unread_look (Unread reason) = true
-
--- what is seen of a file
 abbrev pub verdict_of : Look → Verdict
-verdict_of look = record { found = is_found look; all = not (is_unread_look look) }
+verdict_of Clean = verdict_as false true
+verdict_of Found = verdict_as true true
+verdict_of (Unread reason) = verdict_as false false
+verdict_of Output = verdict_as false false
 
 -- what is seen of files, and then of others
 abbrev pub both_seen : (first more : Verdict) → Verdict
-both_seen first more = record { found = first.found || more.found; all = first.all && more.all }
+both_seen first more = verdict_as (first.found || more.found) (first.all && more.all)
 
 -- whether all files were read, where that is answered
 abbrev pub all_seen : {X : Type 0} → Result Verdict X → Result Bool X
 all_seen (Ok verdict) = Ok verdict.all
 all_seen (Err error) = Err error
 
--- a text was read to its end, and nothing counts in it
-abbrev pub HoldsNoMatch : Redactor → (left left' : Option (List ℕ)) → Type 0
-HoldsNoMatch r left left' = (text : List ℕ) × ReadsText text left left' × NoneCounts r text
+-- what is told of a file
+abbrev pub look_lines : List ℕ → Look → List (List ℕ)
+look_lines name Clean = []
+look_lines name Found = []
+look_lines name (Unread reason) = unread_line name reason ∷ []
+look_lines name Output = output_line name ∷ []
 
--- a text was read up to some place, and something counts in it, whatever bytes may follow
-pub record HoldsMatch (r : Redactor) (left left' : Option (List ℕ)) : Type 0 where
-  pub given : List ℕ
-  pub ended : Bool
-  pub read : Consumes left left' given
-  pub at_end : ended ≡ true → IsAtEnd left'
-  pub some : (bytes : List ℕ) → MayBe given ended bytes → SomeCounts r bytes
+-- what is looked for: what counts in a text, or what is covered in its lines, which is told
+abbrev pub Sought : Type 0
+Sought = Redactor ⊎ LineSought
 
--- what is so of a text that was found to be this; it may be told as unread for some reasons
-abbrev pub IsLook : Redactor → (Why : Reason → Type 0) → Look → (left left' : Option (List ℕ)) → Type 0
-IsLook r Why Clean left left' = HoldsNoMatch r left left'
-IsLook r Why Found left left' = HoldsMatch r left left'
-IsLook r Why (Unread reason) left left' = Why reason × ((given : List ℕ) × Consumes left left' given)
+-- this was found in a text, of which such bytes were given, up to its end or not, and this was told of it
+abbrev pub IsSeen : Sought → (name : List ℕ) → (found : Bool) → (given : List ℕ) → (ended : Bool) → (part : List ℕ) → Type 0
+IsSeen (inl r) name found given ended part = CountsInGiven r found given ended
+IsSeen (inr s) name found given ended part = TellsText s name found given ended part
+
+-- or a beginning of what tells of it
+abbrev pub BeginsToTell : Sought → (name given : List ℕ) → (ended : Bool) → (part : List ℕ) → Type 0
+BeginsToTell (inl r) name given ended part = Unit {0}
+BeginsToTell (inr s) name given ended part = BeginsFindings s name given ended part
+
+-- by what the text was found to be
+abbrev pub IsLook : Sought → (name : List ℕ) → Look → (given : List ℕ) → (ended : Bool) → (part : List ℕ) → Type 0
+IsLook s name Clean given ended part = IsSeen s name false given ended part
+IsLook s name Found given ended part = IsSeen s name true given ended part
+IsLook s name (Unread reason) given ended part = BeginsToTell s name given ended part
+IsLook s name Output given ended part = BeginsToTell s name given ended part
+
+abbrev pub LooksSo : {X : Type 0} → Sought → (name : List ℕ) → Result Look X → (given : List ℕ) → (ended : Bool) → (part : List ℕ) → Type 0
+LooksSo s name (Ok look) given ended part = IsLook s name look given ended part
+LooksSo s name (Err error) given ended part = BeginsToTell s name given ended part
+
+-- what comes of a look at a text: some of it was read, and this is so of that
+abbrev pub LookedText : {X : Type 0} → Sought → (name : List ℕ) → Result Look X → (left left' held held' : Option (List ℕ)) → Type 0
+LookedText s name result left left' held held' =
+    BeginsWriting (λ given ended part. LooksSo s name result given ended part) left left' held held'
+
+-- why the end of one that was opened may not be reached
+abbrev pub IsReadLook : Look → Type 0
+IsReadLook Clean = Unit {0}
+IsReadLook Found = Unit {0}
+IsReadLook (Unread reason) = IsReadReason reason
+IsReadLook Output = ⊥

@@ -1,23 +1,16 @@
--- What is wrong with arguments, and how it is told.
-use Rattle.acredact.specs.Common.{Form, argument_form, as_shown, joined_letters, long_name, long_with, no_more, no_option}
-use Rattle.std.specs.Prelude.{◌≡◌, ◌⊎◌, ℕ, ◌==◌, ◌++◌, List, [], ◌∷◌, Option, Some, None, Result, Ok, Err, IfErr, codes, Vec, if◌then◌else◌}
-use Rattle.tool_parts.specs.OptionNames.{meant}
-use Rattle.tool_parts.specs.declared.options.found.NotFound.{NotFound as WhyNotFound}
+-- What is wrong with arguments, as a line.
+use Rattle.acredact.specs.Common.{as_shown}
+use Rattle.std.specs.Prelude.{ℕ, ◌++◌, List, [], ◌∷◌, Option, Some, None, codes, unwrap_or}
 use Rattle.tool_parts.specs.Misuses.{text_before, text_behind}
 use Rattle.tool_parts.specs.declared.options.misuse.Misuse.{Misuse}
 use Rattle.tool_parts.specs.declared.options.misuse.Misuse.TheVariants.{UnknownLetter as NoLetter, NotFound as NoName, NoArgument, TakesNone as Argued}
-use Rattle.acredact.specs.Arguments.{Given, ItemsSoFar, all_given, by_argument, given_by, is_same, mixture_of, option_name, takes_value}
-use Rattle.acredact.specs.Long.{found_of_name, word_by_name}
 use Rattle.acredact.specs.Messages.{alone, told_line}
-use Rattle.acredact.specs.declared.arguments.Expects.{Expects}
-use Rattle.acredact.specs.declared.arguments.Expects.TheVariants.{Any, Value, Name}
-use Rattle.acredact.specs.declared.options.Item.{Item}
 use Rattle.acredact.specs.declared.mistakes.Mistake.{Mistake}
 use Rattle.acredact.specs.declared.mistakes.Mistake.TheVariants.{UnknownLetter, NotFound, NoValue, TakesNone, UnknownKind, UnknownForm, BadName, BadSize, NoPattern, Mixed, OutOfMemory}
 use Rattle.acredact.specs.declared.mistakes.Mixture.{Mixture}
 use Rattle.acredact.specs.declared.mistakes.Mixture.TheVariants.{StrictKind, PseudonymKind, PseudonymWith, PseudonymTable, FormsKind, WordsKind, WordsForms, RulesKind, RulesInPlace, RulesStrict, MaxLineAlone, CountCheck, SummaryCheck, OutputCheck, InPlaceCheck, InPlaceOutput}
 use Rattle.acredact.specs.declared.options.Word.{Word}
-use Rattle.acredact.specs.declared.options.Word.TheVariants.{Env, Forms, MaxLine}
+use Rattle.acredact.specs.declared.options.Word.TheVariants.{Kind, Pattern, Patterns, Table, Env, EnvFile, Whole, With, Pseudonym, Forms, Rules, After, MaxLine, Output}
 
 -- what is told of options that do not go together
 abbrev pub mixture_text : Mixture → List ℕ
@@ -68,11 +61,31 @@ size_line = told_line (alone (codes "option '--max-line' takes a number of bytes
 
 -- an option cannot have a value
 abbrev pub value_line : Word → List ℕ
-value_line word =
-    if is_same Forms word then form_line
-    else if is_same Env word then variable_line
-    else if is_same MaxLine word then size_line
-    else kind_line
+value_line Forms = form_line
+value_line Env = variable_line
+value_line MaxLine = size_line
+value_line other = kind_line
+
+-- how an option is called, if it needs a value
+abbrev pub value_name : Word → Option (List ℕ)
+value_name Kind = Some (codes "--kind")
+value_name Pattern = Some (codes "-e")
+value_name Patterns = Some (codes "-f")
+value_name Table = Some (codes "-t")
+value_name Env = Some (codes "--env")
+value_name EnvFile = Some (codes "--env-file")
+value_name Whole = Some (codes "--whole")
+value_name With = Some (codes "--with")
+value_name Pseudonym = Some (codes "--pseudonym")
+value_name Forms = Some (codes "--forms")
+value_name Rules = Some (codes "--rules")
+value_name After = Some (codes "--after")
+value_name MaxLine = Some (codes "--max-line")
+value_name Output = Some (codes "--output")
+value_name other = None
+
+abbrev pub option_name : Word → List ℕ
+option_name word = unwrap_or (value_name word) (codes "-e")
 
 -- the line that tells a mistake
 abbrev pub mistake_line : Mistake → List ℕ
@@ -87,85 +100,3 @@ mistake_line BadSize = size_line
 mistake_line NoPattern = told_line (alone (codes "no pattern: give -e, -f or -t, or --help"))
 mistake_line (Mixed mixture) = told_line (alone (mixture_text mixture))
 mistake_line OutOfMemory = told_line (alone (codes "out of memory"))
-
--- what is told of a long name that means no option
-abbrev pub line_of_found : Result Word WhyNotFound → List ℕ → List ℕ
-line_of_found (Ok word) name = []
-line_of_found (Err why) name = misuse_line (NoName why) name
-
-abbrev pub line_of_name : List ℕ → List ℕ
-line_of_name name = line_of_found (meant (found_of_name name)) name
-
--- of a long name with a value behind an equals sign, where its option cannot have that one
-abbrev pub line_of_joined : Option Word → (name value : List ℕ) → List ℕ
-line_of_joined None name value = line_of_name name
-line_of_joined (Some word) name value = if takes_value word then value_line word else misuse_line Argued name
-
--- of the letter of no option
-abbrev pub line_of_letter : List ℕ → List ℕ
-line_of_letter [] = []
-line_of_letter (letter ∷ rest) = letter_line letter
-
--- of joined letters: of the first that no option has
-abbrev pub line_of_letters : List ℕ → List ℕ
-line_of_letters [] = []
-line_of_letters (letter ∷ rest) =
-    if letter == 105 then line_of_letters rest else if letter == 119 then line_of_letters rest else letter_line letter
-
--- of an argument that stands where an option may, by what it is; a file's name is never wrong
-abbrev pub line_of_form : Form → List ℕ
-line_of_form no_more = []
-line_of_form (long_name name) = line_of_name name
-line_of_form (long_with name value) = line_of_joined (word_by_name name) name value
-line_of_form (joined_letters letters) = line_of_letters letters
-line_of_form no_option = []
-
-abbrev pub line_of_any : List ℕ → List ℕ
-line_of_any argument = line_of_form (argument_form argument)
-
--- of a wrong argument, by what is expected of it
-abbrev pub line_of_argument : Expects → List ℕ → List ℕ
-line_of_argument Any argument = line_of_any argument
-line_of_argument (Value word) argument = value_line word
-line_of_argument Name argument = []
-
-abbrev pub line_or : List ℕ → (ItemsSoFar → Option (List ℕ)) → Option ItemsSoFar → Option (List ℕ)
-line_or wrong rest None = Some wrong
-line_or wrong rest (Some read) = rest read
-
--- an option has no value at the end
-abbrev pub line_at_end : Expects → Option (List ℕ)
-line_at_end Any = None
-line_at_end (Value word) = Some (misuse_line NoArgument (option_name word))
-line_at_end Name = None
-
--- what is told of the first argument that is wrong, or of the value that is missing at the end
-abbrev pub line_from : Expects → List (List ℕ) → List Given → Option (List ℕ)
-line_from expects [] items = line_at_end expects
-line_from expects (argument ∷ rest) items =
-    line_or (line_of_argument expects argument) (λ read. line_from read.next rest read.items) (by_argument expects argument items)
-
-abbrev pub first_mistake_line : List (List ℕ) → Option (List ℕ)
-first_mistake_line arguments = line_from Any arguments []
-
--- this is what is wrong with the arguments, or memory runs out
-abbrev pub IsMistake : List (List ℕ) → Mistake → Type 0
-IsMistake arguments mistake = (mistake ≡ OutOfMemory) ⊎ (first_mistake_line arguments ≡ Some (mistake_line mistake))
-
--- where it fails the argument is wrong by this, or memory runs out
-abbrev pub FailsAs : {X Z : Type 0} → (List Given → Option ItemsSoFar) → Vec Item Z → Result X Mistake → Type 0
-FailsAs reads old result = IfErr result (λ mistake. (mistake ≡ OutOfMemory) ⊎ (reads (all_given old.items) ≡ None))
-
--- and this is told
-abbrev pub TellsAs : {X : Type 0} → List ℕ → Result X Mistake → Type 0
-TellsAs line result = IfErr result (λ mistake. (mistake ≡ OutOfMemory) ⊎ (mistake_line mistake ≡ line))
-
--- options that are right each do not go together
-abbrev pub AreMixed : List (List ℕ) → Mistake → Type 0
-AreMixed arguments mistake =
-    (given : List Given) × (mixture : Mixture) × (given_by arguments ≡ Some given)
-    × (mixture_of given ≡ Some mixture) × (mistake ≡ Mixed mixture)
-
--- what is wrong with the arguments of a call: one of them, or that they do not go together
-abbrev pub IsMistakeOfCall : List (List ℕ) → Mistake → Type 0
-IsMistakeOfCall arguments mistake = IsMistake arguments mistake ⊎ AreMixed arguments mistake

@@ -1,7 +1,13 @@
 -- Secrets that are named by a key: a form has the pseudonym of its secret.
 use Rattle.acredact.specs.Common.{PieceRule}
 use Rattle.std.specs.Prelude.{ℕ, List, Option, Some, None, get_or, map}
+use Rattle.acredact.specs.Pseudonyms.{pseudonym_rule}
 use Rattle.acredact.specs.Tables.{Secret, patterns_in}
+use Rattle.acredact.specs.declared.ways.Key.{Key}
+
+-- what names them: the pseudonyms by a key
+abbrev pub rule_by_key : Key → PieceRule
+rule_by_key key = pseudonym_rule key.ignore_case key.bytes.now
 
 -- the pattern of the secret of this number, or one's own
 abbrev pub pattern_numbered : List Secret → List ℕ → Option ℕ → List ℕ

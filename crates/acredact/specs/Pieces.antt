@@ -1,6 +1,6 @@
 -- Which of the texts that are written in the place of patterns are clean, so that with what stands beside them they spell no pattern.
 use Rattle.acredact.specs.Common.{All, Errors, Occurrence, Patterns, SinkGhosts, TellsBytes, folded_by, pieces_of}
-use Rattle.std.specs.Prelude.{◌≡◌, ◌⊎◌, ℕ, ◌+◌, ◌<◌, Bool, true, false, List, [], ◌∷◌, ◌++◌, Option, Some, None, is_some, length, map, slice_index_or}
+use Rattle.std.specs.Prelude.{◌≡◌, ◌⊎◌, ℕ, ◌+◌, ◌<◌, Bool, true, false, List, [], ◌∷◌, ◌++◌, Option, Some, None, is_some, length, slice_index_or}
 use Rattle.aho_core.specs.Occurs.{OccursIn}
 use Rattle.aho_core.specs.Patterns.{pattern_at}
 use Rattle.aho_core.specs.Search.{plain_search}
@@ -9,7 +9,6 @@ use Rattle.tool_parts.specs.Asked.{ArePatterns}
 use Rattle.acredact.specs.Messages.{unclean_line}
 use Rattle.acredact.specs.Secrets.{AreCleanBy, Redactor}
 use Rattle.acredact.specs.Spelling.{IsSpelled, holds_byte}
-use Rattle.acredact.specs.Tables.{piece_by, secrets_of}
 use Rattle.acredact.specs.declared.clean.Flaw.{Flaw}
 use Rattle.acredact.specs.declared.clean.Flaw.TheVariants.{Empty, Pseudonym, Spells}
 use Rattle.acredact.specs.declared.clean.Judge.{Judge}
@@ -18,10 +17,6 @@ use Rattle.acredact.specs.declared.clean.Unclean.{Unclean}
 -- these are the patterns by which pieces are judged
 abbrev pub IsJudgeOf : Judge → Patterns → Type 0
 IsJudgeOf judge p = ArePatterns p judge.ignore_case (pieces_of judge.words.now)
-
--- what is written for each of its rules
-abbrev pub pieces_by : Judge → List (List ℕ)
-pieces_by judge = map (piece_by judge.usual.now) (secrets_of judge.rules.now)
 
 -- the bytes of a word are marked, as they are compared
 abbrev pub IsMarked : Bool → List ℕ → List Bool → Type 0

@@ -5,13 +5,17 @@ use Rattle.sha2.specs.Hashers.{Holds256}
 use Rattle.acredact.specs.Hmac.{hmac_by, hmac_sha256}
 use Rattle.acredact.specs.declared.pseudonym.Pseudonyms.{Pseudonyms}
 
--- the digit of a number below 16: 0 to 9 and a to f
+-- a number below 16 as a digit: 0 to 9 and a to f
+abbrev pub digit_at : ℕ → ℕ
+digit_at value = if nat_lt value 10 then 48 + value else 87 + value
+
+-- the digit of the last four bits of a byte
 abbrev pub hex_digit : ℕ → ℕ
-hex_digit value = if nat_lt value 10 then 48 + value else 87 + value
+hex_digit byte = digit_at (byte % 16)
 
 -- the two digits of the byte at a place
 abbrev pub hex_at : List ℕ → ℕ → List ℕ
-hex_at bytes at = hex_digit (slice_index_or bytes at 0 / 16) ∷ hex_digit (slice_index_or bytes at 0 % 16) ∷ []
+hex_at bytes at = hex_digit (slice_index_or bytes at 0 / 16) ∷ hex_digit (slice_index_or bytes at 0) ∷ []
 
 -- `[redacted:`, the first twelve digits of a digest, and `]`
 abbrev pub piece_of_digest : List ℕ → List ℕ
@@ -28,7 +32,7 @@ pseudonym_rule ignore_case key number bytes = piece_of_digest (hmac_sha256 key (
 
 -- by the two blocks that a key makes
 abbrev pub pseudonym_by : (ignore_case : Bool) (inner outer : List ℕ) → PieceRule
-pseudonym_by ignore_case inner outer number bytes = piece_of_digest (hmac_by inner outer (as_compared ignore_case bytes))
+pseudonym_by ignore_case inner outer number run = piece_of_digest (hmac_by inner outer (as_compared ignore_case run))
 
 -- these bytes of a run were fed
 abbrev pub WasFed : Pseudonyms → List ℕ → Type 0

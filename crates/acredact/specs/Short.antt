@@ -1,6 +1,5 @@
 -- Patterns that are too short for forms, and what is told of them.
-use Rattle.acredact.specs.Common.{All}
-use Rattle.std.specs.Prelude.{◌≡◌, ℕ, ◌+◌, ◌&&◌, Bool, true, false, List, [], ◌∷◌, ◌++◌, if◌then◌else◌, is_some, length, nat_lt, not}
+use Rattle.std.specs.Prelude.{◌≡◌, ℕ, ◌+◌, ◌&&◌, Bool, true, List, [], ◌∷◌, ◌++◌, Option, None, Some, if◌then◌else◌, is_some, length, nat_lt, not}
 use Rattle.acredact.specs.Arguments.{Given, has}
 use Rattle.acredact.specs.Failures.{short_line}
 use Rattle.acredact.specs.Tables.{Secret}
@@ -25,21 +24,17 @@ short_lines number (secret ∷ secrets) = lines_of_short number secret ++ short_
 abbrev pub short_told : List Given → List Secret → List (List ℕ)
 short_told given secrets = if has Forms given then short_lines 1 secrets else []
 
-abbrev pub AreLong : List Secret → Type 0
-AreLong secrets = All (λ secret. is_formless secret ≡ false) secrets
+-- the number of the first of them that is told, if there is one
+abbrev pub first_short : ℕ → List Secret → Option ℕ
+first_short number [] = None
+first_short number (secret ∷ secrets) = if is_formless secret then Some number else first_short (number + 1) secrets
 
 abbrev pub AreLongAsked : List Given → List Secret → Type 0
-AreLongAsked given secrets = has Forms given ≡ true → AreLong secrets
+AreLongAsked given secrets = has Forms given ≡ true → first_short 1 secrets ≡ None
 
 -- or the first is refused
-pub record RefusesShort (secrets : List Secret) (failure : Failure) : Type 0 where
-  pub front : List Secret
-  pub secret : Secret
-  pub rest : List Secret
-  pub are : secrets ≡ front ++ (secret ∷ rest)
-  pub before : AreLong front
-  pub short : is_formless secret ≡ true
-  pub is : failure ≡ Short (length front + 1)
+abbrev pub RefusesShort : List Secret → Failure → Type 0
+RefusesShort secrets failure = (number : ℕ) × (first_short 1 secrets ≡ Some number) × (failure ≡ Short number)
 
 abbrev pub RefusesShortAsked : List Given → List Secret → Failure → Type 0
 RefusesShortAsked given secrets failure = (has Forms given ≡ true) × RefusesShort secrets failure

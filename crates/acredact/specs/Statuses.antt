@@ -1,10 +1,11 @@
 -- What the exit status of a call says.
-use Rattle.acredact.specs.Common.{Readers, SinkGhosts, TellsSome, Writers, bytes_left}
+use Rattle.acredact.specs.Common.{Readers, SinkGhosts, Writers, bytes_left}
 use Rattle.std.specs.Prelude.{◌≡◌, ℕ, List, if◌then◌else◌}
-use Rattle.acredact.specs.Arguments.{AsksToRedact, Given, GivesNoPattern}
+use Rattle.acredact.specs.Arguments.{AsksForRules, AsksToRedact, Given, GivesNoPattern}
 use Rattle.acredact.specs.Calls.{BeginsCall, Call, IsLineOf, OfCall, OutputFails, RedactsWhole, TellsUpToEnd, call_of}
 use Rattle.acredact.specs.Checks.{SaysOfCheck}
-use Rattle.acredact.specs.Ruled.{SaysOfRules}
+use Rattle.acredact.specs.Outcomes.{EndSays}
+use Rattle.acredact.specs.Ruled.{Between, RuledStatus}
 use Rattle.acredact.specs.RuledChecks.{SaysOfRulesCheck}
 use Rattle.acredact.specs.declared.folder.Folder.{Ghosts as Folders}
 use Rattle.acredact.specs.declared.look.Verdict.{Verdict}
@@ -23,20 +24,13 @@ pub record IsIdle {R W E : Type 0} {Reads : Readers R} (streams streams' : Strea
 pub record CallStatus {R W E : Type 0} {Reads : Readers R} (Writes : Writers W) (K : SinkGhosts E) (call : Call) (status : ℕ) (streams streams' : Streams R W E Reads) : Type 0 where
   pub patternless : GivesNoPattern call.given → status ≡ 2
   pub idle : GivesNoPattern call.given → IsIdle streams streams'
-  pub done : status ≡ 0 → RedactsWhole Writes K call streams streams'
-  pub begins : OfCall (BeginsCall Writes) call streams streams'
-  pub tells : status ≡ 2 → TellsSome K (IsLineOf call (OutputFails streams.output streams'.output)) streams.errors streams'.errors
+  pub says : EndSays K (IsLineOf call (OutputFails streams.output streams'.output)) (RedactsWhole Writes K call streams streams')
+      (OfCall (BeginsCall Writes) call streams streams') status streams.errors streams'.errors
   pub numbers : TellsUpToEnd K call (OutputFails streams.output streams'.output) (bytes_left streams.input) (bytes_left streams'.input) streams.errors streams'.errors
-
--- the same of a call that asks for a redaction
-abbrev pub SaysOfRedaction : {R W E F X : Type 0} {Reads : Readers R} → Writers W → SinkGhosts E
-    → Folders F X → F → List Given → ℕ → (streams streams' : Streams R W E Reads) → Type 0
-SaysOfRedaction Writes K D folder given status streams streams' = AsksToRedact given
-    → CallStatus Writes K (call_of D folder given) status streams streams'
 
 -- what the status says of these options and files, whatever they ask for
 pub record SaysOfCall {R W E F X : Type 0} {Reads : Readers R} (Writes : Writers W) (K : SinkGhosts E) (D : Folders F X) (folder : F) (given : List Given) (status : ℕ) (streams streams' : Streams R W E Reads) : Type 0 where
-  pub redacted : SaysOfRedaction Writes K D folder given status streams streams'
+  pub redacted : AsksToRedact given → CallStatus Writes K (call_of D folder given) status streams streams'
   pub checked : SaysOfCheck K D folder given status streams streams'
-  pub ruled : SaysOfRules Writes K D folder given status streams streams'
+  pub ruled : AsksForRules given → Between Writes (RuledStatus K (call_of D folder given) status) streams streams'
   pub ruled_check : SaysOfRulesCheck Writes K D folder given status streams streams'

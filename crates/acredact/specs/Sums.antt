@@ -1,9 +1,8 @@
 -- What is counted for each pattern that was given: its own count, and those of its forms.
-use Rattle.std.specs.Prelude.{◌≡◌, ℕ, ◌+◌, ◌-◌, ◌<◌, ◌^◌, min, List, [], ◌∷◌, is_some, length, map, nat_eq, not, slice_index, unwrap_or, Vec, if◌then◌else◌}
+use Rattle.std.specs.Prelude.{◌≡◌, ℕ, ◌+◌, ◌-◌, ◌<◌, ◌^◌, min, List, [], ◌∷◌, is_some, length, map, nat_eq, not, slice_index, unwrap_or, if◌then◌else◌}
 use Rattle.std.specs.List.{filter, range_with_len}
 use Rattle.aho_cover.specs.Counting.{grown_count}
-use Rattle.acredact.specs.Tables.{Secret, secrets_of}
-use Rattle.acredact.specs.declared.patterns.Rule.{Rule}
+use Rattle.acredact.specs.Tables.{Secret}
 
 -- how many were given, and are no forms of others
 abbrev pub given_count : List Secret → ℕ
@@ -27,10 +26,6 @@ sum_for number place (secret ∷ secrets) (count ∷ counts) =
 -- for each pattern that was given the sum of its count and those of its forms; it stops at the greatest number
 abbrev pub sums_of : List Secret → (counts : List ℕ) → List ℕ
 sums_of secrets counts = map (λ number. min (sum_for number 0 secrets counts) (2 ^ 64 - 1)) (range_with_len 0 (given_count secrets))
-
--- the same of rules
-abbrev pub AreSumsOf : {Z : Type 0} → List Rule → (counts : List ℕ) → Vec ℕ Z → Type 0
-AreSumsOf rules counts sums = sums.items ≡ sums_of (secrets_of rules) counts
 
 -- sums have grown, each by what is added to that of its number
 pub record HaveGrown (more : ℕ → ℕ) (sums sums' : List ℕ) : Type 0 where

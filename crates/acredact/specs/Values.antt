@@ -1,7 +1,7 @@
 -- Values that are patterns: of variables, of the environment or of a file, and of whole files.
 use Rattle.acredact.specs.Common.{Bor, bytes_eq, ends_with_byte, strip_last}
 use Rattle.std.specs.Prelude.{◌≡◌, ℕ, ◌+◌, ◌-◌, ◌^◌, ◌||◌, ◌&&◌, not, min, Bool, MatchBool, false, true, List, [], ◌∷◌, ◌++◌, Option, Some, None, if◌then◌else◌, length, nat_eq, option_and_then, option_map}
-use Rattle.std.specs.List.{list_all, list_any, starts_with}
+use Rattle.std.specs.List.{filter_map, list_all, list_any, starts_with}
 use Rattle.aho_cover.specs.Words.{is_word_part}
 use Rattle.acredact.specs.Forms.{split_first}
 use Rattle.acredact.specs.Parts.{GivesPattern}
@@ -36,12 +36,12 @@ behind_equals text = option_map (λ (parts : List ℕ × List ℕ). parts.1) (sp
 abbrev pub value_of_entry : (name entry : List ℕ) → Option (List ℕ)
 value_of_entry name entry = option_and_then (λ (parts : List ℕ × List ℕ). value_if (is_named name parts.0) parts.1) (split_first 61 entry)
 
--- whether a text is this value
+-- whether a text is this value, perhaps with a star behind it
 abbrev pub is_value_text : List ℕ → Option (List ℕ) → Bool
 is_value_text text None = false
-is_value_text text (Some value) = bytes_eq value text
+is_value_text text (Some value) = bytes_eq value text || bytes_eq value (strip_last 42 text)
 
--- whether a text is the value of some entry of the environment
+-- whether a text is the value of some entry of the environment, perhaps with a star behind it
 abbrev pub is_some_value : List (List ℕ) → List ℕ → Bool
 is_some_value entries text = list_any (λ entry. is_value_text text (behind_equals entry)) entries
 
@@ -57,6 +57,10 @@ is_no_variable (byte ∷ bytes) = if nat_eq byte 32 || nat_eq byte 9 then is_no_
 
 abbrev pub value_in_line : List ℕ → Option (List ℕ)
 value_in_line line = if is_no_variable line then None else behind_equals line
+
+-- and those of some lines
+abbrev pub values_in_lines : Form → List (List ℕ) → List (List ℕ)
+values_in_lines form lines = filter_map (λ line. value_in_line (stripped_by form line)) lines
 
 abbrev pub no_bytes : List ℕ → Bool
 no_bytes value = nat_eq (length value) 0

@@ -21,5 +21,5 @@ pub record IsCovering {A : Type 0} (G : Ghosts A) (automaton : A) (progress : Co
   pub unbegun : IsUnbegunWith progress.words G automaton progress
 
 -- what holds of all by which a way redacts
-abbrev pub IfBy : {X : Type 0} → Ways X → X → (Redactor → Type 0) → Type 0
-IfBy G way Holds = (r : Redactor) → G.by way r → Holds r
+abbrev pub IfBy : {X : Type 0} → (G : Ways X) → X → (G.Plan → Type 0) → Type 0
+IfBy G way Holds = (plan : G.Plan) → G.by way plan → Holds plan

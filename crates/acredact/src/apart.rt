@@ -241,6 +241,9 @@ fn tell_names<E: Sink>(errors: &mut Errors<'_, E>, names: &[Vec<u8>])
 /// The status of a call of which this was told, and whose rest ends with that one.
 pub fn status_behind(told: Told, status: u8) -> u8
     ensures status { result ≡ status_behind told status }
+    ensures zero { result ≡ 0 → status ≡ 0 }
+    ensures one { result ≡ 1 → status ≡ 1 }
+    ensures two { status ≡ 2 → result ≡ 2 }
 {
     match told {
         Told::Nothing => status,

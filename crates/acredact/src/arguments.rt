@@ -1,18 +1,14 @@
 //! What the arguments of a call are: options with their values, and names of files.
 
-ghost use Rattle.std.specs.Prelude.{◌≡◌, ◌++◌, [], ◌∷◌, Some, IfErr, IfOk, OnOk, string_bytes};
+ghost use Rattle.std.specs.Prelude.{◌≡◌, ◌++◌, [], ◌∷◌, Ok, Some, IfErr, IfOk, OnOk, string_bytes};
 ghost use Rattle.tool_parts.specs.Arguments.{texts};
-ghost use Rattle.acredact.specs.Arguments.{ReadsAs, all_asked, all_given, by_any, by_argument, given, given_by, is_value_of, by_joined, by_letter, by_letters, mixture_of, by_name, by_taken, rules_mixture_of, words_mixture_of, by_value};
-ghost use Rattle.acredact.specs.Long.{word_by_name};
-ghost use Rattle.acredact.specs.Mistakes.{FailsAs, IsMistake, IsMistakeOfCall, TellsAs, line_of_any, line_of_argument, line_of_joined, line_of_letter, line_of_letters, line_of_name, value_line};
+ghost use Rattle.acredact.specs.Arguments.{FailsAs, IsMistake, IsMistakeOfCall, ReadsAs, all_asked, all_given, by_any, by_argument, given, given_by, is_value_of, by_joined, by_letter, by_letters, mixture_of, by_name, by_taken, rules_mixture_of, words_mixture_of, by_value};
 
 use crate::forms::are_forms;
 use crate::line_size::size_of;
 use crate::long::option_of;
 use crate::mistakes::{Mistake, Mixture};
-use crate::options::{
-    Item, Word, covers, gives_rules, has, is_cover, is_same, kind_by, takes_value,
-};
+use crate::options::{Item, Word, covers, gives_rules, has, is_cover, kind_by, takes_value};
 use crate::values::is_variable_name;
 use std::alloc::{AllocError, Global};
 use tool_parts::options::argument::{Argument, text_argument_of};
@@ -95,19 +91,17 @@ fn words_mixture_of(items: &[Item<'_>]) -> Option<Mixture>
 fn rules_mixture_of(items: &[Item<'_>]) -> Option<Mixture>
     ensures mixture { result ≡ rules_mixture_of (all_given items.now) }
 {
-    if !gives_rules(items) {
-        if has(items, Word::MaxLine) {
-            return Some(Mixture::MaxLineAlone);
-        }
-        return None;
+    let rules = gives_rules(items);
+    if !rules && has(items, Word::MaxLine) {
+        return Some(Mixture::MaxLineAlone);
     }
-    if !covers(items) {
+    if rules && !covers(items) {
         return Some(Mixture::RulesKind);
     }
-    if has(items, Word::InPlace) {
+    if rules && has(items, Word::InPlace) {
         return Some(Mixture::RulesInPlace);
     }
-    if has(items, Word::Strict) {
+    if rules && has(items, Word::Strict) {
         return Some(Mixture::RulesStrict);
     }
     None
@@ -116,7 +110,7 @@ fn rules_mixture_of(items: &[Item<'_>]) -> Option<Mixture>
 /// All options and files, in order.
 fn read_items(alloc: Global, arguments: &[String]) -> Result<Vec<Item<'_>>, Mistake<'_>>
     ensures given { IfOk result (λ items.
-        given_by (texts arguments.now) ≡ Some (all_given items.items)) }
+        given_by (texts arguments.now) ≡ Ok (all_given items.items)) }
     ensures wrong { IfErr result (IsMistake (texts arguments.now)) }
 {
     let mut items = Vec::new(alloc);
@@ -138,7 +132,6 @@ pub fn read<'a>(
 ) -> Result<Expects, Mistake<'a>>
     ensures read { ReadsAs (by_argument expects (string_bytes argument.now)) items.old items.new result }
     ensures refused { FailsAs (by_argument expects (string_bytes argument.now)) items.old result }
-    ensures wrong { TellsAs (line_of_argument expects (string_bytes argument.now)) result }
 {
     match expects {
         Expects::Any => read_any(items, argument.as_str()),
@@ -163,7 +156,6 @@ fn add<'a>(items: &mut Vec<Item<'a>>, word: Word, value: &'a str) -> Result<(), 
 fn read_any<'a>(items: &mut Vec<Item<'a>>, argument: &'a str) -> Result<Expects, Mistake<'a>>
     ensures read { ReadsAs (by_any argument.now) items.old items.new result }
     ensures refused { FailsAs (by_any argument.now) items.old result }
-    ensures wrong { TellsAs (line_of_any argument.now) result }
 {
     match text_argument_of(argument) {
         Argument::End => Ok(Expects::Name),
@@ -185,7 +177,6 @@ fn read_joined<'a>(
 ) -> Result<Expects, Mistake<'a>>
     ensures read { ReadsAs (by_joined name.now value.now) items.old items.new result }
     ensures refused { FailsAs (by_joined name.now value.now) items.old result }
-    ensures wrong { TellsAs (line_of_joined (word_by_name name.now) name.now value.now) result }
 {
     let word = option_of(name.as_bytes())?;
     if takes_value(word) {
@@ -198,7 +189,6 @@ fn read_joined<'a>(
 fn read_named<'a>(items: &mut Vec<Item<'a>>, name: &'a str) -> Result<Expects, Mistake<'a>>
     ensures read { ReadsAs (by_name name.now) items.old items.new result }
     ensures refused { FailsAs (by_name name.now) items.old result }
-    ensures wrong { TellsAs (line_of_name name.now) result }
 {
     let word = option_of(name.as_bytes())?;
     if takes_value(word) {
@@ -212,7 +202,6 @@ fn read_named<'a>(items: &mut Vec<Item<'a>>, name: &'a str) -> Result<Expects, M
 fn read_letters<'a>(items: &mut Vec<Item<'a>>, letters: &'a str) -> Result<Expects, Mistake<'a>>
     ensures read { ReadsAs (by_letters letters.now) items.old items.new result }
     ensures refused { FailsAs (by_letters letters.now) items.old result }
-    ensures wrong { TellsAs (line_of_letters letters.now) result }
 {
     let mut rest = letters;
     'letters: loop {
@@ -232,7 +221,6 @@ fn read_letters<'a>(items: &mut Vec<Item<'a>>, letters: &'a str) -> Result<Expec
 fn read_letter<'a>(items: &mut Vec<Item<'a>>, letters: &'a str) -> Result<Expects, Mistake<'a>>
     ensures read { ReadsAs (by_letter letters.now) items.old items.new result }
     ensures refused { FailsAs (by_letter letters.now) items.old result }
-    ensures wrong { TellsAs (line_of_letter letters.now) result }
 {
     if let Some(behind) = letters.strip_prefix('e') {
         return take_value(items, Word::Pattern, behind);
@@ -273,22 +261,17 @@ fn read_value<'a>(
 ) -> Result<Expects, Mistake<'a>>
     ensures read { ReadsAs (by_value word value.now) items.old items.new result }
     ensures refused { FailsAs (by_value word value.now) items.old result }
-    ensures wrong { TellsAs (value_line word) result }
 {
     if is_value_of(word, value) {
         add(items, word, value)?;
         return Ok(Expects::Any);
     }
-    if is_same(Word::Forms, word) {
-        return Err(Mistake::UnknownForm);
+    match word {
+        Word::Forms => Err(Mistake::UnknownForm),
+        Word::Env => Err(Mistake::BadName),
+        Word::MaxLine => Err(Mistake::BadSize),
+        _ => Err(Mistake::UnknownKind),
     }
-    if is_same(Word::Env, word) {
-        return Err(Mistake::BadName);
-    }
-    if is_same(Word::MaxLine, word) {
-        return Err(Mistake::BadSize);
-    }
-    Err(Mistake::UnknownKind)
 }
 
 /// Whether an option can have this value: that of `--kind` is `cover` or a match kind, that of `--forms` names forms, that of `--env`

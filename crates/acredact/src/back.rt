@@ -16,6 +16,12 @@ pub struct Backing<'s, 't, A, B> {
 
 impl<A: Automaton, B: Automaton> Way for Backing<'_, '_, A, B> {
     ghost use Rattle.acredact.specs.Back.{IsBacking};
+    ghost use Rattle.acredact.specs.Files.{deed_of};
+    ghost use Rattle.acredact.specs.Secrets.{Redactor};
+
+    ghost Plan = { Redactor };
+
+    ghost means = { deed_of };
 
     ghost by = { λ way r. IsBacking A.Automaton B.Automaton way.searcher.now
         way.replacing.automaton.now way.replacing.replacements.now r };

@@ -1,22 +1,21 @@
 //! A check: whether something would be replaced in files. It writes nothing but warnings and failures.
 
 ghost use Rattle.std.specs.Prelude.{◌≡◌, OnOk};
-ghost use Rattle.chromesquid.specs.Searcher.{ForItsPatterns};
 ghost use Rattle.acredact.specs.Arguments.{GivesNoPattern, all_given};
-ghost use Rattle.acredact.specs.Checks.{ChecksGiven, EndsCheck, SeesSearched};
-ghost use Rattle.acredact.specs.Looks.{CanLook};
+ghost use Rattle.acredact.specs.Checks.{ChecksGiven, EndsCheck};
 ghost use Rattle.acredact.specs.Statuses.{check_status};
 
 use crate::doubts::warn_of_lists;
 use crate::failure::{FAILED, Failure, report};
 use crate::folder::Folder;
-use crate::load::{lists_of, rules};
+use crate::load::rules;
 use crate::look::{Searched, Verdict, look_at_files};
+use crate::looker::ByPatterns;
 use crate::mistakes::Mistake;
 use crate::options::{Item, Word, gives_pattern, has, words};
 use crate::prepare::ready_of;
-use chromesquid::{AhoCorasick, Automaton, FromRead, Sink};
-use std::alloc::{AllocError, Global};
+use chromesquid::{FromRead, Nowhere, Sink};
+use std::alloc::Global;
 use std::io::Read;
 use tool_parts::errors::Errors;
 
@@ -69,8 +68,7 @@ fn check_given<'a, F: Folder, I: Read, E: Sink>(
     if !gives_pattern(given) {
         return Err(Failure::Arguments(Mistake::NoPattern));
     }
-    let lists = lists_of(alloc, given, folder);
-    let loaded = match rules(&lists, given, input) {
+    let loaded = match rules(alloc, given, folder, input) {
         Ok(rules) => rules,
         Err(failure) => return Err(failure),
     };
@@ -84,32 +82,16 @@ fn check_given<'a, F: Folder, I: Read, E: Sink>(
         Ok(ready) => ready,
         Err(failure) => return Err(failure),
     };
-    let files = Searched {
+    let mut looker = ByPatterns {
         alloc,
-        folder,
-        names: ready.names.as_slice(),
+        searcher: &ready.searcher,
         words: words(given),
     };
-    let verdict = look_by(&ready.searcher, &files, input, errors)?;
+    let files = Searched {
+        folder,
+        names: ready.names.as_slice(),
+        tells: false,
+    };
+    let verdict = look_at_files(&mut looker, &files, input, &mut Nowhere, errors)?;
     Ok(verdict)
-}
-
-/// Looks at each file by the automaton that the searcher holds.
-fn look_by<F: Folder, I: Read, E: Sink>(
-    searcher: &AhoCorasick,
-    files: &Searched<'_, '_, F>,
-    input: &mut FromRead<I>,
-    errors: &mut Errors<'_, E>,
-) -> Result<Verdict, AllocError>
-    requires ready { CanLook ⟦<AhoCorasick as Automaton>⟧ searcher.now files.now.words }
-    ensures sees { ForItsPatterns searcher.now (SeesSearched E.Sink F.Folder files.now
-        result input.old input.new errors.old errors.new) }
-{
-    if let Some(rows) = searcher.rows() {
-        return look_at_files(rows, files, input, errors);
-    }
-    match searcher.levels() {
-        Some(levels) => look_at_files(levels, files, input, errors),
-        None => look_at_files(searcher.itself(), files, input, errors),
-    }
 }

@@ -11,12 +11,10 @@ ghost use Rattle.aho_core.specs.Patterns.{Patterns};
 ghost use Rattle.aho_core.specs.Replacement.{pieces_of};
 ghost use Rattle.aho_core.specs.Search.{plain_search};
 ghost use Rattle.aho_core.specs.declared.search.Anchored.TheVariants.{No};
-ghost use Rattle.acredact.specs.Pieces.{IsFlawOrNone, IsJudgeOf, IsJudgedBy, IsMarked, StayMarked, WordsAreMarked, pieces_by};
+ghost use Rattle.acredact.specs.Pieces.{IsFlawOrNone, IsJudgeOf, IsJudgedBy, IsMarked, StayMarked, WordsAreMarked};
 ghost use Rattle.acredact.specs.Secrets.{IfOf, NoneOccurs};
 ghost use Rattle.acredact.specs.Spelling.{IsFirstSpelled, holder_in, holds_byte, is_inside, lies_inside, may_be_spelled};
-ghost use Rattle.acredact.specs.Tables.{piece_by, secret_of};
 
-use crate::patterns::Rule;
 use chromesquid::{Automaton, Input, Match};
 
 /// By what pieces are judged.
@@ -26,10 +24,8 @@ pub struct Judge<'s, 't> {
     pub words: &'s [&'t [u8]],
     /// Whether ASCII letters are the same in both cases.
     pub ignore_case: bool,
-    /// The rules of the patterns, with their own pieces.
-    pub rules: &'s [Rule],
-    /// The piece of those that have none of their own.
-    pub usual: &'t [u8],
+    /// The piece of each.
+    pub pieces: &'s [&'t [u8]],
 }
 
 /// Why a piece is not clean.
@@ -53,8 +49,7 @@ pub struct Unclean {
 }
 
 /// The first pattern whose piece is not clean, where a cover is asked for and there is one; or that a pseudonym can spell, where those
-/// are written. It takes no memory, and looks at each byte
-/// of the patterns, of their own pieces and of the usual one a few times.
+/// are written. It takes no memory, and looks at each byte of the patterns and of the pieces a few times.
 pub fn unclean_of<A: Automaton>(
     automaton: &A,
     judge: &Judge<'_, '_>,
@@ -63,10 +58,10 @@ pub fn unclean_of<A: Automaton>(
 ) -> Option<Unclean>
     requires of { (p : Patterns) × A.is_of automaton.now p }
     requires starts { IsOk (A.start automaton.now No) }
-    requires one_each { length judge.now.rules.now ≡ length judge.now.words.now }
+    requires one_each { length judge.now.pieces.now ≡ length judge.now.words.now }
     ensures judged { IfOf A.Automaton automaton.now (λ p.
         IsJudgeOf judge.now p →
-        IsJudgedBy p covers named (pieces_by judge.now) result) }
+        IsJudgedBy p covers named (pieces_of judge.now.pieces.now) result) }
 {
     if !covers {
         return None;
@@ -75,45 +70,18 @@ pub fn unclean_of<A: Automaton>(
         return first_spelled(judge.words, judge.ignore_case);
     }
     let marks = marks_of(judge.words, judge.ignore_case);
-    let usual = flaw_of(automaton, judge, &marks, judge.usual);
-    let mut at = 0;
-    while at < judge.rules.len() {
-        match flaw_of_rule(automaton, judge, &marks, &judge.rules[at], usual) {
+    for (at, piece) in judge.pieces.iter().enumerate() {
+        match flaw_of(automaton, judge, &marks, piece) {
             Some(flaw) => {
                 return Some(Unclean {
                     number: at + 1,
                     flaw,
                 });
             }
-            None => at += 1,
+            None => {}
         }
     }
     None
-}
-
-/// Why the piece of a rule is not clean, where it is not, by what was found of the usual one.
-fn flaw_of_rule<A: Automaton>(
-    automaton: &A,
-    judge: &Judge<'_, '_>,
-    marks: &[bool],
-    rule: &Rule,
-    usual: Option<Flaw>,
-) -> Option<Flaw>
-    requires of { (p : Patterns) × A.is_of automaton.now p }
-    requires starts { IsOk (A.start automaton.now No) }
-    requires sized { length marks.now ≡ 256 }
-    requires marked { WordsAreMarked judge.now.ignore_case (pieces_of judge.now.words.now) marks.now }
-    requires usual { IfOf A.Automaton automaton.now (λ p.
-        IsJudgeOf judge.now p →
-        IsFlawOrNone p judge.now.usual.now usual) }
-    ensures flaw { IfOf A.Automaton automaton.now (λ p.
-        IsJudgeOf judge.now p →
-        IsFlawOrNone p (piece_by judge.now.usual.now (secret_of rule.now)) result) }
-{
-    match &rule.replacement {
-        Some(own) => flaw_of(automaton, judge, marks, own.as_slice()),
-        None => usual,
-    }
 }
 
 /// Why a piece is not clean, where it is not.

@@ -11,15 +11,8 @@ use std::alloc::{AllocError, Global};
 pub fn counts_of(alloc: Global, rules: &[Rule], counted: bool) -> Result<Vec<u64>, AllocError>
     ensures counts { IfOk result (λ all. all.items ≡ zeros counted rules.now) }
 {
-    let mut counts = Vec::new(alloc);
-    if counted {
-        let mut rest = rules;
-        while !rest.is_empty() {
-            counts.push(0)?;
-            rest = &rest[1..];
-        }
-    }
-    Ok(counts)
+    let size = if counted { rules.len() } else { 0 };
+    vec![in alloc; 0; size]
 }
 
 /// Puts a line for each pattern: how many of its matches were replaced, a TAB, its number from 1 on, a TAB, and the number of its

@@ -1,10 +1,10 @@
 //! Why a call ends early, and how that is told.
 
-ghost use Rattle.std.specs.Prelude.{◌≡◌, ◌++◌, ℕ, List, decimal};
+ghost use Rattle.std.specs.Prelude.{◌≡◌, ◌⊎◌, ◌++◌, ℕ, List, decimal};
 ghost use Rattle.tool_parts.specs.Messages.{reason_text};
 ghost use Rattle.tool_parts.specs.Telling.{TellsBytes, TellsSome};
 ghost use Rattle.acredact.specs.Calls.{IsRefusedLine};
-ghost use Rattle.acredact.specs.Failures.{IsFailureLine, IsOtherLine, bad_line, is_of_output, short_line};
+ghost use Rattle.acredact.specs.Failures.{EndsCall, IsFailureLine, IsOtherLine, bad_line, is_of_output, short_line};
 ghost use Rattle.acredact.specs.LineFaults.{line_fault_text};
 ghost use Rattle.acredact.specs.Messages.{alone, line_about, no_file_line, no_output_line, numbered_line, output_line, told_line, unclean_line};
 ghost use Rattle.acredact.specs.Mistakes.{mistake_line, misuse_line, mixture_text, named_line};
@@ -13,7 +13,7 @@ use crate::clean::{Flaw, Unclean};
 use crate::mistakes::{Mistake, Mixture, name_of};
 use crate::patterns::{BadLine, LineFault};
 use chromesquid::{BuildError, Sink, StreamError};
-use rule_files::{MAX_DIGITS, digits_of, is_plain, tell_shown, write_shown};
+use rule_files::{MAX_DIGITS, TextFault, digits_of, is_plain, tell_fault, tell_shown, write_shown};
 use std::alloc::AllocError;
 use tool_parts::errors::Errors;
 use tool_parts::failure;
@@ -25,6 +25,18 @@ pub const FAILED: u8 = 2;
 
 /// The name that stands before each message.
 pub const PROGRAM: &[u8] = b"acredact";
+
+/// What is told of an empty list.
+const NO_PATTERN: &str = "no pattern: give --allow-empty to allow it";
+
+/// What is told of a variable without a value.
+const NO_VALUE: &str = "no value: give --allow-empty to pass it over";
+
+/// What is told of a pattern that holds a line end, behind its number.
+const LINE_END: &[u8] = b" holds a line end: it stands in no line, and rules go line by line\n";
+
+/// What is told of a value that stands for a name. It is not told itself.
+const VALUE_FOR_NAME: &str = "option '--env' takes the name of a variable, and this is a value";
 
 /// Why a call ends early.
 #[derive(Drop)]
@@ -53,6 +65,12 @@ pub enum Failure<'a> {
     Unclean(Unclean),
     /// The counts cannot be written to standard error.
     Counts,
+    /// A file of this name gives no rules, or a rule of it or of this option is none.
+    Text(&'a str, TextFault),
+    /// No searcher can be built for the keywords of rules.
+    Keywords(BuildError),
+    /// The pattern of this number, from 1 on, holds a line end, and stands in no line of a call with rules.
+    LineEnd(usize),
     /// The patterns are refused, memory runs out, or output cannot be written.
     Other(failure::Failure),
 }
@@ -147,7 +165,7 @@ fn tell_alone<E: Sink>(errors: &mut Errors<'_, E>, cause: &str)
 }
 
 /// Tells as a line why a call ends early.
-pub fn tell_failure<E: Sink>(errors: &mut Errors<'_, E>, failure: &Failure<'_>)
+fn tell_failure<E: Sink>(errors: &mut Errors<'_, E>, failure: &Failure<'_>)
     ensures told { (line : List ℕ) × IsFailureLine failure.now line
         × TellsBytes E.Sink errors.old errors.new line }
 {
@@ -156,25 +174,17 @@ pub fn tell_failure<E: Sink>(errors: &mut Errors<'_, E>, failure: &Failure<'_>)
         Failure::Arguments(mistake) => tell_mistake(errors, *mistake),
         Failure::Pattern(fault) => tell_about(errors, "-e", text_of(*fault)),
         Failure::Unread(name, reason) => tell_unread(errors, name, *reason),
-        Failure::Empty(name) => tell_about(
-            errors,
-            name,
-            "no pattern: give --allow-empty to allow it",
-        ),
-        Failure::NoValue(name) => tell_about(
-            errors,
-            name,
-            "no value: give --allow-empty to pass it over",
-        ),
-        Failure::ValueForName => tell_alone(
-            errors,
-            "option '--env' takes the name of a variable, and this is a value",
-        ),
+        Failure::Empty(name) => tell_about(errors, name, NO_PATTERN),
+        Failure::NoValue(name) => tell_about(errors, name, NO_VALUE),
+        Failure::ValueForName => tell_alone(errors, VALUE_FOR_NAME),
         Failure::ShortKey(name) => tell_about(errors, name, "key of less than 16 bytes"),
         Failure::Line(name, line) => tell_line(errors, name, *line),
         Failure::Short(number) => tell_short(errors, *number),
         Failure::Unclean(unclean) => tell_unclean(errors, *unclean),
         Failure::Counts => tell_alone(errors, "the counts cannot be written"),
+        Failure::Text(name, fault) => tell_fault(errors, PROGRAM, name.as_bytes(), fault),
+        Failure::Keywords(error) => errors.tell_build(PROGRAM, Some(b"--rules"), None, error),
+        Failure::LineEnd(number) => tell_numbered(errors, b": pattern ", *number, LINE_END),
         Failure::Other(other) => tell_other(errors, other),
     }
 }
@@ -414,6 +424,18 @@ pub fn report<E: Sink>(failure: &Failure<'_>, errors: &mut Errors<'_, E>) -> u8
 {
     tell_failure(errors, failure);
     FAILED
+}
+
+/// Tells as a line why a redaction ended early, if it did, and answers the exit status.
+pub fn report_end<E: Sink>(done: Result<bool, Failure<'_>>, errors: &mut Errors<'_, E>) -> u8
+    ensures bound { (result ≡ 0) ⊎ (result ≡ 2) }
+    ensures ends { EndsCall E.Sink done.entry result errors.old errors.new }
+{
+    match done {
+        Ok(true) => 0,
+        Ok(false) => FAILED,
+        Err(failure) => report(&failure, errors),
+    }
 }
 
 /// Tells why there are no arguments, or no memory to begin with, and answers the exit status.

@@ -1,18 +1,15 @@
 //! The redaction of files, one after another.
 
-ghost use Rattle.std.specs.Prelude.{◌≡◌, ◌&&◌, IfErr, IfOk, OnOk, true};
+ghost use Rattle.std.specs.Prelude.{◌≡◌, ◌&&◌, IfErr, IfOk, true};
 ghost use Rattle.std.specs.Io.KnownBytes.{Keeps};
 ghost use Rattle.aho_core.specs.Patterns.{Patterns};
 ghost use Rattle.aho_backward.specs.Searcher.{IsBackwardOf};
-ghost use Rattle.tool_parts.specs.Names.{is_input};
+ghost use Rattle.tool_parts.specs.Names.{is_input, name_bytes};
 ghost use Rattle.tool_parts.specs.Streams.{bytes_left};
-ghost use Rattle.acredact.specs.Back.{DoesByPatterns, DoesJob, DoesNamed, DoesText, DoesTold, IfOfBoth};
-ghost use Rattle.acredact.specs.Bounds.{NumbersOfSource};
+ghost use Rattle.acredact.specs.Back.{DoesByPatterns, DoesJob, DoesNamed, DoesText, DoesTold};
 ghost use Rattle.acredact.specs.Faults.{reading_of};
-ghost use Rattle.acredact.specs.Files.{CanDo, rule_for, work_of};
-ghost use Rattle.acredact.specs.Secrets.{IfOf, Redactor};
-ghost use Rattle.acredact.specs.Totals.{DoesStream};
-ghost use Rattle.acredact.specs.Volumes.{AddsStream, files_with};
+ghost use Rattle.acredact.specs.Files.{CanDo, rule_for, task_in};
+ghost use Rattle.acredact.specs.Secrets.{IfOf};
 ghost use Rattle.acredact.specs.Ways.{IfBy};
 
 use crate::back::Backing;
@@ -24,7 +21,7 @@ use crate::streams::Streams;
 use crate::summary::Volume;
 use crate::ways::{Covering, Key, Replacing, Way};
 use chromesquid::any::{Backward, PatternPieces, Pieces, StreamCoverStart};
-use chromesquid::{Automaton, FromRead, FromWrite, Sink, Source, StreamError};
+use chromesquid::{Automaton, FromRead, FromWrite, Sink, StreamError};
 use std::alloc::Global;
 use std::io::{Read, Write};
 use std::marker::{Brand, PhantomData};
@@ -74,7 +71,7 @@ pub fn redact_files<A: Automaton, F: Folder, I: Read, W: Write, E: Sink>(
         automaton,
         replacements: job.replacements,
     };
-    redact_flushed(&mut way, job, counts, volume, streams)
+    redact_flushed(&mut way, job.folder, job.names, counts, volume, streams)
 }
 
 /// Redacts all files by covers, with one text for each pattern, or by a key with a pseudonym in the place of each run.
@@ -119,7 +116,7 @@ fn cover_by<A: Automaton, P: Pieces + Drop, F: Folder, I: Read, W: Write, E: Sin
 {
     let start = StreamCoverStart::new_with(job.alloc, automaton, job.words)?;
     let mut way = Covering { start, pieces };
-    redact_flushed(&mut way, job, counts, volume, streams)
+    redact_flushed(&mut way, job.folder, job.names, counts, volume, streams)
 }
 
 /// Redacts all files by matches that share no byte, by a walk backward of the same patterns; by covers where these are asked for.
@@ -133,9 +130,8 @@ pub fn back_files<A: Automaton, B: Automaton, F: Folder, I: Read, W: Write, E: S
 ) -> Result<bool, StreamError>
     requires ready { CanDo A.Automaton automaton.now job.now }
     requires both { (p : Patterns) × A.is_of automaton.now p × IsBackwardOf B.Automaton searcher.now p }
-    ensures done { IfOfBoth A.Automaton B.Automaton automaton.now searcher.now
-        (DoesByPatterns W.Write E.Sink F.Folder job.now
-        result streams.old streams.new counts.old counts.new volume.old volume.new) }
+    ensures done { IfOf A.Automaton automaton.now (λ p. IsBackwardOf B.Automaton searcher.now p → DoesByPatterns
+        W.Write E.Sink F.Folder job.now result streams.old streams.new counts.old counts.new volume.old volume.new p) }
 {
     if job.covers {
         return cover_files(automaton, job, counts, volume, streams);
@@ -149,25 +145,25 @@ pub fn back_files<A: Automaton, B: Automaton, F: Folder, I: Read, W: Write, E: S
         searcher,
         replacing,
     };
-    redact_flushed(&mut way, job, counts, volume, streams)
+    redact_flushed(&mut way, job.folder, job.names, counts, volume, streams)
 }
 
 /// Redacts each file in a way, flushes, and answers whether all were read to their ends.
-fn redact_flushed<X: Way, F: Folder, I: Read, W: Write, E: Sink>(
+pub fn redact_flushed<X: Way, F: Folder, I: Read, W: Write, E: Sink>(
     way: &mut X,
-    job: &Job<'_, '_, F>,
+    folder: &F,
+    names: &[&str],
     counts: &mut [u64],
     volume: &mut Volume,
     streams: &mut Streams<'_, I, W, E>,
 ) -> Result<bool, StreamError>
-    requires ready { (r : Redactor) × X.by way.old r }
-    ensures done { IfBy X.Way way.old (DoesJob W.Write E.Sink F.Folder job.now
-        result streams.old streams.new counts.old counts.new volume.old volume.new) }
+    requires ready { (plan : X.Plan) × X.by way.old plan }
+    ensures done { IfBy X.Way way.old (λ plan. DoesJob W.Write E.Sink (task_in F.Folder folder.now (X.means plan))
+        (name_bytes names.now) result streams.old streams.new counts.old counts.new volume.old volume.new) }
 {
     let mut all = true;
-    for name in job.names {
-        let whole = redact_told(way, job, *name, counts, volume, streams)?;
-        add_file(&mut volume.files, whole);
+    for name in names {
+        let whole = redact_told(way, folder, *name, counts, volume, streams)?;
         all = both(all, whole);
     }
     streams.output.flush()?;
@@ -181,36 +177,38 @@ pub fn both(first: bool, second: bool) -> bool
     first && second
 }
 
-/// Redacts a file, and answers whether it was read to its end. One that was not is told, and so is one that the output goes to: it
-/// is not read.
+/// Redacts a file, and answers whether it was read to its end: then it is counted. One that was not is told, and so is one that the
+/// output goes to: it is not read.
 fn redact_told<X: Way, F: Folder, I: Read, W: Write, E: Sink>(
     way: &mut X,
-    job: &Job<'_, '_, F>,
+    folder: &F,
     name: &str,
     counts: &mut [u64],
     volume: &mut Volume,
     streams: &mut Streams<'_, I, W, E>,
 ) -> Result<bool, StreamError>
-    requires ready { (r : Redactor) × X.by way.old r }
-    ensures outcome { IfBy X.Way way.old (λ r. DoesTold W.Write E.Sink (work_of F.Folder job.now r) name.now
-        result streams.old streams.new counts.old counts.new volume.old volume.new) }
-    ensures files { volume.new.files ≡ volume.old.files }
+    requires ready { (plan : X.Plan) × X.by way.old plan }
+    ensures outcome { IfBy X.Way way.old (λ plan. DoesTold W.Write E.Sink (task_in F.Folder folder.now (X.means plan))
+        name.now result streams.old streams.new counts.old counts.new volume.old volume.new) }
     ensures still { IfBy X.Way way.old (X.by way.new) }
 {
-    if job.folder.is_output(name) {
+    if folder.is_output(name) {
         tell_output(&mut streams.errors, name);
         return Ok(false);
     }
     match redact_file(
         way,
-        job,
+        folder,
         name,
         counts,
-        volume,
+        &mut volume.bytes,
         &mut streams.input,
         &mut streams.output,
     )? {
-        None => Ok(true),
+        None => {
+            volume.files = volume.files.saturating_add(1);
+            Ok(true)
+        }
         Some(reason) => {
             tell_unread(&mut streams.errors, name, reason);
             Ok(false)
@@ -221,26 +219,25 @@ fn redact_told<X: Way, F: Folder, I: Read, W: Write, E: Sink>(
 /// Redacts a file, and answers why it cannot be read to its end, where it cannot.
 fn redact_file<X: Way, F: Folder, I: Read, W: Write>(
     way: &mut X,
-    job: &Job<'_, '_, F>,
+    folder: &F,
     name: &str,
     counts: &mut [u64],
-    volume: &mut Volume,
+    bytes: &mut u64,
     input: &mut FromRead<I>,
     output: &mut FromWrite<W>,
 ) -> Result<Option<Reason>, StreamError>
-    requires ready { (r : Redactor) × X.by way.old r }
-    ensures outcome { IfBy X.Way way.old (λ r. DoesNamed W.Write output.old output.new counts.old counts.new
-        volume.old volume.new (bytes_left input.old) (bytes_left input.new) (work_of F.Folder job.now r) name.now result) }
-    ensures files { volume.new.files ≡ volume.old.files }
+    requires ready { (plan : X.Plan) × X.by way.old plan }
+    ensures outcome { IfBy X.Way way.old (λ plan. DoesNamed W.Write result output.old output.new counts.old counts.new
+        bytes.old bytes.new (bytes_left input.old) (bytes_left input.new) (task_in F.Folder folder.now (X.means plan)) name.now) }
     ensures still { IfBy X.Way way.old (X.by way.new) }
 {
     if is_input(name) {
-        return redact_input(way, counts, volume, input, output);
+        return redact_input(way, counts, bytes, input, output);
     }
-    match opened(job.folder, name) {
+    match opened(folder, name) {
         Ok(source) => {
             let mut source = source;
-            redact_input(way, counts, volume, &mut source, output)
+            redact_input(way, counts, bytes, &mut source, output)
         }
         Err(reason) => Ok(Some(reason)),
     }
@@ -268,69 +265,50 @@ pub fn is_input(name: &str) -> bool
 fn redact_input<X: Way, I: Read, W: Write>(
     way: &mut X,
     counts: &mut [u64],
-    volume: &mut Volume,
+    bytes: &mut u64,
     input: &mut FromRead<I>,
     output: &mut FromWrite<W>,
 ) -> Result<Option<Reason>, StreamError>
-    requires ready { (r : Redactor) × X.by way.old r }
-    ensures outcome { IfBy X.Way way.old (λ r. DoesText W.Write output.old output.new counts.old counts.new
-        volume.old volume.new input.old input.new r result) }
-    ensures files { volume.new.files ≡ volume.old.files }
+    requires ready { (plan : X.Plan) × X.by way.old plan }
+    ensures outcome { IfBy X.Way way.old (λ plan. DoesText W.Write result output.old output.new counts.old counts.new
+        bytes.old bytes.new input.old input.new (X.means plan)) }
     ensures still { IfBy X.Way way.old (X.by way.new) }
 {
     input.restart();
-    let taken = redact_with::<Brand, X, FromRead<I>, FromWrite<W>>(
-        way,
-        counts,
-        Lent { source: input },
-        volume.bytes,
-        output,
-    );
-    volume.bytes = taken.bytes;
+    let taken = redact_with::<Brand, X, I, W>(way, counts, Lent { source: input }, *bytes, output);
+    *bytes = taken.bytes;
     let Taken { lent, done, .. } = taken;
     let _source = lent.source;
-    reading_of(done)
+    done
 }
 
 /// Redacts a source, and counts its bytes, of which all that it gives are known to be these.
-fn redact_with<'s, K: Known, X: Way, S: Source, W: Sink>(
+fn redact_with<'s, K: Known, X: Way, I: Read, W: Write>(
     way: &mut X,
     counts: &mut [u64],
-    lent: Lent<'s, S>,
+    lent: Lent<'s, FromRead<I>>,
     bytes: u64,
-    sink: &mut W,
-) -> Taken<'s, S, StreamError>
-    requires ready { (r : Redactor) × X.by way.old r }
-    requires whole { K.whole ≡ S.remaining lent.source.now }
+    output: &mut FromWrite<W>,
+) -> Taken<'s, FromRead<I>>
+    requires ready { (plan : X.Plan) × X.by way.old plan }
+    requires whole { K.whole ≡ bytes_left lent.source.now }
     requires start { K.start ≡ bytes }
     requires name { K.name ≡ lent.source.ghost_name }
-    ensures done { IfBy X.Way way.old (DoesStream S.Source W.Sink result.done
-        lent.entry.source.now result.lent.source.now sink.old sink.new counts.old counts.new) }
-    ensures read { OnOk result.done (AddsStream S.Source
-        lent.entry.source.now result.lent.source.now bytes result.bytes) }
-    ensures most { NumbersOfSource S.Source counts.old counts.new bytes result.bytes
-        lent.entry.source.now result.lent.source.now }
+    requires unread { lent.source.now.empty_reads ≡ 0 }
+    ensures outcome { IfBy X.Way way.old (λ plan. DoesText W.Write result.done output.old output.new counts.old counts.new
+        bytes result.bytes lent.entry.source.now result.lent.source.now (X.means plan)) }
     ensures still { IfBy X.Way way.old (X.by way.new) }
     ensures same { result.lent.source.ghost_name ≡ lent.entry.source.ghost_name }
 {
-    let mut meter = Metered::<S, K> {
+    let mut meter = Metered::<FromRead<I>, K> {
         lent,
         bytes,
         settled: true,
         of: PhantomData,
     };
-    let done = way.redact(counts, &mut meter, sink);
+    let done = reading_of(way.redact(counts, &mut meter, output));
     let Metered { lent, bytes, .. } = meter;
     Taken { lent, bytes, done }
-}
-
-/// One file more, if it was read to its end.
-pub fn add_file(files: &mut u64, whole: bool)
-    ensures files { files.new ≡ files_with whole files.old }
-{
-    if whole {
-        *files = files.saturating_add(1);
-    }
 }
 
 /// Why a stream was not read to its end, where that is so; any other error ends the program.

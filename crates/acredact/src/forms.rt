@@ -1,8 +1,9 @@
 //! Forms of patterns: how a secret that is encoded gets into a log. Which patterns a form has is told by `secret_forms`.
 
-ghost use Rattle.std.specs.Prelude.{◌++◌, ◌≡◌, IfOk, OnOk, Some};
-ghost use Rattle.acredact.specs.Forms.{AddsFormsOf, HaveForms, HideSecrets, HidesNestedForm, HidesOnce, HidesSecret, HidesTwice, are_forms, asked_forms, asks_for, each_twice, form_called, form_secret, forms_asked, forms_from, forms_named, forms_of, is_all, is_asked, is_called, names_form, nested_by, nested_called, nested_named, once_patterns, twice_patterns};
+ghost use Rattle.std.specs.Prelude.{◌≡◌, IfOk, OnOk, map};
+ghost use Rattle.acredact.specs.Forms.{AddsForms, AddsSecrets, are_forms, asked_form_patterns, asked_forms, asks_for, filled, form_called, form_secret, forms_asked, forms_from, forms_named, forms_of, is_all, is_asked, is_called, names_form, nested_by, nested_called, nested_named};
 ghost use Rattle.acredact.specs.Tables.{secret_of, secrets_of};
+ghost use Rattle.acredact.specs.Values.{lent};
 ghost use Rattle.secret_forms.specs.Patterns.{pattern_bytes};
 
 use crate::patterns::{Rule, copy_of, part_of};
@@ -166,40 +167,53 @@ fn nested_named(alloc: Global, value: &[u8]) -> Result<Vec<Nested>, AllocError>
 }
 
 /// Which forms are asked for.
-#[derive(Clone, Copy)]
-pub struct Asked<'a> {
+#[derive(Drop)]
+pub struct Asked {
     /// Of secrets.
-    pub forms: &'a [Form],
+    pub forms: Vec<Form>,
     /// Of what other forms make of them.
-    pub nested: &'a [Nested],
+    pub nested: Vec<Nested>,
+}
+
+/// Those that a value names, or none where there is none.
+fn asked_by(alloc: Global, value: Option<&str>) -> Result<Asked, AllocError>
+    ensures asked { IfOk result (λ asked. asked_forms asked ≡ forms_asked (lent value.entry)) }
+{
+    match value {
+        Some(value) => Ok(Asked {
+            forms: forms_by(alloc, value.as_bytes())?,
+            nested: nested_named(alloc, value.as_bytes())?,
+        }),
+        None => Ok(Asked {
+            forms: Vec::new(alloc),
+            nested: Vec::new(alloc),
+        }),
+    }
 }
 
 /// Adds the patterns of the forms that a value names, for each rule in order: each is replaced as the rule's own pattern is, and
 /// counts for it. A pattern of fewer than four bytes has none.
-pub fn add_forms(alloc: Global, rules: &mut Vec<Rule>, value: &str) -> Result<(), AllocError>
-    ensures formed { OnOk result (HaveForms (forms_asked (Some value.now)) rules.old.items rules.new.items) }
+pub fn add_forms(
+    alloc: Global,
+    rules: &mut Vec<Rule>,
+    value: Option<&str>,
+) -> Result<(), AllocError>
+    ensures formed { OnOk result (AddsForms (lent value.entry) rules.old rules.new) }
 {
-    let forms = forms_by(alloc, value.as_bytes())?;
-    let nested = nested_named(alloc, value.as_bytes())?;
-    let asked = Asked {
-        forms: forms.as_slice(),
-        nested: nested.as_slice(),
-    };
-    let mut more = forms_of_rules(alloc, rules.as_slice(), asked)?;
-    rules.append(&mut more)
+    let asked = asked_by(alloc, value)?;
+    let mut more = forms_of_rules(alloc, rules.as_slice(), &asked)?;
+    rules.append(&mut more)?;
+    Ok(())
 }
 
 /// Those of all these rules.
-fn forms_of_rules(alloc: Global, rules: &[Rule], asked: Asked<'_>) -> Result<Vec<Rule>, AllocError>
+fn forms_of_rules(alloc: Global, rules: &[Rule], asked: &Asked) -> Result<Vec<Rule>, AllocError>
     ensures made { IfOk result (λ more.
-        secrets_of more.items ≡ forms_from (asked_forms asked.entry) 0 (secrets_of rules.now)) }
-    ensures hidden { OnOk result (HideSecrets (asked_forms asked.entry) (secrets_of rules.now)) }
+        secrets_of more.items ≡ forms_from (asked_forms asked.now) 0 (secrets_of rules.now)) }
 {
     let mut more = Vec::new(alloc);
-    let mut number: usize = 0;
-    for rule in rules {
+    for (number, rule) in rules.iter().enumerate() {
         add_forms_of(alloc, &mut more, rule, number, asked)?;
-        number += 1;
     }
     Ok(more)
 }
@@ -210,73 +224,31 @@ fn add_forms_of(
     more: &mut Vec<Rule>,
     rule: &Rule,
     number: usize,
-    asked: Asked<'_>,
+    asked: &Asked,
 ) -> Result<(), AllocError>
-    ensures added { OnOk result (secrets_of more.new.items
-        ≡ secrets_of more.old.items ++ forms_of (asked_forms asked.entry) number (secret_of rule.now)) }
-    ensures hidden { OnOk result (HidesSecret (asked_forms asked.entry) (secret_of rule.now)) }
+    ensures added { OnOk result (AddsSecrets (forms_of (asked_forms asked.now) number (secret_of rule.now)) more.old more.new) }
 {
     if rule.pattern.len() < SHORTEST {
         return Ok(());
     }
-    add_once(alloc, more, rule, number, asked.forms)?;
-    add_nested(alloc, more, rule, number, asked.nested)
-}
-
-/// Adds those of the rule's own pattern by some forms.
-fn add_once(
-    alloc: Global,
-    more: &mut Vec<Rule>,
-    rule: &Rule,
-    number: usize,
-    wanted: &[Form],
-) -> Result<(), AllocError>
-    ensures added { OnOk result (AddsFormsOf rule.now number
-        (once_patterns wanted.now rule.now.pattern.items) more.old more.new) }
-    ensures hidden { OnOk result (HidesOnce wanted.now rule.now.pattern.items) }
-{
-    match forms(alloc, rule.pattern.as_slice(), wanted) {
+    match patterns_by(alloc, rule.pattern.as_slice(), asked) {
         Ok(patterns) => add_patterns(alloc, more, rule, number, patterns.as_slice()),
         // The pattern is long enough, so memory is wanting.
         Err(FormError::TooShort | FormError::OutOfMemory) => Err(AllocError),
     }
 }
 
-/// Adds those of what other forms make of it.
-fn add_nested(
-    alloc: Global,
-    more: &mut Vec<Rule>,
-    rule: &Rule,
-    number: usize,
-    nested: &[Nested],
-) -> Result<(), AllocError>
-    ensures added { OnOk result (AddsFormsOf rule.now number
-        (each_twice rule.now.pattern.items nested.now) more.old more.new) }
-    ensures hidden { OnOk result (HidesTwice nested.now rule.now.pattern.items) }
+/// The patterns of a pattern by the forms that are asked for: of it, and of what other forms make of it.
+fn patterns_by(alloc: Global, pattern: &[u8], asked: &Asked) -> Result<Vec<Vec<u8>>, FormError>
+    ensures made { IfOk result (λ patterns.
+        pattern_bytes patterns.items ≡ asked_form_patterns (asked_forms asked.now) pattern.now) }
 {
-    for one in nested {
-        add_twice(alloc, more, rule, number, *one)?;
+    let mut patterns = forms(alloc, pattern, asked.forms.as_slice())?;
+    for one in &asked.nested {
+        let mut more = nested_forms(alloc, pattern, one.inner, one.outer)?;
+        patterns.append(&mut more)?;
     }
-    Ok(())
-}
-
-/// Adds those of one form of a form.
-fn add_twice(
-    alloc: Global,
-    more: &mut Vec<Rule>,
-    rule: &Rule,
-    number: usize,
-    nested: Nested,
-) -> Result<(), AllocError>
-    ensures added { OnOk result (AddsFormsOf rule.now number
-        (twice_patterns rule.now.pattern.items nested) more.old more.new) }
-    ensures hidden { OnOk result (HidesNestedForm rule.now.pattern.items nested) }
-{
-    match nested_forms(alloc, rule.pattern.as_slice(), nested.inner, nested.outer) {
-        Ok(patterns) => add_patterns(alloc, more, rule, number, patterns.as_slice()),
-        // The pattern is long enough, so memory is wanting.
-        Err(FormError::TooShort | FormError::OutOfMemory) => Err(AllocError),
-    }
+    Ok(patterns)
 }
 
 /// Adds a rule for each of some patterns that are forms of a rule, but for empty ones.
@@ -287,7 +259,8 @@ fn add_patterns(
     number: usize,
     patterns: &[Vec<u8>],
 ) -> Result<(), AllocError>
-    ensures added { OnOk result (AddsFormsOf rule.now number (pattern_bytes patterns.now) more.old more.new) }
+    ensures added { OnOk result (AddsSecrets
+        (map (form_secret number (secret_of rule.now)) (filled (pattern_bytes patterns.now))) more.old more.new) }
 {
     for pattern in patterns {
         if !pattern.is_empty() {

@@ -1,6 +1,6 @@
 //! A call that replaces each file: a new one is written beside it, and takes its place where all of it was redacted.
 
-ghost use Rattle.std.specs.Prelude.{◌≡◌, ◌≤◌, Ok, false, true};
+ghost use Rattle.std.specs.Prelude.{◌≡◌, ◌≤◌, true};
 ghost use Rattle.chromesquid.specs.Searcher.{ForItsPatterns};
 ghost use Rattle.tool_parts.specs.Arguments.{texts};
 ghost use Rattle.tool_parts.specs.Names.{name_bytes};
@@ -9,8 +9,7 @@ ghost use Rattle.tool_parts.specs.Telling.{TellsSome};
 ghost use Rattle.acredact.specs.Arguments.{AreMistaken, IfAsked, all_given};
 ghost use Rattle.acredact.specs.Calls.{IsWrongLine, call_of};
 ghost use Rattle.acredact.specs.Files.{CanDo};
-ghost use Rattle.acredact.specs.InPlace.{CalledPlaces, IsSettled, PlaceOutcome, PlacesAsked, PlacesOutcome, PlacesStatus, work_for};
-ghost use Rattle.acredact.specs.Into.{TellsUnread};
+ghost use Rattle.acredact.specs.InPlace.{CalledPlaces, IsSettled, PlaceOutcome, PlacesAsked, PlacesOutcome, work_for};
 
 use crate::arguments::items;
 use crate::counts::counts_of;
@@ -21,12 +20,13 @@ use crate::mistakes::Mistake;
 use crate::options::{Item, counts, gives_pattern};
 use crate::outputs::Outputs;
 use crate::prepare::{job_of, prepare};
-use crate::run::{redact_by, tell_counted};
+use crate::run::redact_by;
+use crate::run_counts::tell_counted;
 use crate::secrets::load;
 use crate::streams::Streams;
 use crate::summary::Volume;
 use chromesquid::{AhoCorasick, Automaton, FromWrite, Sink, StreamError};
-use std::alloc::Global;
+use std::alloc::{AllocError, Global};
 use std::io::Read;
 
 /// Replaces each file by its redaction, and answers the exit status: 0 where all were, and 2 where the arguments or the patterns are
@@ -53,25 +53,11 @@ pub fn replace_in_place<F: Folder, O: Outputs, I: Read, E: Sink>(
         folder.now result outputs.old outputs.new streams.old streams.new) }
     ensures bound { result ≤ 2 }
 {
-    match items(alloc, arguments) {
-        Ok(given) => answer_places(alloc, given.as_slice(), folder, outputs, streams),
-        Err(mistake) => report(&Failure::Arguments(mistake), &mut streams.errors),
-    }
-}
-
-/// Replaces each file, and answers the exit status.
-fn answer_places<F: Folder, O: Outputs, I: Read, E: Sink>(
-    alloc: Global,
-    given: &[Item<'_>],
-    folder: &F,
-    outputs: &mut O,
-    streams: &mut Streams<'_, I, O::File, E>,
-) -> u8
-    ensures says { PlacesStatus O.File.Write E.Sink O.Outputs (call_of F.Folder folder.now (all_given given.now))
-        (bytes_left streams.old.input) result outputs.old outputs.new streams.old.errors streams.new.errors }
-    ensures bound { result ≤ 2 }
-{
-    match load_places(alloc, given, folder, outputs, streams) {
+    let given = match items(alloc, arguments) {
+        Ok(given) => given,
+        Err(mistake) => return report(&Failure::Arguments(mistake), &mut streams.errors),
+    };
+    match load_places(alloc, given.as_slice(), folder, outputs, streams) {
         Ok(true) => 0,
         Ok(false) => FAILED,
         Err(failure) => report(&failure, &mut streams.errors),
@@ -106,7 +92,8 @@ fn load_places<'a, F: Folder, O: Outputs, I: Read, E: Sink>(
     let mut volume = Volume { files: 0, bytes: 0 };
     let job = job_of(alloc, given, &secrets, &ready, folder);
     let all = place_each(&ready.searcher, &job, tally, &mut volume, outputs, streams)?;
-    tell_counted(alloc, all, given, rules, tally, volume, &mut streams.errors)
+    let errors = &mut streams.errors;
+    tell_counted(alloc, all, given, rules, None, tally, volume, errors)
 }
 
 /// Replaces each file, and answers whether all were replaced.
@@ -117,11 +104,11 @@ fn place_each<F: Folder, O: Outputs, I: Read, E: Sink>(
     volume: &mut Volume,
     outputs: &mut O,
     streams: &mut Streams<'_, I, O::File, E>,
-) -> Result<bool, StreamError>
+) -> Result<bool, AllocError>
     requires ready { CanDo ⟦<AhoCorasick as Automaton>⟧ searcher.now job.now }
-    ensures outcome { ForItsPatterns searcher.now (λ p. PlacesOutcome O.File.Write O.Outputs
-        (work_for F.Folder job.now p) E.Sink (name_bytes job.now.names.now) result
-        outputs.old outputs.new streams.old streams.new counts.old counts.new volume.old volume.new) }
+    ensures outcome { ForItsPatterns searcher.now (λ p. PlacesOutcome O.File.Write E.Sink O.Outputs
+        (work_for F.Folder job.now p) (name_bytes job.now.names.now) result
+        (outputs.old, streams.old, counts.old, volume.old) (outputs.new, streams.new, counts.new, volume.new)) }
 {
     let mut all = true;
     for name in job.names {
@@ -140,11 +127,11 @@ fn place_one<F: Folder, O: Outputs, I: Read, E: Sink>(
     volume: &mut Volume,
     outputs: &mut O,
     streams: &mut Streams<'_, I, O::File, E>,
-) -> Result<bool, StreamError>
+) -> Result<bool, AllocError>
     requires ready { CanDo ⟦<AhoCorasick as Automaton>⟧ searcher.now job.now }
-    ensures outcome { ForItsPatterns searcher.now (λ p. PlaceOutcome O.File.Write O.Outputs
-        (work_for F.Folder job.now p) E.Sink name.now result
-        outputs.old outputs.new streams.old streams.new counts.old counts.new volume.old volume.new) }
+    ensures outcome { ForItsPatterns searcher.now (λ p. PlaceOutcome O.File.Write E.Sink O.Outputs
+        (work_for F.Folder job.now p) name.now result
+        (outputs.old, streams.old, counts.old, volume.old) (outputs.new, streams.new, counts.new, volume.new)) }
 {
     if is_input(name) {
         tell_no_file(&mut streams.errors, name);
@@ -159,7 +146,11 @@ fn place_one<F: Folder, O: Outputs, I: Read, E: Sink>(
                 ..*job
             };
             let done = redact_by(searcher, &one, counts, volume, streams);
-            settle(outputs, name, done, streams)
+            if matches!(done, Err(StreamError::Memory)) {
+                outputs.remove(name);
+                return Err(AllocError);
+            }
+            Ok(settle(outputs, name, done, streams))
         }
         Err(reason) => {
             tell_unread(&mut streams.errors, name, reason);
@@ -168,53 +159,37 @@ fn place_one<F: Folder, O: Outputs, I: Read, E: Sink>(
     }
 }
 
-/// Has the new file take the place of the one of this name, where all was redacted, and else removes it. Answers whether it took it.
-/// It is told why not, but where memory ran out.
-fn settle<O: Outputs, I: Read, E: Sink>(
+/// Has the new file take the place of the one of this name, where all was done, and else removes it. Answers whether it took it. It is
+/// told why not, but where that was told before.
+pub fn settle<O: Outputs, I: Read, E: Sink>(
     outputs: &mut O,
     name: &str,
     done: Result<bool, StreamError>,
     streams: &mut Streams<'_, I, O::File, E>,
-) -> Result<bool, StreamError>
+) -> bool
     ensures settled { IsSettled O.File.Write E.Sink O.Outputs name.now
         done result outputs.old outputs.new streams.old streams.new }
     ensures input { streams.new.input ≡ streams.old.input }
+    ensures output { streams.new.output ≡ streams.old.output }
+    ensures same { result ≡ true → streams.new ≡ streams.old }
 {
     match done {
-        Ok(true) => Ok(put_new(outputs, name, streams)),
+        Ok(true) => match outputs.put(name, &streams.output) {
+            Ok(()) => true,
+            Err(reason) => {
+                tell_unread(&mut streams.errors, name, reason);
+                outputs.remove(name);
+                false
+            }
+        },
         Ok(false) => {
             outputs.remove(name);
-            Ok(false)
+            false
         }
-        Err(error) => {
+        Err(_) => {
             let reason = outputs.unwritten();
             outputs.remove(name);
-            if matches!(error, StreamError::Memory) {
-                return Err(StreamError::Memory);
-            }
             tell_unread(&mut streams.errors, name, reason);
-            Ok(false)
-        }
-    }
-}
-
-/// Has the new file take the place of the one of this name, and answers whether it did. Else it is told and removed.
-pub fn put_new<O: Outputs, I: Read, E: Sink>(
-    outputs: &mut O,
-    name: &str,
-    streams: &mut Streams<'_, I, O::File, E>,
-) -> bool
-    ensures settled { IsSettled O.File.Write E.Sink O.Outputs name.now
-        (Ok true) (Ok result) outputs.old outputs.new streams.old streams.new }
-    ensures input { streams.new.input ≡ streams.old.input }
-    ensures same { result ≡ true → streams.new ≡ streams.old }
-    ensures told { result ≡ false → TellsUnread E.Sink name.now streams.old.errors streams.new.errors }
-{
-    match outputs.put(name, &streams.output) {
-        Ok(()) => true,
-        Err(reason) => {
-            tell_unread(&mut streams.errors, name, reason);
-            outputs.remove(name);
             false
         }
     }

@@ -2,12 +2,12 @@
 
 ghost use Rattle.std.specs.Prelude.{◌≡◌};
 ghost use Rattle.acredact.specs.Arguments.{IfAsked, IfRuled};
-ghost use Rattle.acredact.specs.Into.{IsSpared, RuledTellsUnput, TellsNone, WritesAll, WritesAllByRules};
+ghost use Rattle.acredact.specs.InPlace.{IsSpared, RuledTellsUnput, TellsNone, WritesAll, WritesAllByRules};
 
 use crate::failure::{FAILED, tell_no_output, tell_unread};
 use crate::files::is_input;
 use crate::folder::Folder;
-use crate::in_place::put_new;
+use crate::in_place::settle;
 use crate::outputs::Outputs;
 use crate::run::run;
 use crate::streams::Streams;
@@ -45,12 +45,8 @@ pub fn make_and_run<F: Folder, O: Outputs, I: Read, E: Sink>(
     match outputs.make(name) {
         Ok(file) => {
             streams.output = FromWrite::new(file);
-            let done = run(alloc, arguments, folder, streams);
-            if done != 0 {
-                outputs.remove(name);
-                return done;
-            }
-            if put_new(outputs, name, streams) {
+            let status = run(alloc, arguments, folder, streams);
+            if settle(outputs, name, Ok(status == 0), streams) {
                 0
             } else {
                 FAILED

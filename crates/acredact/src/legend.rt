@@ -1,14 +1,14 @@
-//! By which pattern or rule a run is, as that is told.
+//! By which pattern or rule a run is, as that is told, and what was found in the lines of a file.
 
 ghost use Rattle.std.specs.Prelude.{◌≡◌, OnOk};
 ghost use Rattle.acredact.specs.Counts.{PutsText};
-ghost use Rattle.acredact.specs.RuledChecks.{finding_line, label_of, labels_of, long_label, numbers_in, rule_or_long, told_for};
+ghost use Rattle.acredact.specs.Findings.{finding_line, label_of, labels_of, long_label, numbers_in, rule_or_long, told_for};
 
 use crate::counts::put_number;
 use crate::patterns::Rule;
 use crate::shown::put_shown;
 use secret_rules::Rule as LineRule;
-use std::alloc::AllocError;
+use std::alloc::{AllocError, Global};
 
 /// What the numbers of runs stand for.
 #[derive(Clone, Copy)]
@@ -19,6 +19,21 @@ pub struct Legend<'s, 'r> {
     pub rules: &'r [LineRule],
     /// How many bytes a line may have. The number of one with more is behind those of rules.
     pub most: usize,
+}
+
+/// What was found in the lines of a file by now.
+#[derive(Clone, Copy)]
+pub struct Findings<'n, 's, 'r> {
+    /// What memory is taken from.
+    pub alloc: Global,
+    /// The name of the file.
+    pub name: &'n [u8],
+    /// What the numbers of runs stand for.
+    pub legend: Legend<'s, 'r>,
+    /// The number of the next line, from 1 on. It stops at the greatest.
+    pub line: u64,
+    /// Whether something is covered in a line before it.
+    pub found: bool,
 }
 
 /// How many numbers there are.

@@ -10,7 +10,6 @@ use crate::failure::Failure;
 use crate::folder::Folder;
 use crate::load::{Lists, read_list};
 use crate::options::{Item, Word};
-use crate::ruled_failure::RuledFailure;
 use chromesquid::FromRead;
 use rule_files::{RuleFlaw, TextFault, bad_rule, flaw_of, rules_in};
 use secret_rules::{BUILTIN, LineError, MarkError, Rule as LineRule, Rules, RulesError};
@@ -30,7 +29,7 @@ pub fn line_rules_of<'a, F: Folder, I: Read>(
     lists: &Lists<'_, '_, F>,
     items: &[Item<'a>],
     input: &mut FromRead<I>,
-) -> Result<Rules, RuledFailure<'a>>
+) -> Result<Rules, Failure<'a>>
     ensures given { IfOk result (λ rules. ReadsLineRules F.Folder lists.now (all_given items.now)
         rules input.old input.new) }
     ensures sound { IfOk result AreSound }
@@ -49,7 +48,7 @@ fn read_rules<'a, F: Folder, I: Read>(
     lists: &Lists<'_, '_, F>,
     items: &[Item<'a>],
     input: &mut FromRead<I>,
-) -> Result<Vec<LineRule>, RuledFailure<'a>>
+) -> Result<Vec<LineRule>, Failure<'a>>
     ensures read { IfOk result (λ rules. ReadsLineRules F.Folder lists.now (all_given items.now)
         rules.items input.old input.new) }
 {
@@ -70,7 +69,7 @@ fn add_rules<'a, F: Folder, I: Read>(
     rules: &mut Vec<LineRule>,
     item: Item<'a>,
     input: &mut FromRead<I>,
-) -> Result<(), RuledFailure<'a>>
+) -> Result<(), Failure<'a>>
     ensures added { OnOk result (AddsOption F.Folder lists.now (given_of item.entry)
         rules.old rules.new input.old input.new) }
 {
@@ -82,11 +81,7 @@ fn add_rules<'a, F: Folder, I: Read>(
 }
 
 /// Adds the rule of what stands behind a keyword.
-fn add_after<'a>(
-    alloc: Global,
-    rules: &mut Vec<LineRule>,
-    keyword: &str,
-) -> Result<(), RuledFailure<'a>>
+fn add_after<'a>(alloc: Global, rules: &mut Vec<LineRule>, keyword: &str) -> Result<(), Failure<'a>>
     ensures added { OnOk result (AddsThese (GivesBehind keyword.now) rules.old rules.new) }
 {
     let rule = LineRule::after(alloc, keyword)?;
@@ -102,7 +97,7 @@ fn add_named<'a, F: Folder, I: Read>(
     rules: &mut Vec<LineRule>,
     name: &'a str,
     input: &mut FromRead<I>,
-) -> Result<(), RuledFailure<'a>>
+) -> Result<(), Failure<'a>>
     ensures added { OnOk result (AddsNamed F.Folder lists.now name.now
         rules.old rules.new input.old input.new) }
 {
@@ -111,7 +106,7 @@ fn add_named<'a, F: Folder, I: Read>(
     }
     match read_list(lists, name, input) {
         Ok(text) => add_text(lists, rules, name, text.as_slice()),
-        Err(reason) => Err(RuledFailure::Plain(Failure::Unread(name, reason))),
+        Err(reason) => Err(Failure::Unread(name, reason)),
     }
 }
 
@@ -128,12 +123,12 @@ fn add_text<'a, F>(
     rules: &mut Vec<LineRule>,
     name: &'a str,
     text: &[u8],
-) -> Result<(), RuledFailure<'a>>
+) -> Result<(), Failure<'a>>
     ensures added { OnOk result (AddsThese (TellsRules text.now) rules.old rules.new) }
 {
     match rules_in(lists.alloc, text, lists.allow_empty) {
         Ok(mut more) => Ok(rules.append(&mut more)?),
-        Err(fault) => Err(RuledFailure::Text(name, fault)),
+        Err(fault) => Err(Failure::Text(name, fault)),
     }
 }
 
@@ -146,8 +141,8 @@ fn push_rule(rules: &mut Vec<LineRule>, rule: LineRule) -> Result<(), AllocError
 }
 
 /// Memory runs out.
-fn no_memory<'a>() -> RuledFailure<'a> {
-    RuledFailure::Plain(Failure::Other(failure::Failure::OutOfMemory))
+fn no_memory<'a>() -> Failure<'a> {
+    Failure::Other(failure::Failure::OutOfMemory)
 }
 
 /// What is wrong with the rule of this number, from 1 on, of a file or an option.
@@ -157,35 +152,33 @@ fn no_rule<'a>(
     number: usize,
     rule: &LineRule,
     flaw: RuleFlaw,
-) -> RuledFailure<'a> {
+) -> Failure<'a> {
     match bad_rule(alloc, number, rule, flaw) {
-        Ok(bad) => RuledFailure::Text(name, TextFault::Rule(bad)),
+        Ok(bad) => Failure::Text(name, TextFault::Rule(bad)),
         Err(_) => no_memory(),
     }
 }
 
 /// Why rules are none. Each was looked at before.
-fn unsound<'a>(error: RulesError) -> RuledFailure<'a> {
+fn unsound<'a>(error: RulesError) -> Failure<'a> {
     match error {
-        RulesError::Keywords(error) => RuledFailure::Keywords(error),
+        RulesError::Keywords(error) => Failure::Keywords(error),
         RulesError::Rule(_number, _id, _fault) => no_memory(),
         RulesError::OutOfMemory => no_memory(),
     }
 }
 
 /// Why a line is not covered, as it is told.
-pub fn failure_in<'a>(alloc: Global, rules: &[LineRule], error: LineError) -> RuledFailure<'a> {
+pub fn failure_in<'a>(alloc: Global, rules: &[LineRule], error: LineError) -> Failure<'a> {
     match error {
-        LineError::Stream(error) => {
-            RuledFailure::Plain(Failure::Other(failure::Failure::from(error)))
-        }
+        LineError::Stream(error) => Failure::Other(failure::Failure::from(error)),
         LineError::Mark(MarkError::TooBig(number)) => too_big(alloc, rules, number),
         LineError::Mark(MarkError::OutOfMemory) => no_memory(),
     }
 }
 
 /// The expression of the rule of this number is too big to be compiled.
-fn too_big<'a>(alloc: Global, rules: &[LineRule], number: usize) -> RuledFailure<'a> {
+fn too_big<'a>(alloc: Global, rules: &[LineRule], number: usize) -> Failure<'a> {
     match rules.get(number) {
         Some(rule) => {
             let number = number.saturating_add(1);

@@ -1,12 +1,12 @@
 //! The rules of all patterns, files and tables that are given.
 
-ghost use Rattle.std.specs.Prelude.{◌≡◌, IfErr, IfOk, OnOk, false};
+ghost use Rattle.std.specs.Prelude.{◌≡◌, IfErr, IfOk, OnOk};
 ghost use Rattle.aho_core.specs.Replacement.{pieces_of};
 ghost use Rattle.aho_devices.specs.Counts.{counted};
 ghost use Rattle.tool_parts.specs.Streams.{bytes_left};
 ghost use Rattle.acredact.specs.Arguments.{all_given, given_of, last_value};
-ghost use Rattle.acredact.specs.Calls.{rules_asked};
-ghost use Rattle.acredact.specs.Loading.{AreGiven, AreRead, CannotLoad, CannotLoadAll, CannotLoadKey, CannotLoadOne, CannotRead, GivesEnvironment, GivesSecrets, GivesValues, HoldsListed, HoldsSecrets, HoldsVariables, HoldsWhole, IsEnvironmentFailure, IsFileFailure, IsKeyGiven, IsListedFailure, IsValuesFailure, IsVariablesFailure, IsWholeFailure, IsPatternFailure, IsTextFailure, IsTextReason, OptionGives, form_by, is_failed_text, key_in, reading_of_lists, rules_for};
+ghost use Rattle.acredact.specs.Calls.{AreGivenBy, CannotGiveBy, rules_asked};
+ghost use Rattle.acredact.specs.Loading.{AreRead, CannotLoad, CannotLoadKey, CannotLoadOne, CannotRead, GivesEnvironment, GivesSecrets, GivesValues, HoldsByKind, HoldsSecrets, HoldsVariables, IsEnvironmentFailure, IsFileFailure, IsKeyGiven, IsKindFailure, IsValuesFailure, IsVariablesFailure, IsPatternFailure, IsTextFailure, IsTextReason, OptionGives, is_failed_text, key_in, reading_of_lists, rules_for};
 ghost use Rattle.acredact.specs.Parts.{AddsSome, ArePartsBy, GivesPattern};
 ghost use Rattle.acredact.specs.Reads.{OfName, ReadsText};
 ghost use Rattle.acredact.specs.Tables.{secrets_of};
@@ -88,26 +88,21 @@ pub fn lists_of<'f, 'v, F>(alloc: Global, given: &[Item<'v>], folder: &'f F) -> 
 ///
 /// The first pattern, file or line that gives no rule, with the reason; or memory runs out.
 pub fn rules<'a, F: Folder, I: Read>(
-    lists: &Lists<'_, '_, F>,
-    items: &[Item<'a>],
+    alloc: Global,
+    given: &[Item<'a>],
+    folder: &F,
     input: &mut FromRead<I>,
 ) -> Result<Vec<Rule>, Failure<'a>>
-    ensures given { IfOk result (λ rules.
-        AreGiven (reading_of_lists F.Folder lists.now) (all_given items.now)
-        (secrets_of rules.items) (bytes_left input.old) (bytes_left input.new)) }
-    ensures fails { IfErr result (CannotLoadAll (reading_of_lists F.Folder lists.now) (all_given items.now)) }
+    ensures given { IfOk result (AreGivenBy F.Folder folder.now given.now (bytes_left input.old) (bytes_left input.new)) }
+    ensures fails { IfErr result (CannotGiveBy F.Folder folder.now given.now) }
 {
-    let mut rules = match read_rules(lists, items, input) {
+    let lists = lists_of(alloc, given, folder);
+    let mut rules = match read_rules(&lists, given, input) {
         Ok(rules) => rules,
         Err(failure) => return Err(failure),
     };
-    match lists.forms {
-        None => Ok(rules),
-        Some(value) => {
-            add_forms(lists.alloc, &mut rules, value)?;
-            Ok(rules)
-        }
-    }
+    add_forms(alloc, &mut rules, lists.forms)?;
+    Ok(rules)
 }
 
 /// The rules of all patterns, files of patterns and tables that are given, in order.
@@ -302,9 +297,14 @@ fn add_file<'a, F: Folder, I: Read>(
         listed name.now more (bytes_left input.old) (bytes_left input.new)) rules.old rules.new) }
     ensures fails { IfErr result (IsFileFailure (reading_of_lists F.Folder lists.now) listed name.now) }
 {
-    match read_list(lists, name, input) {
-        Ok(text) => add_text(lists, rules, name, listed, list, text.as_slice()),
-        Err(reason) => Err(Failure::Unread(name, reason)),
+    let text = match read_list(lists, name, input) {
+        Ok(text) => text,
+        Err(reason) => return Err(Failure::Unread(name, reason)),
+    };
+    let text = text.as_slice();
+    match mark_of(text) {
+        Some(fault) => Err(Failure::Line(name, BadLine { number: 1, fault })),
+        None => add_text(lists, rules, name, listed, list, text),
     }
 }
 
@@ -317,15 +317,21 @@ fn add_text<'a, F>(
     list: usize,
     text: &[u8],
 ) -> Result<(), Failure<'a>>
-    ensures added { OnOk result (AddsSome (HoldsListed (rules_for lists.now) listed text.now)
+    ensures added { OnOk result (AddsSome (HoldsByKind (rules_for lists.now) listed text.now)
         rules.old rules.new) }
-    ensures fails { IfErr result (IsListedFailure (rules_for lists.now) listed name.now text.now) }
+    ensures fails { IfErr result (IsKindFailure (rules_for lists.now) listed name.now text.now) }
 {
     match listed {
         Listed::Plain => add_lines_of(lists, rules, name, false, list, text),
         Listed::Rows => add_lines_of(lists, rules, name, true, list, text),
         Listed::Variables => add_variables(lists, rules, name, list, text),
-        Listed::Whole => add_whole(lists, rules, name, list, text),
+        Listed::Whole => {
+            let form = Form {
+                table: false,
+                crlf: lists.crlf,
+            };
+            add_values(lists, rules, name, &[whole_in(form, text)], list)
+        }
     }
 }
 
@@ -340,45 +346,16 @@ fn add_variables<'a, F>(
     ensures added { OnOk result (AddsSome (HoldsVariables (rules_for lists.now) text.now) rules.old rules.new) }
     ensures fails { IfErr result (IsVariablesFailure (rules_for lists.now) name.now text.now) }
 {
-    match mark_of(text) {
-        Some(fault) => return Err(Failure::Line(name, BadLine { number: 1, fault })),
+    let form = Form {
+        table: false,
+        crlf: lists.crlf,
+    };
+    match first_fault(lists.allow_empty, form, text) {
+        Some(line) => return Err(Failure::Line(name, line)),
         None => {}
-    }
-    let form = form_of(lists);
-    if let Some(line) = first_fault(lists.allow_empty, form, text) {
-        return Err(Failure::Line(name, line));
     }
     let values = values_in_text(lists.alloc, form, text)?;
     add_values(lists, rules, name, values.as_slice(), list)
-}
-
-/// Adds the rule of the text of a file that is one pattern.
-fn add_whole<'a, F>(
-    lists: &Lists<'_, '_, F>,
-    rules: &mut Vec<Rule>,
-    name: &'a str,
-    list: usize,
-    text: &[u8],
-) -> Result<(), Failure<'a>>
-    ensures added { OnOk result (AddsSome (HoldsWhole (rules_for lists.now) text.now) rules.old rules.new) }
-    ensures fails { IfErr result (IsWholeFailure (rules_for lists.now) name.now text.now) }
-{
-    match mark_of(text) {
-        Some(fault) => return Err(Failure::Line(name, BadLine { number: 1, fault })),
-        None => {}
-    }
-    let whole = whole_in(form_of(lists), text);
-    add_values(lists, rules, name, &[whole], list)
-}
-
-/// How the lines of a file are read that is no table.
-fn form_of<F>(lists: &Lists<'_, '_, F>) -> Form
-    ensures form { result ≡ form_by (rules_for lists.now) false }
-{
-    Form {
-        table: false,
-        crlf: lists.crlf,
-    }
 }
 
 /// Adds the rules of the text of a file that has one in each line.
@@ -395,9 +372,6 @@ fn add_lines_of<'a, F>(
 {
     if text.is_empty() && !lists.allow_empty {
         return Err(Failure::Empty(name));
-    }
-    if let Some(fault) = mark_of(text) {
-        return Err(Failure::Line(name, BadLine { number: 1, fault }));
     }
     let form = Form {
         table,

@@ -13,7 +13,6 @@ mod arguments;
 mod back;
 mod beside;
 mod check;
-mod checked_files;
 mod clean;
 mod counts;
 mod destination;
@@ -21,7 +20,6 @@ mod doubts;
 mod environment;
 mod failure;
 mod files;
-mod findings;
 mod folder;
 mod forms;
 mod held;
@@ -36,6 +34,7 @@ mod line_size;
 mod load;
 mod long;
 mod look;
+mod looker;
 mod meter;
 mod mistakes;
 mod named;
@@ -48,13 +47,11 @@ mod pseudonym;
 mod redact;
 mod ruled;
 mod ruled_check;
-mod ruled_failure;
 mod ruled_files;
 mod ruled_load;
 mod run;
 mod run_counts;
 mod run_pieces;
-mod run_summary;
 mod secrets;
 mod seen;
 mod short;
@@ -120,41 +117,34 @@ fn main(rt: HostRuntime) -> ExitCode {
         let arguments = apart.arguments.as_slice();
         let number = process::id(rt.process());
         let mut outputs = Beside::new(rt.alloc(), &rt, number, &reason, &looked);
-        match read_destination(rt.alloc(), arguments) {
-            Ok(Destination::StandardOutput) => {}
-            Ok(Destination::EachFile) => {
-                let folder = Host::new(&rt, &looked, None);
-                let mut streams = Streams {
-                    input: FromRead::new(rt.stdin()),
-                    output: FromWrite::new(outputs.idle()),
-                    errors,
-                };
-                let status = replace_in_place(
-                    rt.alloc(),
-                    arguments,
-                    &folder,
-                    &mut outputs,
-                    &mut streams,
-                );
-                return ExitCode::from(status_behind(told, status));
-            }
-            Ok(Destination::NewFile(name)) => {
-                let folder = Host::new(&rt, &looked, Some(name));
-                let mut streams = Streams {
-                    input: FromRead::new(rt.stdin()),
-                    output: FromWrite::new(outputs.idle()),
-                    errors,
-                };
-                return ExitCode::from(make_and_run(
-                    rt.alloc(),
+        let destination = match read_destination(rt.alloc(), arguments) {
+            Ok(destination) => destination,
+            Err(failure) => return ExitCode::from(report(&failure, &mut errors)),
+        };
+        let named = match destination {
+            Destination::NewFile(name) => Some(name),
+            _ => None,
+        };
+        if !matches!(destination, Destination::StandardOutput) {
+            let folder = Host::new(&rt, &looked, named);
+            let mut streams = Streams {
+                input: FromRead::new(rt.stdin()),
+                output: FromWrite::new(outputs.idle()),
+                errors,
+            };
+            let alloc = rt.alloc();
+            let status = match named {
+                Some(name) => make_and_run(
+                    alloc,
                     arguments,
                     name,
                     &folder,
                     &mut outputs,
                     &mut streams,
-                ));
-            }
-            Err(failure) => return ExitCode::from(report(&failure, &mut errors)),
+                ),
+                None => { replace_in_place(alloc, arguments, &folder, &mut outputs, &mut streams) }
+            };
+            return ExitCode::from(status_behind(told, status));
         }
     }
     let noted = Noted::new(rt.stdout(), &reason);

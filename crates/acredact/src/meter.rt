@@ -4,8 +4,9 @@ ghost use Rattle.std.specs.Prelude.{◌≡◌, ℕ, ◌≤◌, List, None, Optio
 ghost use Rattle.aho_devices.specs.Counts.{counted, is_empty_read};
 ghost use Rattle.acredact.specs.Metering.{GivesFirst, IsMetered, settled_left};
 
-use chromesquid::{Fault, Source};
+use chromesquid::{Fault, Source, StreamError};
 use std::marker::{Brand, PhantomData};
+use tool_parts::reason::Reason;
 
 /// What a source had to give before its bytes were counted, and the number to which they are added.
 pub trait Known {
@@ -52,13 +53,13 @@ impl<S: Source> Lent<'_, S> {
 
 /// What was read of a source, and what came of it.
 #[derive(Drop)]
-pub struct Taken<'s, S, Z> {
+pub struct Taken<'s, S> {
     /// The source.
     pub lent: Lent<'s, S>,
     /// How many bytes were counted.
     pub bytes: u64,
-    /// Whether it was read to its end.
-    pub done: Result<(), Z>,
+    /// Why it cannot be read to its end, where it cannot.
+    pub done: Result<Option<Reason>, StreamError>,
 }
 
 /// A source whose bytes are counted. A count stops at the greatest number.

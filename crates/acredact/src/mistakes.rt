@@ -1,9 +1,9 @@
 //! Why the arguments of a call are wrong.
 
 ghost use Rattle.std.specs.Prelude.{◌≡◌};
-ghost use Rattle.acredact.specs.Arguments.{option_name};
+ghost use Rattle.acredact.specs.Mistakes.{option_name};
 
-use crate::options::Word;
+use crate::options::{Word, value_name};
 use std::alloc::AllocError;
 use tool_parts::options::found::NotFound;
 
@@ -85,20 +85,8 @@ impl From<AllocError> for Mistake<'_> {
 pub fn name_of(word: Word) -> &'static str
     ensures name { result.now ≡ option_name word }
 {
-    match word {
-        Word::Kind => "--kind",
-        Word::Patterns => "-f",
-        Word::Table => "-t",
-        Word::Env => "--env",
-        Word::EnvFile => "--env-file",
-        Word::Whole => "--whole",
-        Word::With => "--with",
-        Word::Pseudonym => "--pseudonym",
-        Word::Forms => "--forms",
-        Word::Rules => "--rules",
-        Word::After => "--after",
-        Word::MaxLine => "--max-line",
-        Word::Output => "--output",
-        _ => "-e",
+    match value_name(word) {
+        Some(name) => name,
+        None => "-e",
     }
 }

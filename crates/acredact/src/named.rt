@@ -1,8 +1,7 @@
 //! Rules that are named by a key: each has for its replacement the pseudonym of its secret, in whatever form that stands.
 
 ghost use Rattle.std.specs.Prelude.{◌≡◌, IfOk};
-ghost use Rattle.acredact.specs.Pseudonyms.{pseudonym_rule};
-ghost use Rattle.acredact.specs.Named.{all_named, named_secret, own_pattern};
+ghost use Rattle.acredact.specs.Named.{all_named, named_secret, own_pattern, rule_by_key};
 ghost use Rattle.acredact.specs.Tables.{secret_of, secrets_of};
 
 use crate::patterns::{Rule, copy_of};
@@ -15,11 +14,11 @@ use std::alloc::{AllocError, Global};
 /// These rules, named by a key.
 pub fn named_rules(alloc: Global, rules: &[Rule], key: Key<'_>) -> Result<Vec<Rule>, AllocError>
     ensures named { IfOk result (λ named. secrets_of named.items
-        ≡ all_named (pseudonym_rule key.entry.ignore_case key.entry.bytes.now) (secrets_of rules.now)) }
+        ≡ all_named (rule_by_key key.entry) (secrets_of rules.now)) }
 {
-    let mut pieces = Pseudonyms::new(key.bytes, key.ignore_case);
     let mut named = Vec::new(alloc);
     for rule in rules {
+        let mut pieces = Pseudonyms::new(key.bytes, key.ignore_case);
         named.push(named_rule(alloc, rules, rule, &mut pieces)?)?;
     }
     Ok(named)
@@ -34,7 +33,6 @@ fn named_rule<P: Pieces>(
 ) -> Result<Rule, AllocError>
     ensures named { IfOk result (λ named. secret_of named
         ≡ named_secret (P.rule pieces.old) (secrets_of rules.now) (secret_of rule.now)) }
-    ensures same { P.rule pieces.new ≡ P.rule pieces.old }
 {
     let name = piece_of(alloc, pieces, own_pattern(rules, rule))?;
     Ok(Rule {
@@ -62,7 +60,6 @@ fn own_pattern<'r>(rules: &'r [Rule], rule: &'r Rule) -> &'r [u8]
 /// The piece of a run of these bytes.
 fn piece_of<P: Pieces>(alloc: Global, pieces: &mut P, bytes: &[u8]) -> Result<Vec<u8>, AllocError>
     ensures piece { IfOk result (λ p. p.items ≡ P.rule pieces.old 0 bytes.now) }
-    ensures same { P.rule pieces.new ≡ P.rule pieces.old }
 {
     let pattern = PatternID::new_unchecked(0);
     pieces.begin();

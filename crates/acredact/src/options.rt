@@ -2,8 +2,8 @@
 
 ghost use Rattle.std.specs.Prelude.{◌≡◌, option_map};
 ghost use Rattle.tool_parts.specs.Arguments.{kind_by};
-ghost use Rattle.acredact.specs.Arguments.{all_given, checks_asked, counts_asked, covers_asked, given, has, in_place_asked, is_cover, is_same, kind_asked, last_value, output_asked, takes_value, gives_rules, rules_asked, rules_check_asked, words_asked};
-ghost use Rattle.acredact.specs.Calls.{gives_pattern};
+ghost use Rattle.acredact.specs.Arguments.{all_given, checks_asked, counts_asked, covers_asked, given, has, in_place_asked, is_cover, is_same, kind_asked, last_value, output_asked, takes_value, gives_pattern, gives_rules, rules_asked, rules_check_asked, words_asked};
+ghost use Rattle.acredact.specs.Mistakes.{value_name};
 
 use chromesquid::MatchKind;
 
@@ -73,27 +73,34 @@ pub struct Item<'a> {
     pub value: &'a str,
 }
 
+/// How this option is called, if it needs a value.
+pub fn value_name(word: Word) -> Option<&'static str>
+    ensures name { option_map (λ name. name.now) result ≡ value_name word }
+{
+    match word {
+        Word::Kind => Some("--kind"),
+        Word::Pattern => Some("-e"),
+        Word::Patterns => Some("-f"),
+        Word::Table => Some("-t"),
+        Word::Env => Some("--env"),
+        Word::EnvFile => Some("--env-file"),
+        Word::Whole => Some("--whole"),
+        Word::With => Some("--with"),
+        Word::Pseudonym => Some("--pseudonym"),
+        Word::Forms => Some("--forms"),
+        Word::Rules => Some("--rules"),
+        Word::After => Some("--after"),
+        Word::MaxLine => Some("--max-line"),
+        Word::Output => Some("--output"),
+        _ => None,
+    }
+}
+
 /// Whether this option needs a value.
 pub fn takes_value(word: Word) -> bool
     ensures takes { result ≡ takes_value word }
 {
-    matches!(
-        word,
-        Word::Kind
-            | Word::Pattern
-            | Word::Patterns
-            | Word::Table
-            | Word::Env
-            | Word::EnvFile
-            | Word::Whole
-            | Word::With
-            | Word::Pseudonym
-            | Word::Forms
-            | Word::Rules
-            | Word::After
-            | Word::MaxLine
-            | Word::Output
-    )
+    value_name(word).is_some()
 }
 
 /// The match kind of this name.

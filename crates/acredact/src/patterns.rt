@@ -1,6 +1,6 @@
 //! Patterns with their replacements: of a file of patterns, and of a table.
 
-ghost use Rattle.std.specs.Prelude.{◌≡◌, ◌<◌, ◌≤◌, ◌∷◌, ◌++◌, IfErr, IfNone, IfOk, IfSome, OnOk, false, length, map, nat_eq, option_map, slice_index, true};
+ghost use Rattle.std.specs.Prelude.{◌≡◌, ◌<◌, ◌≤◌, ◌∷◌, ◌++◌, IfErr, IfNone, IfOk, IfSome, OnOk, false, length, map, nat_eq, option_map, true};
 ghost use Rattle.std.specs.Io.BufRead.{ends_with_byte, strip_last};
 ghost use Rattle.std.specs.List.{slice_split};
 ghost use Rattle.aho_core.specs.Replacement.{pieces_of};
@@ -192,29 +192,23 @@ fn unescaped(alloc: Global, text: &[u8]) -> Result<Vec<u8>, LineFault>
     Ok(bytes)
 }
 
-/// The byte that stands first in a text, and what follows it.
+/// The byte that stands first in a text, as itself or as a backslash and another, and what follows it.
 fn first_byte(text: &[u8]) -> Result<(u8, &[u8]), LineFault>
     requires some { 1 ≤ length text.now }
     ensures first { IfOk result (λ two. text.now ≡ escape_of two.0 ++ two.1.now) }
     ensures shorter { IfOk result (λ parts. length parts.1.now < length text.now) }
     ensures fault { IfErr result (IsBadStart text.now) }
 {
-    match text[0] {
-        b'\\' => escaped_byte(text),
-        b'\t' => Err(LineFault::SecondTab),
-        b'\n' => Err(LineFault::BadEscape),
-        byte => Ok((byte, &text[1..])),
+    let first = text[0];
+    if first == b'\t' {
+        return Err(LineFault::SecondTab);
     }
-}
-
-/// The byte that stands first in a text as a backslash and another, and what follows it.
-fn escaped_byte(text: &[u8]) -> Result<(u8, &[u8]), LineFault>
-    requires some { 1 ≤ length text.now }
-    requires backslash { slice_index text.now 0 ≡ 92 }
-    ensures first { IfOk result (λ two. text.now ≡ escape_of two.0 ++ two.1.now) }
-    ensures shorter { IfOk result (λ parts. length parts.1.now < length text.now) }
-    ensures fault { IfErr result (IsBadStart text.now) }
-{
+    if first == b'\n' {
+        return Err(LineFault::BadEscape);
+    }
+    if first != b'\\' {
+        return Ok((first, &text[1..]));
+    }
     if text.len() < 2 {
         return Err(LineFault::BadEscape);
     }

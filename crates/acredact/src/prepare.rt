@@ -118,8 +118,7 @@ fn unclean_in(given: &[Item<'_>], secrets: &Secrets, ready: &Ready<'_>) -> Optio
     let judge = Judge {
         words: ready.patterns.as_slice(),
         ignore_case: has(given, Word::IgnoreCase),
-        rules: secrets.rules.as_slice(),
-        usual: text_of(given),
+        pieces: ready.replacements.as_slice(),
     };
     let named = secrets.key.is_some();
     unclean_of(ready.searcher.itself(), &judge, covers(given), named)

@@ -1,6 +1,6 @@
 //! Pseudonyms: for each run of a cover a piece that only equal runs have, but for chance.
 
-ghost use Rattle.std.specs.Prelude.{◌≡◌, ◌++◌, ◌<◌, ℕ, List, true};
+ghost use Rattle.std.specs.Prelude.{◌≡◌, ◌++◌, ℕ, List, true};
 ghost use Rattle.acredact.specs.Pseudonyms.{WasFed, as_compared, hex_digit, piece_of_digest, pseudonym_by, pseudonym_rule};
 ghost use Rattle.sha2.specs.Hashers.{Holds256};
 ghost use Rattle.sha2.specs.Sha256.{sha256};
@@ -51,11 +51,11 @@ fn add_folded(hasher: &mut Sha256, bytes: &[u8])
     }
 }
 
-/// The digit of a number below 16.
-fn hex_digit(value: u8) -> u8
-    requires below { value < 16 }
-    ensures digit { result ≡ hex_digit value }
+/// The digit of the last four bits of a byte.
+fn hex_digit(byte: u8) -> u8
+    ensures digit { result ≡ hex_digit byte }
 {
+    let value = byte % 16;
     if value < 10 {
         b'0' + value
     } else {
@@ -79,17 +79,17 @@ fn piece_of_digest(digest: &[u8; 32]) -> [u8; PIECE]
         b'd',
         b':',
         hex_digit(digest[0] / 16),
-        hex_digit(digest[0] % 16),
+        hex_digit(digest[0]),
         hex_digit(digest[1] / 16),
-        hex_digit(digest[1] % 16),
+        hex_digit(digest[1]),
         hex_digit(digest[2] / 16),
-        hex_digit(digest[2] % 16),
+        hex_digit(digest[2]),
         hex_digit(digest[3] / 16),
-        hex_digit(digest[3] % 16),
+        hex_digit(digest[3]),
         hex_digit(digest[4] / 16),
-        hex_digit(digest[4] % 16),
+        hex_digit(digest[4]),
         hex_digit(digest[5] / 16),
-        hex_digit(digest[5] % 16),
+        hex_digit(digest[5]),
         b']',
     ]
 }

@@ -3,10 +3,9 @@
 ghost use Rattle.std.specs.Prelude.{◌∷◌, [], false, slice_index_or};
 ghost use Rattle.aho_core.specs.Replacement.{pieces_of};
 ghost use Rattle.aho_cover.specs.Counting.{CountsThese};
-ghost use Rattle.acredact.specs.Bounds.{Bounded};
+ghost use Rattle.acredact.specs.Files.{deed_of};
 ghost use Rattle.acredact.specs.Secrets.{CanRedact, IfOf, redactor_by};
-ghost use Rattle.acredact.specs.Streams.{WritesPiece};
-ghost use Rattle.acredact.specs.Totals.{DoesStream};
+ghost use Rattle.acredact.specs.Streams.{DoesStream, WritesPiece};
 
 use chromesquid::any::try_stream_replace_all_with_mut;
 use chromesquid::{Automaton, Match, Sink, Source, StreamError, write_whole};
@@ -27,9 +26,8 @@ pub fn redact_counting<A: Automaton, R: Source, W: Sink>(
     sink: &mut W,
 ) -> Result<(), StreamError>
     requires ready { CanRedact A.Automaton automaton.now false replacements.now }
-    ensures done { IfOf A.Automaton automaton.now (λ p. DoesStream R.Source W.Sink result
-        source.old source.new sink.old sink.new counts.old counts.new (redactor_by p false false replacements.now)) }
-    ensures most { Bounded R.Source source.old source.new counts.old counts.new }
+    ensures done { IfOf A.Automaton automaton.now (λ p. DoesStream R.Source W.Sink (deed_of (redactor_by p false false replacements.now))
+        source.old source.new sink.old sink.new result counts.old counts.new) }
 {
     let mut put = |found: &Match, _matched: &[u8], sink: &mut W| {
         put_counted(counts, replacements, found, sink)

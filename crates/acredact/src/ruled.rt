@@ -1,32 +1,33 @@
 //! A call with rules: each line is redacted by what rules mark in it, and by the patterns that occur in it.
 
-ghost use Rattle.std.specs.Prelude.{◌≡◌, ◌⊎◌, IfOk, OnOk, true};
+ghost use Rattle.std.specs.Prelude.{◌≡◌, IfOk, None, OnOk, true};
+ghost use Rattle.aho_core.specs.Replacement.{pieces_of};
 ghost use Rattle.chromesquid.specs.Searcher.{IsBuiltFrom};
 ghost use Rattle.secret_rules.specs.OpenLines.{CanSearch};
 ghost use Rattle.tool_parts.specs.Names.{name_bytes};
 ghost use Rattle.tool_parts.specs.Telling.{TellsBytes};
 ghost use Rattle.acredact.specs.LongLines.{long_told};
 ghost use Rattle.acredact.specs.Arguments.{all_given};
-ghost use Rattle.acredact.specs.Calls.{names_asked};
-ghost use Rattle.acredact.specs.Ruled.{AreTextsAsked, AskedRuled, LoadedRuled, SaysOfRules, lent_rule, named_count, own_text, patterns_by_case};
+ghost use Rattle.acredact.specs.Calls.{call_of, names_asked};
+ghost use Rattle.acredact.specs.Loading.{key_lent};
+ghost use Rattle.acredact.specs.Ruled.{Between, LoadedRuled, RuledCall, named_count, own_text, patterns_by_case, rule_asked, ruled_load, texts_asked};
 ghost use Rattle.acredact.specs.Tables.{patterns_in, secrets_of};
 
-use crate::failure::FAILED;
+use crate::failure::{Failure, tell_with_other};
+use crate::files::redact_flushed;
 use crate::folder::Folder;
 use crate::line_rules::failure_in;
 use crate::line_size::most_of;
 use crate::options::{Item, Word, has};
 use crate::patterns::{Rule, replacements_of};
 use crate::prepare::{key_by, text_of};
-use crate::ruled_failure::{RuledFailure, tell_long, tell_ruled};
-use crate::ruled_files::{Lined, cover_files, line_cover};
+use crate::ruled_files::{Lined, line_cover};
 use crate::ruled_load::{GivenRules, load_rules, ready_for_lines};
-use crate::run_counts::tell_runs;
+use crate::run_counts::tell_counted;
 use crate::run_pieces::RunPieces;
-use crate::run_summary::last_of;
 use crate::secrets::{key_bytes, load_key};
 use crate::streams::Streams;
-use crate::summary::Volume;
+use crate::summary::{Volume, last_of};
 use chromesquid::any::Pieces;
 use chromesquid::{AhoCorasick, Automaton, Sink};
 use secret_rules::{Rule as LineRule, Rules};
@@ -34,39 +35,20 @@ use std::alloc::{AllocError, Global};
 use std::io::{Read, Write};
 use tool_parts::errors::Errors;
 
-/// Redacts each file by rules, line by line, and answers the exit status: 0 where all was redacted, and 2 where rules or patterns are
-/// wrong, memory runs out, or a file cannot be read or the output not be written.
-pub fn redact_by_rules<F: Folder, I: Read, W: Write, E: Sink>(
-    alloc: Global,
-    given: &[Item<'_>],
-    folder: &F,
-    streams: &mut Streams<'_, I, W, E>,
-) -> u8
-    ensures says { SaysOfRules W.Write E.Sink F.Folder folder.now (all_given given.now)
-        result streams.old streams.new }
-    ensures bound { (result ≡ 0) ⊎ (result ≡ 2) }
-    ensures flushed { result ≡ 0 → streams.new.output.device.flushed ≡ true }
-{
-    match redact_given(alloc, given, folder, streams) {
-        Ok(true) => 0,
-        Ok(false) => FAILED,
-        Err(failure) => {
-            tell_ruled(&mut streams.errors, &failure);
-            FAILED
-        }
-    }
-}
-
-/// Loads all patterns, rules and the key, tells of doubtful patterns of lists, redacts all files by what was loaded, and answers whether
-/// all were read.
-fn redact_given<'a, F: Folder, I: Read, W: Write, E: Sink>(
+/// Loads all patterns, rules and the key, tells of doubtful patterns of lists, redacts each file line by line by what was loaded, and
+/// answers whether all were read.
+///
+/// # Errors
+///
+/// Rules or patterns are wrong, memory runs out, or the output or the counts cannot be written.
+pub fn redact_by_rules<'a, F: Folder, I: Read, W: Write, E: Sink>(
     alloc: Global,
     given: &[Item<'a>],
     folder: &F,
     streams: &mut Streams<'_, I, W, E>,
-) -> Result<bool, RuledFailure<'a>>
-    ensures outcome { AskedRuled W.Write E.Sink F.Folder folder.now (all_given given.now)
-        result streams.old streams.new }
+) -> Result<bool, Failure<'a>>
+    ensures outcome { Between W.Write (RuledCall E.Sink (call_of F.Folder folder.now (all_given given.now)) result)
+        streams.old streams.new }
     ensures flushed { OnOk result (streams.new.output.device.flushed ≡ true) }
 {
     let GivenRules { secrets, rules } = match load_rules(alloc, given, folder, &mut streams.input) {
@@ -75,7 +57,7 @@ fn redact_given<'a, F: Folder, I: Read, W: Write, E: Sink>(
     };
     let keyed = match load_key(alloc, given, secrets, folder, &mut streams.input) {
         Ok(keyed) => keyed,
-        Err(failure) => return Err(RuledFailure::Plain(failure)),
+        Err(failure) => return Err(failure),
     };
     let key = key_bytes(&keyed);
     let secrets = keyed.rules.as_slice();
@@ -106,7 +88,7 @@ fn redact_by<'a, F: Folder, I: Read, W: Write, E: Sink>(
     searcher: &AhoCorasick,
     names: &[&str],
     streams: &mut Streams<'_, I, W, E>,
-) -> Result<bool, RuledFailure<'a>>
+) -> Result<bool, Failure<'a>>
     requires can { CanSearch ⟦<AhoCorasick as Automaton>⟧ searcher.now }
     requires of { IsBuiltFrom searcher.now (patterns_by_case (all_given given.now) (patterns_in (secrets_of secrets.now))) }
     requires names { name_bytes names.now ≡ names_asked (all_given given.now) }
@@ -149,7 +131,7 @@ fn redact_lines<'a, A: Automaton, F: Folder, I: Read, W: Write, E: Sink>(
     automaton: &A,
     names: &[&str],
     streams: &mut Streams<'_, I, W, E>,
-) -> Result<bool, RuledFailure<'a>>
+) -> Result<bool, Failure<'a>>
     requires can { CanSearch A.Automaton automaton.now }
     requires of { A.is_of automaton.now (patterns_by_case (all_given given.now) (patterns_in (secrets_of secrets.now))) }
     requires names { name_bytes names.now ≡ names_asked (all_given given.now) }
@@ -164,26 +146,22 @@ fn redact_lines<'a, A: Automaton, F: Folder, I: Read, W: Write, E: Sink>(
     let words = has(given, Word::AsWord);
     let pieces = pieces_by(given, texts, key, secrets.len());
     let cover = line_cover(alloc, automaton, rules, words, most)?;
-    let mut lined = Lined { cover, pieces };
+    let mut lined = Lined {
+        cover,
+        pieces,
+        done: Ok(()),
+    };
     let tally = counts.as_mut_slice();
     let mut volume = Volume { files: 0, bytes: 0 };
-    let done = cover_files(&mut lined, folder, names, tally, &mut volume, streams);
-    match done {
+    match redact_flushed(&mut lined, folder, names, tally, &mut volume, streams) {
         Ok(all) => {
             let count = last_of(tally);
             tell_count(&mut streams.errors, most, count);
-            tell_runs(
-                alloc,
-                all,
-                given,
-                secrets,
-                rules,
-                tally,
-                volume,
-                &mut streams.errors,
-            )
+            let rules = Some(rules.as_slice());
+            let errors = &mut streams.errors;
+            tell_counted(alloc, all, given, secrets, rules, tally, volume, errors)
         }
-        Err(error) => Err(failure_in(alloc, rules.as_slice(), error)),
+        Err(error) => Err(failure_in(alloc, rules.as_slice(), lined.fault(error))),
     }
 }
 
@@ -194,7 +172,8 @@ fn texts_of<'r>(
     secrets: &'r [Rule],
     line_rules: &'r [LineRule],
 ) -> Result<Vec<&'r [u8]>, AllocError>
-    ensures texts { IfOk result (AreTextsAsked given.now secrets.entry.now line_rules.entry.now) }
+    ensures texts { IfOk result (λ texts. pieces_of texts.items
+        ≡ texts_asked (all_given given.now) (ruled_load secrets.entry.now line_rules.entry.now None)) }
 {
     let usual = text_of(given);
     let mut texts = replacements_of(alloc, secrets, usual)?;
@@ -222,8 +201,8 @@ fn pieces_by<'p, 'q>(
     key: Option<&[u8]>,
     patterns: usize,
 ) -> RunPieces<'p, 'q>
-    ensures rule { ⟦<RunPieces<'p, 'q> as Pieces>⟧.rule result ≡ lent_rule given.now texts.entry.now
-        key.entry patterns }
+    ensures rule { ⟦<RunPieces<'p, 'q> as Pieces>⟧.rule result ≡ rule_asked (all_given given.now)
+        (pieces_of texts.entry.now) (key_lent key.entry) patterns }
 {
     let key = key_by(key, has(given, Word::IgnoreCase));
     RunPieces::new(texts, key, named_count(given, patterns))
@@ -246,5 +225,6 @@ fn tell_count<E: Sink>(errors: &mut Errors<'_, E>, most: usize, count: u64)
     if count == 0 {
         return;
     }
-    tell_long(errors, most, count);
+    let why = b" bytes, each covered whole: ";
+    tell_with_other(errors, b": lines of more than ", most, why, count, b"\n");
 }

@@ -3,31 +3,30 @@
 ghost use Rattle.std.specs.Prelude.{◌≡◌, ◌<◌, ◌≤◌, OnOk, false, true};
 ghost use Rattle.chromesquid.specs.Searcher.{IsBuiltFrom};
 ghost use Rattle.secret_rules.specs.OpenLines.{CanSearch};
-ghost use Rattle.secret_rules.specs.Ready.{CanCoverLines};
 ghost use Rattle.tool_parts.specs.Names.{name_bytes};
 ghost use Rattle.acredact.specs.Arguments.{all_given, has};
 ghost use Rattle.acredact.specs.Calls.{names_asked};
+ghost use Rattle.acredact.specs.Looks.{Sought};
 ghost use Rattle.acredact.specs.Ruled.{patterns_by_case};
-ghost use Rattle.acredact.specs.RuledChecks.{AskedCheck, IfCovers, LoadedCheck, SaysOfRulesCheck, SeesTo};
+ghost use Rattle.acredact.specs.RuledChecks.{AskedCheck, IfByLines, IsByLines, LoadedCheck, SaysOfRulesCheck, SeesTo};
 ghost use Rattle.acredact.specs.Tables.{patterns_in, secrets_of};
 ghost use Rattle.acredact.specs.declared.options.Word.TheVariants.{Summary};
 
 use crate::check::status_of;
-use crate::checked_files::{Checked, check_files};
-use crate::failure::FAILED;
+use crate::failure::{Failure, report};
 use crate::folder::Folder;
 use crate::legend::Legend;
 use crate::line_rules::failure_in;
 use crate::line_size::most_of;
-use crate::look::Verdict;
+use crate::look::{Searched, Verdict, look_at_files};
 use crate::options::{Item, Word, has};
 use crate::patterns::Rule;
-use crate::ruled_failure::{RuledFailure, tell_ruled};
 use crate::ruled_files::line_cover;
 use crate::ruled_load::{load_rules, ready_for_lines};
 use crate::streams::Streams;
+use crate::teller::ByLines;
 use chromesquid::{AhoCorasick, Automaton, Nowhere, Sink};
-use secret_rules::{LineCover, LineError, Rules};
+use secret_rules::{LineError, Rules};
 use std::alloc::Global;
 use std::io::{Read, Write};
 
@@ -45,10 +44,7 @@ pub fn check_by_rules<F: Folder, I: Read, W: Write, E: Sink>(
 {
     match check_given(alloc, given, folder, streams) {
         Ok(verdict) => status_of(verdict),
-        Err(failure) => {
-            tell_ruled(&mut streams.errors, &failure);
-            FAILED
-        }
+        Err(failure) => report(&failure, &mut streams.errors),
     }
 }
 
@@ -58,7 +54,7 @@ fn check_given<'a, F: Folder, I: Read, W: Write, E: Sink>(
     given: &[Item<'a>],
     folder: &F,
     streams: &mut Streams<'_, I, W, E>,
-) -> Result<Verdict, RuledFailure<'a>>
+) -> Result<Verdict, Failure<'a>>
     ensures outcome { AskedCheck W.Write E.Sink F.Folder folder.now (all_given given.now)
         result streams.old streams.new }
     ensures unwritten { has Summary (all_given given.now) ≡ false
@@ -96,7 +92,7 @@ fn check_by<'a, F: Folder, I: Read, W: Write, E: Sink>(
     searcher: &AhoCorasick,
     names: &[&str],
     streams: &mut Streams<'_, I, W, E>,
-) -> Result<Verdict, RuledFailure<'a>>
+) -> Result<Verdict, Failure<'a>>
     requires can { CanSearch ⟦<AhoCorasick as Automaton>⟧ searcher.now }
     requires of { IsBuiltFrom searcher.now (patterns_by_case (all_given given.now) (patterns_in (secrets_of secrets.now))) }
     requires names { name_bytes names.now ≡ names_asked (all_given given.now) }
@@ -135,7 +131,7 @@ fn check_cover<'a, A: Automaton, F: Folder, I: Read, W: Write, E: Sink>(
     automaton: &A,
     names: &[&str],
     streams: &mut Streams<'_, I, W, E>,
-) -> Result<Verdict, RuledFailure<'a>>
+) -> Result<Verdict, Failure<'a>>
     requires can { CanSearch A.Automaton automaton.now }
     requires of { A.is_of automaton.now (patterns_by_case (all_given given.now) (patterns_in (secrets_of secrets.now))) }
     requires names { name_bytes names.now ≡ names_asked (all_given given.now) }
@@ -149,56 +145,58 @@ fn check_cover<'a, A: Automaton, F: Folder, I: Read, W: Write, E: Sink>(
     let most = most_of(given);
     let words = has(given, Word::AsWord);
     let tells = has(given, Word::Summary);
-    let mut cover = line_cover(alloc, automaton, rules, words, most)?;
+    let cover = line_cover(alloc, automaton, rules, words, most)?;
     let rules = rules.as_slice();
     let legend = Legend {
         secrets,
         rules,
         most,
     };
-    let checked = Checked {
+    let mut looker = ByLines {
         alloc,
-        folder,
+        cover,
         legend,
+    };
+    let files = Searched {
+        folder,
+        names,
         tells,
     };
-    match check_to(&mut cover, &checked, names, streams) {
+    match check_to(&mut looker, &files, streams) {
         Ok(verdict) => Ok(verdict),
         Err(error) => Err(failure_in(alloc, rules, error)),
     }
 }
 
-/// Looks at all files, and tells to the output what is found, where that is asked for.
+/// Looks at all files, and tells to the output what is found, where that is asked for, and flushes it.
 fn check_to<A: Automaton, F: Folder, I: Read, W: Write, E: Sink>(
-    cover: &mut LineCover<'_, '_, A>,
-    checked: &Checked<'_, '_, '_, F>,
-    names: &[&str],
+    looker: &mut ByLines<'_, '_, '_, '_, A>,
+    files: &Searched<'_, '_, F>,
     streams: &mut Streams<'_, I, W, E>,
 ) -> Result<Verdict, LineError>
-    requires ready { CanCoverLines A.Automaton cover.old }
-    ensures sees { IfCovers A.Automaton cover.old (SeesTo W.Write E.Sink F.Folder checked.now
-        names.now result streams.old streams.new) }
-    ensures unwritten { checked.now.tells ≡ false → streams.new.output ≡ streams.old.output }
-    ensures flushed { checked.now.tells ≡ true
+    requires ready { (s : Sought) × IsByLines A.Automaton looker.old.cover looker.old.legend s }
+    ensures sees { IfByLines A.Automaton looker.old (SeesTo W.Write E.Sink F.Folder files.now
+        result streams.old streams.new) }
+    ensures unwritten { files.now.tells ≡ false → streams.new.output ≡ streams.old.output }
+    ensures flushed { files.now.tells ≡ true
         → OnOk result (streams.new.output.device.flushed ≡ true) }
 {
-    if checked.tells {
-        return check_files(
-            cover,
-            checked,
-            names,
+    if !files.tells {
+        return look_at_files(
+            looker,
+            files,
             &mut streams.input,
-            &mut streams.output,
+            &mut Nowhere,
             &mut streams.errors,
         );
     }
-    let mut nowhere = Nowhere;
-    check_files(
-        cover,
-        checked,
-        names,
+    let verdict = look_at_files(
+        looker,
+        files,
         &mut streams.input,
-        &mut nowhere,
+        &mut streams.output,
         &mut streams.errors,
-    )
+    )?;
+    streams.output.flush()?;
+    Ok(verdict)
 }

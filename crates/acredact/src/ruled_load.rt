@@ -9,13 +9,13 @@ ghost use Rattle.acredact.specs.Ruled.{AreRulesGivenBy, IsReadyForLines};
 ghost use Rattle.acredact.specs.Tables.{HaveNoEmpty, secrets_of};
 
 use crate::doubts::tell_of_lists;
+use crate::failure::Failure;
 use crate::folder::Folder;
 use crate::line_rules::line_rules_of;
 use crate::load::{lists_of, rules};
 use crate::options::{Item, Word, has};
 use crate::patterns::{Rule, patterns_of, split_at};
 use crate::prepare::names;
-use crate::ruled_failure::RuledFailure;
 use chromesquid::{AhoCorasick, Automaton, BuildError, FromRead, MatchKind, Sink};
 use secret_rules::Rules;
 use std::alloc::Global;
@@ -47,14 +47,14 @@ pub fn load_rules<'a, F: Folder, I: Read>(
     given: &[Item<'a>],
     folder: &F,
     input: &mut FromRead<I>,
-) -> Result<GivenRules, RuledFailure<'a>>
+) -> Result<GivenRules, Failure<'a>>
     ensures given { IfOk result (AreRulesGivenBy F.Folder folder.now given.now (bytes_left input.old) (bytes_left input.new)) }
 {
-    let lists = lists_of(alloc, given, folder);
-    let secrets = match rules(&lists, given, input) {
+    let secrets = match rules(alloc, given, folder, input) {
         Ok(secrets) => secrets,
-        Err(failure) => return Err(RuledFailure::Plain(failure)),
+        Err(failure) => return Err(failure),
     };
+    let lists = lists_of(alloc, given, folder);
     match line_rules_of(&lists, given, input) {
         Ok(rules) => Ok(GivenRules { secrets, rules }),
         Err(failure) => Err(failure),
@@ -67,7 +67,7 @@ pub fn ready_for_lines<'a, E: Sink>(
     given: &[Item<'a>],
     secrets: &[Rule],
     errors: &mut Errors<'_, E>,
-) -> Result<LinesReady<'a>, RuledFailure<'a>>
+) -> Result<LinesReady<'a>, Failure<'a>>
     requires some { HaveNoEmpty (secrets_of secrets.now) }
     ensures ready { IfOk result (IsReadyForLines (all_given given.now) (secrets_of secrets.now)) }
     ensures can { IfOk result (λ ready. CanSearch ⟦<AhoCorasick as Automaton>⟧ ready.searcher) }
@@ -75,7 +75,7 @@ pub fn ready_for_lines<'a, E: Sink>(
 {
     tell_of_lists(errors, given, secrets);
     if let Some(number) = line_end_in(secrets) {
-        return Err(RuledFailure::LineEnd(number));
+        return Err(Failure::LineEnd(number));
     }
     let patterns = patterns_of(alloc, secrets)?;
     let names = names(alloc, given)?;

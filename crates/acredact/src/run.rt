@@ -4,43 +4,36 @@ ghost use Rattle.std.specs.Prelude.{◌≡◌, ◌<◌, ◌≤◌, IfErr, IfOk, 
 ghost use Rattle.chromesquid.specs.Searcher.{ForItsPatterns};
 ghost use Rattle.tool_parts.specs.Arguments.{texts};
 ghost use Rattle.tool_parts.specs.Streams.{WritesBytes};
-ghost use Rattle.tool_parts.specs.Telling.{Tells, TellsBytes, TellsSome};
-ghost use Rattle.acredact.specs.Arguments.{AreMistaken, AsksAnyCheck, AsksToRedact, GivesNoPattern, IfAsked, IfChecking, IfNoCheck, IfRight, IfRuled, IfRulesCheck, IsCheck, RefusesUnclean, all_given, counts_asked, counts_given, has};
+ghost use Rattle.tool_parts.specs.Telling.{TellsSome};
+ghost use Rattle.acredact.specs.Arguments.{AreMistaken, AsksAnyCheck, AsksToRedact, GivesNoPattern, IfAsked, IfChecking, IfNoCheck, IfRight, IfRuled, IfRulesCheck, IsCheck, RefusesUnclean, all_given, counts_asked, has};
 ghost use Rattle.acredact.specs.Back.{DoesByPatterns};
-ghost use Rattle.acredact.specs.Calls.{AskedOutcome, BeginsAsked, CountsAsked, HidesAsked, IsCountsFailure, IsCountsLine, IsPrintFailure, IsWrongLine, LeavesNoneAsked, NumbersToldAsked, OutputFails, RedactsAsked, TellsAsked, TellsAnyCounts, WarnsAsked};
+ghost use Rattle.acredact.specs.Calls.{AskedOutcome, BeginsAsked, CountsAsked, HidesAsked, IsPrintFailure, IsWrongLine, LeavesNoneAsked, NumbersToldAsked, OutputFails, RedactsAsked, TellsAsked, WarnsAsked};
 ghost use Rattle.acredact.specs.Checks.{MatchedAsked, TellsListsAsked, TellsUncheckedAsked, UnmatchedAsked};
-ghost use Rattle.acredact.specs.Counts.{lines_of_rules, secret_lines};
 ghost use Rattle.acredact.specs.Files.{CanDo};
 ghost use Rattle.acredact.specs.RuledChecks.{ListsByRules, RuledClean, RuledFindingsBegin, RuledFound};
 ghost use Rattle.acredact.specs.Ruled.{NotesAsked, RuledAsked, RuledBegins, RuledCountsAsked, RuledTells};
 ghost use Rattle.acredact.specs.Statuses.{IsIdle, SaysOfCall};
-ghost use Rattle.acredact.specs.Sums.{sums_of};
-ghost use Rattle.acredact.specs.Tables.{secrets_of};
-ghost use Rattle.acredact.specs.Summaries.{totals_text};
 ghost use Rattle.acredact.specs.declared.options.Word.TheVariants.{Forms, Summary};
 
 use crate::arguments::items;
 use crate::check::check;
-use crate::counts::{counts_of, put_counts};
-use crate::failure::{FAILED, Failure, report};
+use crate::counts::counts_of;
+use crate::failure::{Failure, report, report_end};
 use crate::files::{Job, back_files, redact_files};
 use crate::folder::Folder;
 use crate::help::{HELP, VERSION};
 use crate::mistakes::Mistake;
 use crate::options::{Item, Word, asks_rules, checks, checks_by_rules, counts, gives_pattern, has};
-use crate::patterns::Rule;
 use crate::prepare::{job_of, prepare};
 use crate::ruled::redact_by_rules;
 use crate::ruled_check::check_by_rules;
+use crate::run_counts::tell_counted;
 use crate::secrets::load;
 use crate::streams::Streams;
-use crate::summary::{Volume, put_summary};
-use crate::sums::sums_of;
+use crate::summary::Volume;
 use chromesquid::{AhoCorasick, Automaton, FromWrite, Sink, StreamError, write_whole};
-use std::alloc::{AllocError, Global};
+use std::alloc::Global;
 use std::io::{Read, Write};
-use tool_parts::errors::Errors;
-use tool_parts::failure;
 
 /// Writes each file with a replacement in the place of each match, or checks whether it has one, and answers the exit status: 0 where
 /// all was redacted or nothing would be, 1 where a check found something, and 2 where the arguments or the patterns are wrong,
@@ -203,7 +196,8 @@ fn answer<F: Folder, I: Read, W: Write, E: Sink>(
         return check_by_rules(alloc, given, folder, streams);
     }
     if asks_rules(given) {
-        return redact_by_rules(alloc, given, folder, streams);
+        let done = redact_by_rules(alloc, given, folder, streams);
+        return report_end(done, &mut streams.errors);
     }
     if checks(given) {
         return check(
@@ -214,11 +208,8 @@ fn answer<F: Folder, I: Read, W: Write, E: Sink>(
             &mut streams.errors,
         );
     }
-    match redact_asked(alloc, given, folder, streams) {
-        Ok(true) => 0,
-        Ok(false) => FAILED,
-        Err(failure) => report(&failure, &mut streams.errors),
-    }
+    let done = redact_asked(alloc, given, folder, streams);
+    report_end(done, &mut streams.errors)
 }
 
 /// Redacts what the options and files ask for, without rules, and answers whether all files were read.
@@ -249,17 +240,18 @@ fn redact_asked<'a, F: Folder, I: Read, W: Write, E: Sink>(
         Ok(secrets) => secrets,
         Err(failure) => return Err(failure),
     };
+    let rules = secrets.rules.as_slice();
+    let mut counted = counts_of(alloc, rules, counts(given))?;
     let ready = match prepare(alloc, given, &secrets, &mut streams.errors) {
         Ok(ready) => ready,
         Err(failure) => return Err(failure),
     };
-    let rules = secrets.rules.as_slice();
-    let mut counted = counts_of(alloc, rules, counts(given))?;
     let tally = counted.as_mut_slice();
     let mut volume = Volume { files: 0, bytes: 0 };
     let job = job_of(alloc, given, &secrets, &ready, folder);
     let all = redact_by(&ready.searcher, &job, tally, &mut volume, streams)?;
-    tell_counted(alloc, all, given, rules, tally, volume, &mut streams.errors)
+    let errors = &mut streams.errors;
+    tell_counted(alloc, all, given, rules, None, tally, volume, errors)
 }
 
 /// Writes a text whole, and answers that nothing was left out.
@@ -272,72 +264,6 @@ fn print<'a, W: Write>(output: &mut FromWrite<W>, text: &[u8]) -> Result<bool, F
     write_whole(output, text)?;
     output.flush()?;
     Ok(true)
-}
-
-/// Tells the counts, where they are asked for, and answers whether all files were read.
-pub fn tell_counted<'a, E: Sink>(
-    alloc: Global,
-    all: bool,
-    given: &[Item<'_>],
-    rules: &[Rule],
-    tally: &[u64],
-    volume: Volume,
-    errors: &mut Errors<'_, E>,
-) -> Result<bool, Failure<'a>>
-    ensures all { IfOk result (λ done. done ≡ all) }
-    ensures told { OnOk result (TellsAnyCounts E.Sink (all_given given.now) rules.now tally.now volume
-        errors.old errors.new) }
-    ensures lines { Tells E.Sink (IsCountsLine (all_given given.now) (secrets_of rules.now))
-        errors.old errors.new }
-    ensures these { Tells E.Sink (λ line. line ≡ totals_text (all_given given.now)
-        (secret_lines (secrets_of rules.now)) (sums_of (secrets_of rules.now) tally.now) volume)
-        errors.old errors.new }
-    ensures fails { IfErr result (IsCountsFailure (counts_given given.now)) }
-{
-    if !counts(given) {
-        return Ok(all);
-    }
-    tell_totals(alloc, errors, given, rules, tally, volume)?;
-    if errors.has_failed() {
-        return Err(Failure::Counts);
-    }
-    Ok(all)
-}
-
-/// Writes the counts and the summary, those that are asked for, by one write.
-///
-/// # Errors
-///
-/// The error says that memory ran out, and nothing was written then.
-fn tell_totals<E: Sink>(
-    alloc: Global,
-    errors: &mut Errors<'_, E>,
-    given: &[Item<'_>],
-    rules: &[Rule],
-    tally: &[u64],
-    volume: Volume,
-) -> Result<(), AllocError>
-    requires asked { counts_given given.now ≡ true }
-    ensures told { OnOk result (TellsBytes E.Sink errors.old errors.new
-        (totals_text (all_given given.now) (lines_of_rules rules.now)
-        (sums_of (secrets_of rules.now) tally.now) volume)) }
-    ensures lines { Tells E.Sink (IsCountsLine (all_given given.now) (secrets_of rules.now))
-        errors.old errors.new }
-    ensures these { Tells E.Sink (λ line. line ≡ totals_text (all_given given.now)
-        (secret_lines (secrets_of rules.now)) (sums_of (secrets_of rules.now) tally.now) volume)
-        errors.old errors.new }
-{
-    let sums = sums_of(alloc, rules, tally)?;
-    let sums = sums.as_slice();
-    let mut text = Vec::new(alloc);
-    if has(given, Word::Count) {
-        put_counts(&mut text, rules, sums)?;
-    }
-    if has(given, Word::Summary) {
-        put_summary(&mut text, volume, sums)?;
-    }
-    errors.write(&[text.as_slice()]);
-    Ok(())
 }
 
 /// Redacts all files by the walk backward that the searcher holds, if it holds one, and else by the automaton that it holds.

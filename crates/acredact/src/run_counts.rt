@@ -1,53 +1,54 @@
-//! How many runs have the number of each pattern and of each rule, and how that and a summary are told.
+//! How many matches and runs have the number of each pattern and of each rule, and how that and a summary are told.
 
-ghost use Rattle.std.specs.Prelude.{◌≡◌, IfOk, OnOk, drop, true};
+ghost use Rattle.std.specs.Prelude.{◌≡◌, IfErr, IfOk, OnOk, drop, true};
 ghost use Rattle.tool_parts.specs.Telling.{Tells, TellsBytes};
-ghost use Rattle.acredact.specs.Arguments.{all_given, counts_given};
-ghost use Rattle.acredact.specs.Counts.{PutsText, lines_of_rules};
-ghost use Rattle.acredact.specs.RunCounts.{IsRunsLine, TellsAnyRuns, objects_told_by, rule_counts_text, runs_text, runs_told_by};
+ghost use Rattle.acredact.specs.Arguments.{counts_given};
+ghost use Rattle.acredact.specs.Calls.{IsCountsFailure};
+ghost use Rattle.acredact.specs.Counts.{PutsText};
+ghost use Rattle.acredact.specs.RunCounts.{IsNumbersLine, TellsAnyCounts, counted_text};
+ghost use Rattle.acredact.specs.Summaries.{rule_counts_of, rules_lent};
 
 use crate::counts::{put_counts, put_number};
 use crate::failure::Failure;
 use crate::options::{Item, Word, counts, has};
 use crate::patterns::Rule;
-use crate::ruled_failure::RuledFailure;
-use crate::run_summary::put_run_summary;
 use crate::shown::put_shown;
-use crate::summary::Volume;
+use crate::summary::{Volume, put_summary};
 use crate::sums::sums_of;
 use chromesquid::Sink;
-use secret_rules::{Rule as LineRule, Rules};
+use secret_rules::Rule as LineRule;
 use std::alloc::{AllocError, Global};
 use tool_parts::errors::Errors;
 
-/// Tells what is asked for: how many runs have the number of each pattern and of each rule, and a summary. It answers whether all files
-/// were read.
+/// Tells what is asked for: how often the text of each pattern was written, and of a call with rules how many runs have the number of
+/// each; and a summary. It answers whether all files were read.
 ///
 /// # Errors
 ///
 /// Out of memory, and `Counts` where they cannot be written.
-pub fn tell_runs<'a, E: Sink>(
+pub fn tell_counted<'a, E: Sink>(
     alloc: Global,
     all: bool,
     given: &[Item<'_>],
     secrets: &[Rule],
-    line_rules: &Rules,
+    rules: Option<&[LineRule]>,
     tally: &[u64],
     volume: Volume,
     errors: &mut Errors<'_, E>,
-) -> Result<bool, RuledFailure<'a>>
+) -> Result<bool, Failure<'a>>
     ensures all { IfOk result (λ done. done ≡ all) }
-    ensures told { OnOk result (TellsAnyRuns E.Sink given.now secrets.now line_rules.now tally.now volume
+    ensures told { OnOk result (TellsAnyCounts E.Sink given.now secrets.now rules.entry tally.now volume
         errors.old errors.new) }
-    ensures lines { Tells E.Sink (IsRunsLine (all_given given.now)) errors.old errors.new }
+    ensures lines { Tells E.Sink (IsNumbersLine given.now secrets.now rules.entry tally.now volume)
+        errors.old errors.new }
+    ensures fails { IfErr result (IsCountsFailure (counts_given given.now)) }
 {
     if !counts(given) {
         return Ok(all);
     }
-    let rules = line_rules.as_slice();
-    write_runs(alloc, given, secrets, rules, tally, volume, errors)?;
+    write_counted(alloc, given, secrets, rules, tally, volume, errors)?;
     if errors.has_failed() {
-        return Err(RuledFailure::Plain(Failure::Counts));
+        return Err(Failure::Counts);
     }
     Ok(all)
 }
@@ -57,64 +58,33 @@ pub fn tell_runs<'a, E: Sink>(
 /// # Errors
 ///
 /// The error says that memory ran out, and nothing was written then.
-fn write_runs<E: Sink>(
+fn write_counted<E: Sink>(
     alloc: Global,
     given: &[Item<'_>],
     secrets: &[Rule],
-    line_rules: &[LineRule],
+    rules: Option<&[LineRule]>,
     tally: &[u64],
     volume: Volume,
     errors: &mut Errors<'_, E>,
 ) -> Result<(), AllocError>
     requires asked { counts_given given.now ≡ true }
     ensures told { OnOk result (TellsBytes E.Sink errors.old errors.new
-        (runs_text (all_given given.now) secrets.now line_rules.now tally.now volume)) }
-    ensures lines { Tells E.Sink (IsRunsLine (all_given given.now)) errors.old errors.new }
+        (counted_text given.now secrets.now rules.entry tally.now volume)) }
+    ensures lines { Tells E.Sink (IsNumbersLine given.now secrets.now rules.entry tally.now volume)
+        errors.old errors.new }
 {
     let sums = sums_of(alloc, secrets, tally)?;
     let sums = sums.as_slice();
     let runs = behind(tally, secrets.len());
     let mut text = Vec::new(alloc);
-    put_asked_runs(&mut text, given, secrets, sums, line_rules, runs)?;
-    put_asked_objects(&mut text, given, volume, sums, line_rules, runs)?;
-    errors.write(&[text.as_slice()]);
-    Ok(())
-}
-
-/// The lines of the counts, if they are asked for.
-fn put_asked_runs(
-    text: &mut Vec<u8>,
-    given: &[Item<'_>],
-    secrets: &[Rule],
-    sums: &[u64],
-    line_rules: &[LineRule],
-    runs: &[u64],
-) -> Result<(), AllocError>
-    ensures put { OnOk result (PutsText text.old text.new
-        (runs_told_by (all_given given.now) (lines_of_rules secrets.now) sums.now line_rules.now runs.now)) }
-{
     if has(given, Word::Count) {
-        put_counts(text, secrets, sums)?;
-        return put_rule_counts(text, line_rules, runs);
+        put_counts(&mut text, secrets, sums)?;
+        put_rule_counts(&mut text, rules, runs)?;
     }
-    Ok(())
-}
-
-/// The summary, if it is asked for.
-fn put_asked_objects(
-    text: &mut Vec<u8>,
-    given: &[Item<'_>],
-    volume: Volume,
-    sums: &[u64],
-    line_rules: &[LineRule],
-    runs: &[u64],
-) -> Result<(), AllocError>
-    ensures put { OnOk result (PutsText text.old text.new
-        (objects_told_by (all_given given.now) volume sums.now line_rules.now runs.now)) }
-{
     if has(given, Word::Summary) {
-        return put_run_summary(text, volume, sums, line_rules, runs);
+        put_summary(&mut text, volume, sums, rules, runs)?;
     }
+    errors.write(&[text.as_slice()]);
     Ok(())
 }
 
@@ -126,15 +96,17 @@ fn behind(counts: &[u64], many: usize) -> &[u64]
     &counts[from..]
 }
 
-/// Puts a line for each rule: how many runs have its number, a TAB, and its name as messages show it.
+/// Puts a line for each rule of a call with rules: how many runs have its number, a TAB, and its name as messages show it.
 fn put_rule_counts(
     text: &mut Vec<u8>,
-    line_rules: &[LineRule],
+    rules: Option<&[LineRule]>,
     counts: &[u64],
 ) -> Result<(), AllocError>
-    ensures put { OnOk result (PutsText text.old text.new (rule_counts_text line_rules.now counts.now)) }
+    ensures put { OnOk result (PutsText text.old text.new (rule_counts_of (rules_lent rules.entry) counts.now)) }
 {
-    let mut rest = line_rules;
+    let Some(mut rest) = rules else {
+        return Ok(());
+    };
     let mut left = counts;
     while let Some((rule, rules)) = rest.split_first() {
         let Some((count, others)) = left.split_first() else {

@@ -1,6 +1,6 @@
 //! What is loaded before any file is read: the rules of all patterns, and the key of pseudonyms.
 
-ghost use Rattle.std.specs.Prelude.{◌≡◌, Option, Some, IfErr, IfOk};
+ghost use Rattle.std.specs.Prelude.{◌≡◌, IfErr, IfOk};
 ghost use Rattle.tool_parts.specs.Streams.{bytes_left};
 ghost use Rattle.acredact.specs.Arguments.{all_given, has};
 ghost use Rattle.acredact.specs.Calls.{AreKeyedBy, AreLoadedBy, CannotLoadBy, IsKeyedBy};
@@ -38,8 +38,7 @@ pub fn load<'a, F: Folder, I: Read>(
     ensures some { IfOk result AreSome }
     ensures fails { IfErr result (CannotLoadBy F.Folder folder.now given.now) }
 {
-    let lists = lists_of(alloc, given, folder);
-    let rules = match rules(&lists, given, input) {
+    let rules = match rules(alloc, given, folder, input) {
         Ok(rules) => rules,
         Err(failure) => return Err(failure),
     };
@@ -75,21 +74,23 @@ pub fn load_key<'a, F: Folder, I: Read>(
 {
     let lists = lists_of(alloc, given, folder);
     match key_of(&lists, given, input) {
-        Ok(Some(key)) => Ok(with_key(alloc, given, rules, key)?),
-        Ok(None) => Ok(Secrets { rules, key: None }),
+        Ok(key) => Ok(with_key(alloc, given, rules, key)?),
         Err(failure) => Err(failure),
     }
 }
 
-/// These rules with this key, which names the secrets where forms are asked for.
+/// These rules with this key, if any, which names the secrets where forms are asked for.
 fn with_key(
     alloc: Global,
     given: &[Item<'_>],
     rules: Vec<Rule>,
-    key: Vec<u8>,
+    key: Option<Vec<u8>>,
 ) -> Result<Secrets, AllocError>
-    ensures keyed { IfOk result (IsKeyedBy given.now rules.items (Some key.items)) }
+    ensures keyed { IfOk result (IsKeyedBy given.now rules.items (key_in key)) }
 {
+    let Some(key) = key else {
+        return Ok(Secrets { rules, key: None });
+    };
     if !has(given, Word::Forms) {
         return Ok(Secrets {
             rules,

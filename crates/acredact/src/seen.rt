@@ -1,9 +1,8 @@
 //! What is looked at of a file before it is replaced, and once more at the end.
 
-ghost use Rattle.std.specs.Prelude.{◌≡◌, Err, IfErr, IfOk, Ok, bit_and};
+ghost use Rattle.std.specs.Prelude.{◌≡◌, IfErr, IfOk, MatchResult, Ok, bit_and};
 ghost use Rattle.std.specs.Fs.{metadata_len, metadata_mode};
-ghost use Rattle.std.specs.IoError.{error_kind};
-ghost use Rattle.tool_parts.specs.Reasons.{reason_of};
+ghost use Rattle.tool_parts.specs.Reasons.{IsReasonOf};
 
 use crate::folder::Place;
 use std::fs::{Files, Metadata};
@@ -68,7 +67,7 @@ impl Seen {
 /// What the system answers, or the reason why it does not.
 pub fn known<T>(answer: io::Result<T>) -> Result<T, Reason>
     ensures known { IfOk answer (λ value. result ≡ Ok value) }
-    ensures why { IfErr answer (λ e. result ≡ Err (reason_of (error_kind e))) }
+    ensures why { IfErr answer (λ e. MatchResult result (λ _. ⊥) (IsReasonOf e)) }
 {
     match answer {
         Ok(known) => Ok(known),

@@ -1,10 +1,10 @@
 //! Patterns that are too short for forms: each is told by its number, or the first is refused.
 
-ghost use Rattle.std.specs.Prelude.{◌≡◌, IfErr, OnOk};
+ghost use Rattle.std.specs.Prelude.{◌≡◌, IfErr, None, OnOk};
 ghost use Rattle.std.specs.List.{concat};
 ghost use Rattle.tool_parts.specs.Telling.{TellsBytes};
 ghost use Rattle.acredact.specs.Arguments.{all_given};
-ghost use Rattle.acredact.specs.Short.{AreLong, AreLongAsked, RefusesShort, RefusesShortAsked, is_formless, lines_of_short, short_lines, short_told};
+ghost use Rattle.acredact.specs.Short.{AreLongAsked, RefusesShort, RefusesShortAsked, first_short, is_formless, lines_of_short, short_lines, short_told};
 ghost use Rattle.acredact.specs.Tables.{secret_of, secrets_of};
 
 use crate::failure::{Failure, tell_short};
@@ -61,7 +61,7 @@ pub fn refuse_short_asked<'a>(given: &[Item<'_>], rules: &[Rule]) -> Result<(), 
 
 /// Refuses the first pattern that is too short for forms.
 fn refuse_first<'a>(rules: &[Rule]) -> Result<(), Failure<'a>>
-    ensures none { OnOk result (AreLong (secrets_of rules.now)) }
+    ensures none { OnOk result (first_short 1 (secrets_of rules.now) ≡ None) }
     ensures refused { IfErr result (RefusesShort (secrets_of rules.now)) }
 {
     let mut number: usize = 1;

@@ -1,7 +1,7 @@
 //! What is counted for each pattern that was given: its own count, and those of its forms.
 
-ghost use Rattle.std.specs.Prelude.{IfOk};
-ghost use Rattle.acredact.specs.Sums.{AreSumsOf, HaveGrown, counts_for, share, sum_for};
+ghost use Rattle.std.specs.Prelude.{◌≡◌, IfOk};
+ghost use Rattle.acredact.specs.Sums.{HaveGrown, counts_for, share, sum_for, sums_of};
 ghost use Rattle.acredact.specs.Tables.{secret_of, secrets_of};
 
 use crate::patterns::Rule;
@@ -10,7 +10,7 @@ use std::alloc::{AllocError, Global};
 /// For each pattern that was given how often its text was written: by its own count and those of its forms. A number stops at the
 /// greatest.
 pub fn sums_of(alloc: Global, rules: &[Rule], counts: &[u64]) -> Result<Vec<u64>, AllocError>
-    ensures sums { IfOk result (AreSumsOf rules.now counts.now) }
+    ensures sums { IfOk result (λ sums. sums.items ≡ sums_of (secrets_of rules.now) counts.now) }
 {
     let mut sums = Vec::new(alloc);
     for rule in rules {

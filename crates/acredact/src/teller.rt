@@ -1,17 +1,79 @@
-//! A visitor of lines that tells by which patterns and rules something is covered in them.
+//! A look at the lines of texts, which tells by which patterns and rules something is covered in them.
 
 ghost use Rattle.std.specs.Prelude.{◌≡◌, IfErr, OnErr, OnOk};
 ghost use Rattle.std.specs.Io.KnownBytes.{Appends};
 ghost use Rattle.aho_devices.specs.Counts.{AppendsBeginning};
 ghost use Rattle.secret_rules.specs.Visitors.{IsVisitRefusal};
 ghost use Rattle.acredact.specs.Counts.{PutsText};
-ghost use Rattle.acredact.specs.RuledChecks.{findings_of, is_new, next_finding, runs_findings, with_new};
+ghost use Rattle.acredact.specs.Findings.{findings_of, is_new, next_finding, runs_findings, with_new};
+ghost use Rattle.acredact.specs.Looks.{look_of_lines};
 
-use crate::findings::Findings;
-use crate::legend::{numbers_in, put_finding, told_for};
-use chromesquid::{Match, Sink, StreamError, write_whole};
-use secret_rules::LineVisitor;
-use std::alloc::AllocError;
+use crate::legend::{Findings, Legend, numbers_in, put_finding, told_for};
+use crate::look::Look;
+use crate::looker::Looker;
+use chromesquid::{Automaton, FromRead, Match, Sink, StreamError, write_whole};
+use secret_rules::{LineCover, LineError, LineVisitor, visit_lines};
+use std::alloc::{AllocError, Global};
+use std::io::Read;
+use tool_parts::reason::Reason;
+
+/// What looks at lines, for what rules mark and patterns hold, and tells it.
+#[derive(Drop)]
+pub struct ByLines<'r, 'a, 's, 'q, A> {
+    /// What memory is taken from.
+    pub alloc: Global,
+    /// What covers lines.
+    pub cover: LineCover<'r, 'a, A>,
+    /// What the numbers of runs stand for.
+    pub legend: Legend<'s, 'q>,
+}
+
+impl<A: Automaton> Looker for ByLines<'_, '_, '_, '_, A> {
+    /// `Write` and `WriteZero` where the output fails or takes nothing, `Memory` where it runs out, and `Mark` where the expression of a
+    /// rule is too big or memory runs out.
+    type Error = LineError;
+
+    ghost use Rattle.acredact.specs.RuledChecks.{IsByLines};
+
+    ghost by = { λ looker s. IsByLines A.Automaton looker.cover looker.legend s };
+
+    fn look<I: Read, W: Sink>(
+        &mut self,
+        name: &str,
+        input: &mut FromRead<I>,
+        output: &mut W,
+    ) -> Result<Look, LineError> {
+        input.restart();
+        let findings = Findings {
+            alloc: self.alloc,
+            name: name.as_bytes(),
+            legend: self.legend,
+            line: 1,
+            found: false,
+        };
+        let mut teller = Teller { output, findings };
+        let done = visit_lines(&mut self.cover, input, &mut teller);
+        let Teller { output, findings } = teller;
+        let _output = output;
+        look_of_lines(done, findings.found)
+    }
+}
+
+/// What a file is found to be, by what is answered of its lines and whether something was found in those that were told; any other error
+/// ends the program.
+fn look_of_lines(done: Result<(), LineError>, found: bool) -> Result<Look, LineError>
+    ensures look { result ≡ look_of_lines done found }
+{
+    match done {
+        Ok(()) if found => Ok(Look::Found),
+        Ok(()) => Ok(Look::Clean),
+        Err(LineError::Stream(StreamError::Read(_))) => Ok(Look::Unread(Reason::ReadFault)),
+        Err(LineError::Stream(StreamError::PositionLimit)) => {
+            Ok(Look::Unread(Reason::PositionLimit))
+        }
+        Err(error) => Err(error),
+    }
+}
 
 /// What tells of the lines of a file as they are read.
 #[derive(Drop)]
@@ -23,7 +85,7 @@ pub struct Teller<'o, 'n, 's, 'r, W> {
 }
 
 impl<W: Sink> LineVisitor for Teller<'_, '_, '_, '_, W> {
-    ghost use Rattle.acredact.specs.RuledChecks.{StopsTelling, TellsLine};
+    ghost use Rattle.acredact.specs.Findings.{StopsTelling, TellsLine};
 
     ghost visits = { λ old new line runs. TellsLine W.Sink old.output new.output old.findings new.findings runs };
 

@@ -5,7 +5,7 @@ ghost use Rattle.std.specs.List.{filter_map};
 ghost use Rattle.aho_core.specs.Replacement.{pieces_of};
 ghost use Rattle.acredact.specs.Reads.{bytes_of_names};
 ghost use Rattle.acredact.specs.Tables.{lines_in, stripped_by};
-ghost use Rattle.acredact.specs.Values.{are_refused, behind_equals, fault_of_line, first_fault, is_named, is_no_variable, is_some_value, is_value_text, is_variable_name, lent, value_in_line, value_of_entry, values_with, whole_in};
+ghost use Rattle.acredact.specs.Values.{are_refused, behind_equals, fault_of_line, first_fault, is_named, is_no_variable, is_some_value, is_value_text, is_variable_name, lent, value_of_entry, values_in_lines, values_with, whole_in};
 
 use crate::patterns::{
     BadLine, Form, LineFault, ends_in_return, lines_of, part_of, stripped_by, without_last,
@@ -62,7 +62,7 @@ pub fn values_of_entries<'e>(
     Ok(values)
 }
 
-/// Whether a text is the value of some entry of the environment.
+/// Whether a text is the value of some entry of the environment, perhaps with a star behind it.
 pub fn is_some_value(entries: &[Vec<u8>], text: &[u8]) -> bool
     ensures some { result ≡ is_some_value (bytes_of_names entries.now) text.now }
 {
@@ -74,12 +74,12 @@ pub fn is_some_value(entries: &[Vec<u8>], text: &[u8]) -> bool
     false
 }
 
-/// Whether a text is this value.
+/// Whether a text is this value, perhaps with a star behind it.
 fn is_value_text(text: &[u8], value: Option<&[u8]>) -> bool
     ensures is { result ≡ is_value_text text.now (lent value.entry) }
 {
     match value {
-        Some(value) => value == text,
+        Some(value) => value == text || value == without_last(text, b'*'),
         None => false,
     }
 }
@@ -120,8 +120,7 @@ pub fn values_in_text<'t>(
     form: Form,
     text: &'t [u8],
 ) -> Result<Vec<&'t [u8]>, AllocError>
-    ensures values { IfOk result (λ values. pieces_of values.items
-        ≡ filter_map (λ line. value_in_line (stripped_by form line)) (lines_in text.entry.now)) }
+    ensures values { IfOk result (λ values. pieces_of values.items ≡ values_in_lines form (lines_in text.entry.now)) }
 {
     let mut values = Vec::new(alloc);
     let mut left = lines_of(text);

@@ -1,8 +1,7 @@
 //! How streams are redacted, one after another.
 
-ghost use Rattle.acredact.specs.Bounds.{Bounded};
-ghost use Rattle.acredact.specs.Secrets.{Redactor};
-ghost use Rattle.acredact.specs.Totals.{DoesStream};
+ghost use Rattle.acredact.specs.Deeds.{Deed};
+ghost use Rattle.acredact.specs.Streams.{DoesStream};
 
 use crate::redact::redact_counting;
 use chromesquid::any::{Pieces, StreamCoverStart, cover_with, try_stream_replace_all};
@@ -11,11 +10,17 @@ use std::alloc::Global;
 
 /// What redacts streams, one after another.
 pub trait Way {
-    /// What it redacts, and by what.
-    ghost by: { Self → Redactor → Type 0 };
+    /// By what it may redact.
+    ghost Plan: { Type 0 };
+
+    /// What is done to texts by that.
+    ghost means: { Plan → Deed };
+
+    /// By what it does.
+    ghost by: { Self → Plan → Type 0 };
 
     /// Writes what the source gives to the sink, with a text in the place of each range that is replaced, and counts those of
-    /// each pattern that has a count. No count grows by more than the bytes that the source gave.
+    /// each pattern that has a count. Where that is promised, no count grows by more than the bytes that the source gave.
     ///
     /// # Errors
     ///
@@ -27,11 +32,10 @@ pub trait Way {
         source: &mut R,
         sink: &mut W,
     ) -> Result<(), StreamError>
-        requires ready { (r : Redactor) × by self.old r }
-        ensures done { (r : Redactor) → by self.old r → DoesStream R.Source W.Sink result
-            source.old source.new sink.old sink.new counts.old counts.new r }
-        ensures most { Bounded R.Source source.old source.new counts.old counts.new }
-        ensures still { (r : Redactor) → by self.old r → by self.new r };
+        requires ready { (plan : Plan) × by self.old plan }
+        ensures done { (plan : Plan) → by self.old plan → DoesStream R.Source W.Sink (means plan)
+            source.old source.new sink.old sink.new result counts.old counts.new }
+        ensures still { (plan : Plan) → by self.old plan → by self.new plan };
 }
 
 /// The key of pseudonyms.
@@ -54,7 +58,13 @@ pub struct Covering<'s, A, P> {
 }
 
 impl<A: Automaton, P: Pieces> Way for Covering<'_, A, P> {
+    ghost use Rattle.acredact.specs.Files.{deed_of};
+    ghost use Rattle.acredact.specs.Secrets.{Redactor};
     ghost use Rattle.acredact.specs.Ways.{IsCovering};
+
+    ghost Plan = { Redactor };
+
+    ghost means = { deed_of };
 
     ghost by = { λ way r. IsCovering A.Automaton way.start.automaton.now way.start.progress
         (P.rule way.pieces) r };
@@ -81,7 +91,13 @@ pub struct Replacing<'s, 't, A> {
 }
 
 impl<A: Automaton> Way for Replacing<'_, '_, A> {
+    ghost use Rattle.acredact.specs.Files.{deed_of};
+    ghost use Rattle.acredact.specs.Secrets.{Redactor};
     ghost use Rattle.acredact.specs.Ways.{IsRedactor};
+
+    ghost Plan = { Redactor };
+
+    ghost means = { deed_of };
 
     ghost by = { λ way r. IsRedactor A.Automaton way.automaton.now way.replacements.now r };
 

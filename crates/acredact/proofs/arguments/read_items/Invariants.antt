@@ -1,12 +1,8 @@
--- What is left of the arguments gives what all of them do, and its first mistake is theirs.
+-- What is left of the arguments gives what all of them do.
 use Rattle.acredact.proofs.Common.{texts}
 use Rattle.std.proofs.Common.{◌≡◌, drop}
 use Rattle.acredact.specs.Arguments.{all_given, given_by, given_from}
-use Rattle.acredact.specs.Mistakes.{first_mistake_line, line_from}
 use Rattle.acredact.proofs.arguments.read_items.Given as goal
 
 abbrev pub invariant-loop-argument : goal.invariant-loop-argument
-invariant-loop-argument l = record {
-  read : given_from l.expects (texts (drop l.argument-index l.arguments)) (all_given l.items.items) ≡ given_by (texts l.arguments);
-  mistake : line_from l.expects (texts (drop l.argument-index l.arguments)) (all_given l.items.items) ≡ first_mistake_line (texts l.arguments);
-}
+invariant-loop-argument l = given_from l.expects (texts (drop l.argument-index l.arguments)) (all_given l.items.items) ≡ given_by (texts l.arguments)

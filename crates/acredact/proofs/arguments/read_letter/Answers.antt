@@ -1,6 +1,6 @@
 -- A letter that no option has.
-use Rattle.std.proofs.Common.{rules, ◌≤◌, inr, length, lit<}
-use Rattle.std.specs.Prelude.{None}
+use Rattle.std.proofs.Common.{rules, ◌≡◌, inr, lit<}
+use Rattle.std.specs.Prelude.{None, Some, slice_get}
 use Rattle.std.proofs.lemmas.Str.Pattern.{strip_prefix_char}
 use Rattle.acredact.proofs.Readings.{no_letter}
 use Rattle.acredact.proofs.arguments.read_letter.Goals as goal
@@ -8,6 +8,6 @@ use Rattle.acredact.proofs.arguments.read_letter.Goals as goal
 pub returns-in-Some-first-clause-refused : goal.returns-in-Some-first-clause-refused
 returns-in-Some-first-clause-refused c =
     let letters = c.args.letters.now in
-    let some : 1 ≤ length letters = search rules in
-    inr (no_letter letters _ some (strip_prefix_char 101 letters None c.in_default.ensures.cases (lit< tt)) (strip_prefix_char 102 letters None c.in_default-strip_prefix.ensures.cases (lit< tt))
+    let some : slice_get letters 0 ≡ Some c.in-Some-first.letter.now = search rules in
+    inr (no_letter letters c.in-Some-first.letter.now _ some (strip_prefix_char 101 letters None c.in_default.ensures.cases (lit< tt)) (strip_prefix_char 102 letters None c.in_default-strip_prefix.ensures.cases (lit< tt))
     (strip_prefix_char 116 letters None c.in_default-strip_prefix-2.ensures.cases (lit< tt)))

@@ -11,11 +11,4 @@ returns-in_default-strip_prefix-clause-refused c =
     let rest = c.letters.rest.now in
     let lacks = strip_prefix_char 105 rest None c.in_default.ensures.cases (lit< tt) in
     let other = strip_prefix_char 119 rest None c.in_default-strip_prefix.ensures.cases (lit< tt) in
-    rw (sym (last_letter rest (all_given c.letters.items.items) lacks other).0 ∙ c.letters.invariant.read) at c.read_letter.ensures.refused
-
-pub returns-in_default-strip_prefix-clause-wrong : goal.returns-in_default-strip_prefix-clause-wrong
-returns-in_default-strip_prefix-clause-wrong c =
-    let rest = c.letters.rest.now in
-    let lacks = strip_prefix_char 105 rest None c.in_default.ensures.cases (lit< tt) in
-    let other = strip_prefix_char 119 rest None c.in_default-strip_prefix.ensures.cases (lit< tt) in
-    rw (sym (last_letter rest (all_given c.letters.items.items) lacks other).1 ∙ c.letters.invariant.mistake) at c.read_letter.ensures.wrong
+    rw (sym (last_letter rest (all_given c.letters.items.items) lacks other) ∙ c.letters.invariant.read) at c.read_letter.ensures.refused

@@ -1,15 +1,13 @@
--- What is left of the letters says what all of them do, and the first that no option has is among them.
+-- What is left of the letters says what all of them do.
 use denote.Shadow.{shadow}
 use denote.Text.{Utf8}
 use Rattle.std.proofs.Common.{◌≡◌, length}
 use Rattle.acredact.specs.Arguments.{all_given, by_letters}
-use Rattle.acredact.specs.Mistakes.{line_of_letters}
 use Rattle.acredact.proofs.arguments.read_letters.Given as goal
 
 abbrev pub invariant-letters : goal.invariant-letters
 invariant-letters l = record {
   read : by_letters l.rest (all_given l.items.items) ≡ by_letters l.fn.letters (all_given l.initial.items.items);
-  mistake : line_of_letters l.rest ≡ line_of_letters l.fn.letters;
   text : shadow (Utf8 l.rest);
 }
 

@@ -1,11 +1,13 @@
 -- Of the patterns so far it is told.
-use Rattle.acredact.proofs.Common.{TellsBytes, concat}
-use Rattle.std.proofs.Common.{◌≡◌, ℕ, List, ◌++◌, drop}
+use Rattle.acredact.proofs.Common.{concat}
+use Rattle.std.proofs.Common.{drop}
 use Rattle.acredact.specs.Arguments.{all_given}
 use Rattle.acredact.specs.Doubts.{list_doubt_lines}
 use Rattle.acredact.specs.Tables.{secrets_of}
+use Rattle.acredact.proofs.Doubting.{ToldSoFar}
 use Rattle.acredact.proofs.doubts.tell_doubtful.Given as goal
 
 abbrev pub invariant-loop-rule : goal.invariant-loop-rule
-invariant-loop-rule g l = (done : List ℕ) × (concat (list_doubt_lines (all_given l.fn.given) (secrets_of l.fn.rules)) ≡ done ++ concat (list_doubt_lines (all_given l.fn.given) (secrets_of (drop l.rule-index l.fn.rules))))
-    × TellsBytes g.E.Sink l.initial.errors l.errors done
+invariant-loop-rule g l =
+    let lines = list_doubt_lines (all_given l.fn.given) in
+    ToldSoFar g.E.Sink l.initial.errors l.errors (concat (lines (secrets_of l.fn.rules))) (concat (lines (secrets_of (drop l.rule-index l.fn.rules))))

@@ -3,18 +3,14 @@ use Rattle.acredact.proofs.Common.{name_bytes}
 use Rattle.std.proofs.Common.{arith, rules, ◌≡◌}
 use Rattle.std.specs.Prelude.{Err}
 use Rattle.std.proofs.lemmas.List.{at_drop_all, at_drop_more}
-use Rattle.acredact.specs.InPlace.{work_for}
 use Rattle.acredact.proofs.PlacedCalls.{place_ends, places_more, places_none}
-use Rattle.acredact.proofs.Turns.{turn_end, turn_fails, turn_first, turn_next}
+use Rattle.acredact.proofs.Turns.{turn_end, turn_fails, turn_next}
 use Rattle.acredact.proofs.in_place.place_each.Goals as goal
-
-pub loop-name-init : goal.loop-name-init
-loop-name-init g c = λ p of. turn_first
 
 pub loop-name-preserved : goal.loop-name-preserved
 loop-name-preserved g c = λ p of.
     turn_next (c.loop-name.invariant p of) (at_drop_more name_bytes c.args.job.now.names.now c.loop-name.name-index _ c.loop-name-test.true) c.both-all.ensures.both
-    (places_more g.O.File.Write g.E.Sink g.O.Outputs (work_for g.F.Folder c.args.job.now p) c.in_ok-whole.whole (c.in_ok-whole.ensures.outcome p of))
+    (places_more (c.in_ok-whole.ensures.outcome p of))
 
 pub returns-in_err-whole : goal.returns-in_err-whole
 returns-in_err-whole g c =
@@ -22,13 +18,12 @@ returns-in_err-whole g c =
     record {
       outcome = λ p of.
           rw is
-          ((turn_fails (c.loop-name.invariant p of) (at_drop_more name_bytes c.args.job.now.names.now c.loop-name.name-index _ c.loop-name-test.true)
-          (place_ends g.O.File.Write g.E.Sink g.O.Outputs (work_for g.F.Folder c.args.job.now p) {mid = (c.place_one.new.outputs, c.place_one.new.streams, c.place_one.new.counts, c.place_one.new.volume)} {error = c.in_err-whole.field-0.0} (c.in_err-whole.ensures.outcome p of))).is);
+          (turn_fails (c.loop-name.invariant p of) (at_drop_more name_bytes c.args.job.now.names.now c.loop-name.name-index _ c.loop-name-test.true)
+          (place_ends (c.in_err-whole.ensures.outcome p of)));
     }
 
 pub returns : goal.returns
 returns g c = record {
   outcome = λ p of.
-      (turn_end (c.loop-name.invariant p of) (at_drop_all name_bytes c.args.job.now.names.now c.loop-name.name-index (omega (arith, c.loop-name-test.false)))
-      (places_none g.O.File.Write g.E.Sink g.O.Outputs (work_for g.F.Folder c.args.job.now p) _)).is;
+      turn_end (c.loop-name.invariant p of) (at_drop_all name_bytes c.args.job.now.names.now c.loop-name.name-index (omega (arith, c.loop-name-test.false))) (places_none _);
 }

@@ -1,9 +1,10 @@
 -- A new file is made, filled, and takes the place; or the file stays as it was.
 use Rattle.acredact.proofs.Common.{bytes_left, is_input}
-use Rattle.std.proofs.Common.{rules, ◌≡◌, inl, inr, refl, true, false}
+use Rattle.std.proofs.Common.{rules, ◌≡◌, [], ◌∷◌, inl, inr, refl, true, false}
 use Rattle.acredact.specs.InPlace.{IsSparedLine, work_for}
-use Rattle.acredact.proofs.PlacedCalls.{place_settled}
+use Rattle.acredact.proofs.PlacedCalls.{place_cut, place_settled, place_spared, spared_one}
 use Rattle.acredact.proofs.RedactedCalls.{all_redacted, files_told}
+use Rattle.acredact.proofs.RuledFiles.{told_any}
 use Rattle.acredact.proofs.Statuses.{tells_one}
 use Rattle.acredact.proofs.Totals.{one_counts}
 use Rattle.acredact.proofs.in_place.place_one.Goals as goal
@@ -11,27 +12,33 @@ use Rattle.acredact.proofs.in_place.place_one.Goals as goal
 pub returns-then-is_input : goal.returns-then-is_input
 returns-then-is_input g c =
     let named : is_input c.args.name.now ≡ true = search rules in
-    record { outcome = λ p of. (inl (named, refl), tells_one g.E.Sink (IsSparedLine c.args.name.now) _ _ _ (inr (inr (named, refl))) c.tell_no_file.ensures.told) }
+    record {
+      outcome = λ p of.
+          place_spared (inl (named, refl)) (tells_one g.E.Sink (IsSparedLine c.args.name.now) _ _ _ (inr (inr (named, refl))) c.tell_no_file.ensures.told);
+    }
 
 pub returns-in-Err : goal.returns-in-Err
 returns-in-Err g c = record {
-  outcome = λ p of. (
-    inr (inl (c.in-Err.reason, c.in-Err.ensures.made)),
-    tells_one g.E.Sink (IsSparedLine c.args.name.now) _ _ _ (inl (c.in-Err.reason, refl)) c.tell_unread.ensures.told,
-  );
+  outcome = λ p of.
+      place_spared (inr (inl (c.in-Err.reason, c.in-Err.ensures.made))) (tells_one g.E.Sink (IsSparedLine c.args.name.now) _ _ _ (inl (c.in-Err.reason, refl)) c.tell_unread.ensures.told);
 }
 
-pub returns-in-Ok : goal.returns-in-Ok
-returns-in-Ok g c =
+pub returns-then-matches : goal.returns-then-matches
+returns-then-matches g c = record {
+  outcome = λ p of.
+      place_cut (inr (inr (record { held = _; meanwhile = c.make.new.self; made = c.in-Ok.ensures.made; kept = inl c.remove.ensures.removed })))
+      (told_any g.E.Sink (c.args.name.now ∷ []) (IsSparedLine c.args.name.now) c.redact_by-done.result _ _ (spared_one c.args.name.now) (files_told g.O.File.Write g.E.Sink _ _ _ _ c.redact_by-done.result (c.redact_by-done.ensures.done p of).outcome));
+}
+
+pub returns-else-matches : goal.returns-else-matches
+returns-else-matches g c =
     let named : is_input c.args.name.now ≡ false = search rules in
     let run = c.redact_by-done in
     record {
       outcome = λ p of.
           let does = run.ensures.done p of in
           let files = does.outcome in
-          let work = work_for g.F.Folder c.args.job.now p in
-          place_settled g.O.File.Write g.E.Sink g.O.Outputs work c.args.name.now run.result c.settle.result c.args.outputs.now c.make.new.self c.settle.new.outputs c.args.streams.now run.new.streams c.settle.new.streams
-          c.args.counts.now run.new.counts c.args.volume.now run.new.volume _ (files_told g.O.File.Write g.E.Sink _ _ _ run.result files)
+          place_settled run.result c.make.new.self run.new.streams _ (files_told g.O.File.Write g.E.Sink _ _ _ _ run.result files)
           (λ all puts. (
             (
               run.new.streams.output,
@@ -46,10 +53,9 @@ returns-in-Ok g c =
               },
               bytes_left c.args.streams.now.input,
               bytes_left run.new.streams.input,
-              all_redacted g.O.File.Write g.E.Sink _ _ _ run.result files all,
+              all_redacted g.O.File.Write g.E.Sink _ _ _ _ run.result files all,
             ),
-            files.quiet all,
-            one_counts work c.args.name.now _ _ _ _ (does.counted all),
+            one_counts (work_for g.F.Folder c.args.job.now p) c.args.name.now _ _ _ _ (does.counted all),
             does.read all,
           ))
           c.in-Ok.ensures.made c.settle.ensures.input c.settle.ensures.settled;

@@ -1,26 +1,20 @@
--- The file is that of the input, or of the folder.
-use Rattle.acredact.proofs.Common.{IfOk-weaker}
-use Rattle.std.proofs.Common.{◌∙◌, refl, sym}
+-- The output goes to the file, or it is that of the input, or of the folder.
+use Rattle.std.proofs.Common.{◌∙◌, inr, rules, sym}
 use Rattle.acredact.specs.Checks.{quest_of}
-use Rattle.acredact.proofs.Checks.{look_file, look_refused}
+use Rattle.acredact.proofs.LookedFiles.{look_none, looked_file}
 use Rattle.acredact.proofs.OneFile.{read_input, read_opened}
 use Rattle.acredact.proofs.look.look_at_file.Goals as goal
 
-pub returns-then-is_input : goal.returns-then-is_input
-returns-then-is_input g c = record {
-  looks = λ p of.
-      IfOk-weaker c.look_at_input.result _ _
-      (λ look. look_file (quest_of g.F.Folder c.args.files.now.folder.now c.args.files.now.words p) c.args.name.now look (read_input (sym c.is_input.ensures.is ∙ c.if-is_input.true))) (c.look_at_input.ensures.looks p of);
-}
+pub returns-then-is_output-clause-looks : goal.returns-then-is_output-clause-looks
+returns-then-is_output-clause-looks g c = λ s by. (search rules, look_none (quest_of g.F.Folder c.args.files.now s) c.args.name.now _ _)
 
-pub returns-in-Ok : goal.returns-in-Ok
-returns-in-Ok g c = record {
-  looks = λ p of.
-      IfOk-weaker c.look_at_input-in-Ok.result _ _
-      (λ look. look_file (quest_of g.F.Folder c.args.files.now.folder.now c.args.files.now.words p) c.args.name.now look (read_opened (sym c.is_input.ensures.is ∙ c.if-is_input.false) c.in-Ok.ensures.told)) (c.look_at_input-in-Ok.ensures.looks p of);
-}
+pub returns-then-is_input-clause-looks : goal.returns-then-is_input-clause-looks
+returns-then-is_input-clause-looks g c = λ s by.
+    looked_file (quest_of g.F.Folder c.args.files.now s) c.args.name.now c.look.result _ _ (read_input (sym c.is_input.ensures.is ∙ c.if-is_input.true)) c.look.ensures.only (c.look.ensures.looks s by)
 
-pub returns-in-Err : goal.returns-in-Err
-returns-in-Err g c = record {
-  looks = λ p of. look_refused (quest_of g.F.Folder c.args.files.now.folder.now c.args.files.now.words p) c.args.name.now c.in-Err.reason _ _ (sym c.is_input.ensures.is ∙ c.if-is_input.false) refl c.in-Err.ensures.refused;
-}
+pub returns-in-Ok-clause-looks : goal.returns-in-Ok-clause-looks
+returns-in-Ok-clause-looks g c = λ s by.
+    looked_file (quest_of g.F.Folder c.args.files.now s) c.args.name.now c.look-in-Ok.result _ _ (read_opened (sym c.is_input.ensures.is ∙ c.if-is_input.false) c.in-Ok.ensures.told) c.look-in-Ok.ensures.only (c.look-in-Ok.ensures.looks s by)
+
+pub returns-in-Err-clause-looks : goal.returns-in-Err-clause-looks
+returns-in-Err-clause-looks g c = λ s by. (inr c.in-Err.ensures.refused, look_none (quest_of g.F.Folder c.args.files.now s) c.args.name.now _ _)

@@ -1,28 +1,53 @@
--- What the status says, by what is answered.
-use Rattle.std.proofs.Common.{rules, ◌≡◌, inl, inr, refl, true, false}
-use Rattle.std.specs.Prelude.{Ok}
+-- What was loaded is redacted by, behind what is told of doubtful patterns.
+use Rattle.acredact.proofs.Common.{Folders, Keeps-refl, bytes_left, name_bytes}
+use Rattle.std.proofs.Common.{◌∙◌, ℕ, List, Option, ap, inl, refl, subst, sym}
 use Rattle.acredact.specs.Arguments.{all_given}
-use Rattle.acredact.specs.Calls.{call_of}
-use Rattle.acredact.specs.Ruled.{IsRuledTold}
-use Rattle.acredact.proofs.Calls.{tells_last}
-use Rattle.acredact.proofs.RuledCalls.{ruled_done, ruled_two}
+use Rattle.acredact.specs.Calls.{AreKeyedBy, call_of, reading_by}
+use Rattle.acredact.specs.Loading.{Loaded, key_in}
+use Rattle.acredact.specs.Ruled.{AreRuledLoaded, AreRulesGivenBy, IsRuledTold, load_as, ruled_load}
+use Rattle.acredact.specs.Tables.{secrets_of}
+use Rattle.acredact.specs.declared.options.Item.{Item}
+use Rattle.acredact.specs.declared.ruled_load.GivenRules.{GivenRules}
+use Rattle.acredact.specs.declared.secrets.Secrets.{Secrets}
+use Rattle.acredact.proofs.Calls.{tells_same}
+use Rattle.acredact.proofs.Naming.{ruled_some}
+use Rattle.acredact.proofs.RuledCalls.{all_doubts_told, outcome_early, ruled_behind}
 use Rattle.acredact.proofs.ruled.redact_by_rules.Goals as goal
 
-pub returns-in-Ok-true-clause-says : goal.returns-in-Ok-true-clause-says
-returns-in-Ok-true-clause-says g c = λ asks.
-    let whole : c.redact_given.result ≡ Ok true = search rules in
-    ruled_done g.E.Sink (call_of g.F.Folder c.args.folder.now (all_given c.args.given.now)) _ _ _ _ _ _
-    (rw whole at c.redact_given.ensures.outcome)
+-- the key was loaded beside them
+ruled_loaded : {F X : Type 0} (D : Folders F X) (folder : F) (items : List Item) (made : GivenRules) (keyed : Secrets) {left between left' : Option (List ℕ)}
+    → AreRulesGivenBy D folder items left between made → AreKeyedBy D folder items made.secrets.items between left' keyed
+    → AreRuledLoaded (reading_by (call_of D folder (all_given items))) (all_given items) (load_as (secrets_of keyed.rules.items) made.rules (key_in keyed.key)) left left'
+ruled_loaded D folder items made keyed {left} {between} {left'} given are =
+    subst (λ (l : Loaded). AreRuledLoaded (reading_by (call_of D folder (all_given items))) (all_given items) (load_as l.secrets made.rules l.key) left left') (sym are.is)
+    (record { secrets = secrets_of made.secrets.items; between = between; rules_given = given; key_given = are.key_given; named = refl })
 
-pub returns-in-Ok-false-clause-says : goal.returns-in-Ok-false-clause-says
-returns-in-Ok-false-clause-says g c = λ asks.
-    let partly : c.redact_given.result ≡ Ok false = search rules in
-    let of = rw partly at c.redact_given.ensures.outcome in
-    ruled_two g.E.Sink (call_of g.F.Folder c.args.folder.now (all_given c.args.given.now)) of.begun (of.partly refl)
-
-pub returns-in-Err-clause-says : goal.returns-in-Err-clause-says
-returns-in-Err-clause-says g c = λ asks.
+pub returns-in-Err-clause-outcome : goal.returns-in-Err-clause-outcome
+returns-in-Err-clause-outcome g c =
     let call = call_of g.F.Folder c.args.folder.now (all_given c.args.given.now) in
-    let told = c.tell_ruled.ensures.told in
-    ruled_two g.E.Sink call c.in-Err.ensures.outcome.begun
-    (tells_last g.E.Sink (IsRuledTold call) _ _ _ told.0 c.in-Err.ensures.outcome.told (inr (inl (c.in-Err.failure, told.1))) told.2)
+    outcome_early g.E.Sink call (inl (Keeps-refl _)) (tells_same g.E.Sink (IsRuledTold call) _ _ refl)
+
+pub returns-in-Err-load_key-clause-outcome : goal.returns-in-Err-load_key-clause-outcome
+returns-in-Err-load_key-clause-outcome g c =
+    let call = call_of g.F.Folder c.args.folder.now (all_given c.args.given.now) in
+    outcome_early g.E.Sink call (inl (Keeps-refl _)) (tells_same g.E.Sink (IsRuledTold call) _ _ refl)
+
+pub ready_for_lines-requires : goal.ready_for_lines-requires
+ready_for_lines-requires g c =
+    let loaded = ruled_loaded g.F.Folder c.args.folder.now c.args.given.now c.in-Ok.loaded c.in-Ok-load_key.keyed c.in-Ok.ensures.given c.in-Ok-load_key.ensures.keyed in
+    record { some = rw c.as_slice-secrets.ensures.value (ruled_some _ _ _ _ _ loaded) }
+
+pub returns-in-Ok-ready_for_lines-clause-outcome : goal.returns-in-Ok-ready_for_lines-clause-outcome
+returns-in-Ok-ready_for_lines-clause-outcome g c =
+    let loaded = ruled_loaded g.F.Folder c.args.folder.now c.args.given.now c.in-Ok.loaded c.in-Ok-load_key.keyed c.in-Ok.ensures.given c.in-Ok-load_key.ensures.keyed in
+    ruled_behind g.E.Sink (call_of g.F.Folder c.args.folder.now (all_given c.args.given.now)) (ruled_load c.as_slice-secrets.result.now c.in-Ok.loaded.rules c.key_bytes-key.result) c.redact_by.result
+    (bytes_left c.args.streams.now.input) (bytes_left c.load_key.new.input) _ _ _ _ _ _
+    (rw (c.as_slice-secrets.ensures.value, c.key_bytes-key.ensures.key) loaded) c.ready_for_lines.ensures.told c.redact_by.ensures.outcome
+
+pub returns-clause-outcome : goal.returns-clause-outcome
+returns-clause-outcome g c =
+    let call = call_of g.F.Folder c.args.folder.now (all_given c.args.given.now) in
+    outcome_early g.E.Sink call (inl (Keeps-refl _)) (all_doubts_told g.E.Sink call (secrets_of c.as_slice-secrets.result.now) _ _ c.ready_for_lines.ensures.told)
+
+pub redact_by-requires : goal.redact_by-requires
+redact_by-requires g c = record { can = c.in-Ok-ready_for_lines.ensures.can; of = c.in-Ok-ready_for_lines.ensures.ready.of; names = ap name_bytes c.as_slice.ensures.value ∙ c.in-Ok-ready_for_lines.ensures.ready.names }

@@ -25,10 +25,10 @@ returns-in-Ok-clause-bound g c = rw c.status_of.ensures.status (check_done g.E.S
 
 pub returns-in-Err-clause-says : goal.returns-in-Err-clause-says
 returns-in-Err-clause-says g c = λ asks.
-    let told = c.tell_ruled.ensures.told in
-    record {
+    let told = c.report.ensures.told in
+    rw c.report.ensures.failed (record {
       says = says_failed _ _ _ _ (tells_last g.E.Sink (IsRuledTold (call_of g.F.Folder c.args.folder.now (all_given c.args.given.now))) _ _ _ told.0 c.in-Err.ensures.outcome.told (inr (inl (c.in-Err.failure, told.1))) told.2);
       begins = c.in-Err.ensures.outcome.begun;
       unwritten = c.check_given.ensures.unwritten;
       flushed = λ summary (less : 2 < 2). absurd (omega (arith, less));
-    }
+    })

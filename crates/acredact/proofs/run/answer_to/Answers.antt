@@ -1,17 +1,16 @@
 -- The arguments are right or wrong.
 use Rattle.acredact.proofs.Common.{Keeps-refl, bytes_left, texts}
 use Rattle.std.proofs.Common.{◌≡◌, inl, inr, List, ap, refl, sym, ◌∙◌, arith, ◌<◌}
-use Rattle.std.specs.Prelude.{None, Some}
+use Rattle.std.specs.Prelude.{Err, None, Some}
 use Rattle.acredact.specs.Arguments.{Given, all_asked, all_given}
 use Rattle.acredact.specs.Calls.{IsWrongLine, call_of}
 use Rattle.acredact.specs.Ruled.{IsRuledTold}
 use Rattle.acredact.specs.declared.failure.Failure.TheVariants.{Arguments}
-use Rattle.acredact.specs.declared.ruled_failure.RuledFailure.TheVariants.{Plain}
-use Rattle.acredact.proofs.Calls.{call_refused}
+use Rattle.acredact.proofs.Calls.{call_refused, tells_same}
 use Rattle.acredact.proofs.Checks.{check_refused, says_failed, status_ended}
 use Rattle.acredact.proofs.Given.{memory_alone, same_given}
-use Rattle.acredact.proofs.Statuses.{status_failed, tells_one}
-use Rattle.acredact.proofs.RuledCalls.{ruled_two}
+use Rattle.acredact.proofs.Statuses.{status_told, tells_one}
+use Rattle.acredact.proofs.RuledCalls.{outcome_early, ruled_ends}
 use Rattle.acredact.proofs.run.answer_to.Goals as goal
 
 pub returns-in-Ok : goal.returns-in-Ok
@@ -41,20 +40,19 @@ returns-in-Err g c =
           let left = bytes_left c.args.streams.now.input in
           let old = c.args.streams.now.errors in
           let failure = Arguments c.in-Err.mistake in
-          let ended = tells_one g.E.Sink (IsRuledTold call) old c.report.new.errors told.0 (inr (inl (Plain failure, told.1))) told.2 in
           rw c.report.ensures.failed
           (record {
-            redacted = λ asks. status_failed g.W.Write g.E.Sink call c.args.streams.now c.args.streams.now (λ none. record { unread = refl; unwritten = refl }) failure c.report.new.errors told.0
-                (call_refused g.W.Write g.E.Sink call _ _ failure _ _ (inl (inl (memory given right)))) told.1 told.2;
+            redacted = λ asks. status_told g.W.Write g.E.Sink call c.args.streams.now c.args.streams.now (Err failure) 2 c.report.new.errors (λ none. tt) (λ none. record { unread = refl; unwritten = refl }) (refl, told)
+                (call_refused g.W.Write g.E.Sink call _ _ failure _ _ (inl (inl (memory given right))));
             checked = λ asks. record {
               patternless = λ none. refl;
               unread = λ none. refl;
               says = status_ended g.E.Sink call left left old failure old c.report.new.errors told.0 (check_refused g.E.Sink call left left old failure (inl (inl (memory given right)))) told.1 told.2;
               unwritten = refl;
             };
-            ruled = λ asks. ruled_two g.E.Sink call (inl (Keeps-refl _)) ended;
+            ruled = λ asks. ruled_ends g.E.Sink call (Err failure) 2 _ _ _ _ old old _ (refl, told) (outcome_early g.E.Sink call (inl (Keeps-refl _)) (tells_same g.E.Sink (IsRuledTold call) old old refl));
             ruled_check = λ asks. record {
-              says = says_failed _ _ _ _ ended;
+              says = says_failed _ _ _ _ (tells_one g.E.Sink (IsRuledTold call) old c.report.new.errors told.0 (inr (inl (failure, told.1))) told.2);
               begins = inl (Keeps-refl _);
               unwritten = λ summary. refl;
               flushed = λ summary (less : 2 < 2). absurd (omega arith);

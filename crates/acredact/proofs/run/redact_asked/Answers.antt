@@ -1,27 +1,26 @@
 -- No option gives a pattern; or what comes of the files, and then the counts, come behind what is told of patterns of lists and of pieces.
-use Rattle.acredact.proofs.Common.{Failure, Other, OutOfMemory, bytes_left, failure_of_stream}
+use Rattle.acredact.proofs.Common.{Other, OutOfMemory, bytes_left, failure_of_stream, on_ok_weaker}
 use Rattle.std.proofs.Common.{rules, ◌≡◌, ◌∙◌, ap, false, inl, inr, refl}
-use Rattle.std.specs.Prelude.{Bool, Err, Ok, OnOk, Result}
-use Rattle.acredact.specs.Arguments.{all_given, counts_asked}
+use Rattle.std.specs.Prelude.{Bool, Err, Ok}
+use Rattle.acredact.specs.Arguments.{all_given, counts_asked, gives_pattern}
 use Rattle.acredact.specs.Bounds.{NumbersOfAll}
-use Rattle.acredact.specs.Calls.{call_of, gives_pattern, names_asked}
+use Rattle.acredact.specs.Calls.{call_of, names_asked}
 use Rattle.acredact.specs.Counts.{zeros}
 use Rattle.acredact.specs.Files.{FilesOutcome, Work}
 use Rattle.acredact.specs.Loading.{key_in, loaded_in}
 use Rattle.acredact.specs.Summaries.{no_volume}
 use Rattle.acredact.specs.Totals.{CountsOfNames}
 use Rattle.acredact.specs.Volumes.{ReadsVolume}
-use Rattle.acredact.proofs.Calls.{call_refused, job_does, load_fails, passed_on}
+use Rattle.acredact.proofs.Calls.{call_ended, call_refused, job_does, load_fails, may_fail, passed_on}
 use Rattle.acredact.proofs.Limits.{bounded_from}
-use Rattle.acredact.proofs.Ready.{gives_none}
-use Rattle.acredact.proofs.RedactedCalls.{call_cut, call_memory, call_told}
-use Rattle.acredact.proofs.Warned.{call_unready}
+use Rattle.acredact.proofs.RedactedCalls.{call_cut, call_told}
+use Rattle.acredact.proofs.Warned.{may_prepare, unready_may}
 use Rattle.acredact.proofs.run.redact_asked.Goals as goal
 
 pub returns-then-not-gives_pattern-clause-outcome : goal.returns-then-not-gives_pattern-clause-outcome
 returns-then-not-gives_pattern-clause-outcome g c = λ asks.
     let none : gives_pattern (all_given c.args.given.now) ≡ false = search rules in
-    call_refused g.W.Write g.E.Sink (call_of g.F.Folder c.args.folder.now (all_given c.args.given.now)) _ _ _ _ _ (inl (inr (refl, gives_none _ none)))
+    call_refused g.W.Write g.E.Sink (call_of g.F.Folder c.args.folder.now (all_given c.args.given.now)) _ _ _ _ _ (inl (inr (refl, none)))
 
 pub returns-in-Err-clause-outcome : goal.returns-in-Err-clause-outcome
 returns-in-Err-clause-outcome g c = λ asks.
@@ -30,8 +29,11 @@ returns-in-Err-clause-outcome g c = λ asks.
 
 pub returns-in-Err-prepare-clause-outcome : goal.returns-in-Err-prepare-clause-outcome
 returns-in-Err-prepare-clause-outcome g c = λ asks.
-    call_unready g.W.Write g.E.Sink (call_of g.F.Folder c.args.folder.now (all_given c.args.given.now)) (bytes_left c.args.streams.now.input) (loaded_in c.in-Ok.secrets) _ c.in-Err-prepare.failure _ _ _ c.in-Ok.ensures.loaded
-    c.in-Err-prepare.ensures.fails c.in-Err-prepare.ensures.untold
+    let call = call_of g.F.Folder c.args.folder.now (all_given c.args.given.now) in
+    let loaded = c.in-Ok.ensures.loaded in
+    let untold = c.in-Err-prepare.ensures.untold in
+    call_ended g.W.Write g.E.Sink call _ _ c.in-Err-prepare.failure _ _ _ (may_prepare call (loaded_in c.in-Ok.secrets) _ _ loaded _ c.in-Err-prepare.failure c.in-Err-prepare.ensures.fails)
+    (unready_may g.E.Sink call _ (λ line is. inr (inr (inr is))) (loaded_in c.in-Ok.secrets) _ _ loaded _ _ untold) (unready_may g.E.Sink call _ (λ line is. inr is) (loaded_in c.in-Ok.secrets) _ _ loaded _ _ untold)
 
 pub redact_by-requires : goal.redact_by-requires
 redact_by-requires g c = record { ready = c.job_of-job.ensures.can c.in-Ok.ensures.some c.in-Ok-prepare.ensures.ready }
@@ -39,10 +41,8 @@ redact_by-requires g c = record { ready = c.job_of-job.ensures.can c.in-Ok.ensur
 pub returns-in_err-counted-clause-outcome : goal.returns-in_err-counted-clause-outcome
 returns-in_err-counted-clause-outcome g c = λ asks.
     let call = call_of g.F.Folder c.args.folder.now (all_given c.args.given.now) in
-    let begun = record c.args.streams.now { input = c.load.new.input; errors = c.prepare.new.errors } in
     let is : c.from_residual.result ≡ Err (Other OutOfMemory) = passed_on c.from_residual.result (Other OutOfMemory) c.from_residual.ensures.1 in
-    rw is
-    (call_memory g.W.Write g.E.Sink call (bytes_left c.args.streams.now.input) (loaded_in c.in-Ok.secrets) begun c.in-Ok.ensures.loaded c.args.streams.now.errors c.in-Ok-prepare.ensures.told)
+    rw is (call_refused g.W.Write g.E.Sink call _ _ (Other OutOfMemory) _ _ (may_fail call _ (Other OutOfMemory) (inl refl)))
 
 pub returns-in_err-all-clause-outcome : goal.returns-in_err-all-clause-outcome
 returns-in_err-all-clause-outcome g c = λ asks.
@@ -53,7 +53,7 @@ returns-in_err-all-clause-outcome g c = λ asks.
     let files = job_does g.F.Folder c.args.folder.now call.given load c.job_of-job.result (c.job_of-job.ensures.job c.in-Ok-prepare.ensures.ready)
     (λ (w : Work). FilesOutcome g.W.Write g.E.Sink w (Err c.in_err-all.field-0.0) begun c.redact_by.new.streams) (c.in_err-all.ensures.done _ c.in-Ok-prepare.ensures.ready.of).outcome in
     rw is
-    (call_cut g.W.Write g.E.Sink call (bytes_left c.args.streams.now.input) load begun c.in-Ok.ensures.loaded c.args.streams.now.errors c.in-Ok-prepare.ensures.told c.redact_by.new.streams c.in_err-all.field-0.0 files)
+    (call_cut g.W.Write g.E.Sink call (bytes_left c.args.streams.now.input) load begun c.redact_by.new.streams c.in-Ok.ensures.loaded c.args.streams.now.errors c.in-Ok-prepare.ensures.told c.in_err-all.field-0.0 files)
 
 pub returns-clause-outcome : goal.returns-clause-outcome
 returns-clause-outcome g c = λ asks.
@@ -70,20 +70,15 @@ returns-clause-outcome g c = λ asks.
     c.as_mut_slice-tally.ensures.value ∙ c.in_ok-counted.ensures.counts ∙ ap (λ (b : Bool). zeros b c.as_slice-rules.result.now) c.counts.ensures.counts ∙ ap (zeros (counts_asked call.given)) value in
     let does = c.in_ok-all.ensures.done _ c.in-Ok-prepare.ensures.ready.of in
     let files = as_asked (λ w. FilesOutcome g.W.Write g.E.Sink w (Ok c.in_ok-all.all) begun c.redact_by.new.streams) does.outcome in
-    let numbers = as_asked (λ w. NumbersOfAll w.holds w.names c.as_mut_slice-tally.result.now counts no_volume volume old new) does.most in
+    let numbers = as_asked (λ w. NumbersOfAll w.holds w.names c.as_mut_slice-tally.result.now counts no_volume volume old new) (does.most refl) in
     call_told g.W.Write g.E.Sink call (bytes_left c.args.streams.now.input) items (key_in c.in-Ok.secrets.key) begun c.redact_by.new.streams c.in-Ok.ensures.loaded c.args.streams.now.errors c.in-Ok-prepare.ensures.told counts volume
-    c.in_ok-all.all c.tell_counted.result c.tell_counted.new.errors files
+    c.tell_counted.new.errors c.in_ok-all.all c.tell_counted.result files
     (λ whole. (
       rw none at (as_asked (λ w. CountsOfNames old new c.as_mut_slice-tally.result.now counts w w.names) (does.counted (ap Ok whole))),
       as_asked (λ w. ReadsVolume w.holds w.names no_volume volume old new) (does.read (ap Ok whole)),
     ))
     c.tell_counted.ensures.all (rw value at c.tell_counted.ensures.told) c.tell_counted.ensures.fails (rw value at c.tell_counted.ensures.lines)
     (bounded_from call.holds (names_asked call.given) (counts_asked call.given) items counts volume _ _ (rw none at numbers))
-    (rw value at c.tell_counted.ensures.these)
-
-on_either : {P : Type 0} (result : Result Bool Failure) → P → OnOk result P
-on_either (Ok all) is = is
-on_either (Err failure) is = tt
 
 pub returns-clause-flushed : goal.returns-clause-flushed
-returns-clause-flushed g c = on_either c.tell_counted.result (c.in_ok-all.ensures.done _ c.in-Ok-prepare.ensures.ready.of).flushed
+returns-clause-flushed g c = on_ok_weaker c.tell_counted.result (λ told. (c.in_ok-all.ensures.done _ c.in-Ok-prepare.ensures.ready.of).flushed) c.tell_counted.ensures.told

@@ -1,14 +1,11 @@
--- None of the patterns so far is too short.
-use Rattle.std.proofs.Common.{◌≡◌, ◌+◌, List, ◌++◌, drop, length}
-use Rattle.acredact.specs.Short.{AreLong}
-use Rattle.acredact.specs.Tables.{Secret, secrets_of}
+-- The first that is too short is the first of what is left.
+use Rattle.std.proofs.Common.{◌≡◌, ◌+◌, drop}
+use Rattle.acredact.specs.Short.{first_short}
+use Rattle.acredact.specs.Tables.{secrets_of}
 use Rattle.acredact.proofs.short.refuse_first.Given as goal
 
 abbrev pub invariant-loop-rule : goal.invariant-loop-rule
 invariant-loop-rule l = record {
   count : l.number ≡ l.rule-index + 1;
-  front : List Secret;
-  are : secrets_of l.fn.rules ≡ front ++ secrets_of (drop l.rule-index l.fn.rules);
-  before : AreLong front;
-  many : l.number ≡ length front + 1;
+  first : first_short l.number (secrets_of (drop l.rule-index l.fn.rules)) ≡ first_short 1 (secrets_of l.fn.rules);
 }

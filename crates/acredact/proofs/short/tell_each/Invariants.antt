@@ -1,14 +1,13 @@
 -- Of the patterns so far it is told.
-use Rattle.acredact.proofs.Common.{TellsBytes, concat}
-use Rattle.std.proofs.Common.{◌≡◌, ℕ, ◌+◌, List, ◌++◌, drop}
+use Rattle.acredact.proofs.Common.{concat}
+use Rattle.std.proofs.Common.{◌≡◌, ◌+◌, drop}
 use Rattle.acredact.specs.Short.{short_lines}
 use Rattle.acredact.specs.Tables.{secrets_of}
+use Rattle.acredact.proofs.Doubting.{ToldSoFar}
 use Rattle.acredact.proofs.short.tell_each.Given as goal
 
 abbrev pub invariant-loop-rule : goal.invariant-loop-rule
 invariant-loop-rule g l = record {
   count : l.number ≡ l.rule-index + 1;
-  done : List ℕ;
-  are : concat (short_lines 1 (secrets_of l.fn.rules)) ≡ done ++ concat (short_lines l.number (secrets_of (drop l.rule-index l.fn.rules)));
-  told : TellsBytes g.E.Sink l.initial.errors l.errors done;
+  so_far : ToldSoFar g.E.Sink l.initial.errors l.errors (concat (short_lines 1 (secrets_of l.fn.rules))) (concat (short_lines l.number (secrets_of (drop l.rule-index l.fn.rules))));
 }

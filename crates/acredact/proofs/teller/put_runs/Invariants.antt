@@ -1,6 +1,6 @@
 -- What is told of the runs that are left comes behind what was put.
 use Rattle.std.proofs.Common.{◌≡◌, ◌++◌, drop}
-use Rattle.acredact.specs.RuledChecks.{runs_findings}
+use Rattle.acredact.specs.Findings.{runs_findings}
 use Rattle.acredact.proofs.teller.put_runs.Given as goal
 
 abbrev pub invariant-loop-run : goal.invariant-loop-run

@@ -1,13 +1,12 @@
 -- What is left gives the other values.
-use Rattle.acredact.proofs.Common.{filter_map, pieces_of}
+use Rattle.acredact.proofs.Common.{pieces_of}
 use Rattle.std.proofs.Common.{◌≡◌, ◌++◌, length}
-use Rattle.acredact.specs.Tables.{lines_in, parts_left, stripped_by}
-use Rattle.acredact.specs.Values.{value_in_line}
+use Rattle.acredact.specs.Tables.{lines_in, parts_left}
+use Rattle.acredact.specs.Values.{values_in_lines}
 use Rattle.acredact.proofs.values.values_in_text.Given as goal
 
 abbrev pub invariant-loop-left : goal.invariant-loop-left
-invariant-loop-left l = pieces_of l.values.items ++ filter_map (λ line. value_in_line (stripped_by l.fn.form line)) (parts_left 10 l.left)
-    ≡ filter_map (λ line. value_in_line (stripped_by l.fn.form line)) (lines_in l.fn.text)
+invariant-loop-left l = pieces_of l.values.items ++ values_in_lines l.fn.form (parts_left 10 l.left) ≡ values_in_lines l.fn.form (lines_in l.fn.text)
 
 abbrev pub decreases-loop-left : goal.decreases-loop-left
 decreases-loop-left l = length (parts_left 10 l.left)

@@ -10,15 +10,11 @@ cover_with-requires g c = let r = c.requires.ready in record { of = (r.0.pattern
 pub returns-clause-done : goal.returns-clause-done
 returns-clause-done g c = λ red by.
     let call = c.cover_with in
-    does_cover g.R.Source g.W.Sink red by.covers (g.A.Automaton.is_of c.args.self.now.start.automaton.now) by.of
+    let searched = g.A.Automaton.is_of c.args.self.now.start.automaton.now in
+    does_cover g.R.Source g.W.Sink red by.covers searched by.of
     (some_cover g.A.Automaton _ red.patterns (g.met.A.Automaton.laws _ _ by.of).lengths_are by.unbegun) _ _ _ _ call.result _ _
     (rw (by.chosen, by.is) call.ensures.leaves) (rw by.chosen call.ensures.counted.counted) call.ensures.errors call.ensures.only
-
-pub returns-clause-most : goal.returns-clause-most
-returns-clause-most g c =
-    let call = c.cover_with in
-    let (red, by) = c.requires.ready in
-    cover_given g.R.Source g.W.Sink (g.A.Automaton.is_of c.args.self.now.start.automaton.now) red.patterns by.of _ _ _ _ _ _ _ _ call.result call.ensures.counted
+    (cover_given g.R.Source g.W.Sink searched red.patterns by.of _ _ _ _ _ _ _ _ call.result call.ensures.counted)
 
 pub returns-clause-still : goal.returns-clause-still
 returns-clause-still g c = λ red by. covering_still g.A.Automaton _ _ _ _ _ _ red c.cover_with.ensures.same c.cover_with.ensures.rule c.cover_with.ensures.unbegun by

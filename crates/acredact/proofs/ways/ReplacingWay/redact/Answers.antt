@@ -1,7 +1,6 @@
 -- What is written is the redaction by the automaton's patterns, and why it ends early is told.
-use Rattle.acredact.proofs.Common.{Patterns}
-use Rattle.std.proofs.Common.{rules, ◌≡◌, length, false, refl}
-use Rattle.acredact.specs.Secrets.{redactor_by}
+use Rattle.acredact.proofs.Common.{Patterns, pieces_of}
+use Rattle.std.proofs.Common.{rules, ◌≡◌, length}
 use Rattle.acredact.proofs.Bounded.{ungrown}
 use Rattle.acredact.proofs.Redactions.{never_refused, outcome_plain, some_of, uncounted}
 use Rattle.acredact.proofs.ways.ReplacingWay.redact.Goals as goal
@@ -16,15 +15,13 @@ pub returns-then-is_empty : goal.returns-then-is_empty
 returns-then-is_empty g c =
     let way = c.args.self.now in
     let none : length c.args.counts.now ≡ 0 = search rules in
-    let (r, is) = c.requires.ready in
-    let can = is.ready.begins in
+    let can = c.requires.ready.1.ready.begins in
     let call = c.try_stream_replace_all in
     let outcome = λ (p : Patterns) (of : g.A.Automaton.is_of way.automaton.now p).
-    outcome_plain g.R.Source g.W.Sink (redactor_by p false false way.replacements.now) refl refl (g.A.Automaton.is_of way.automaton.now) of (some_of g.A.Automaton _ p (g.met.A.Automaton.laws _ _ of).lengths_are can)
-    _ _ _ _ call.result call.ensures.leaves.replaced call.ensures.leaves.begun call.ensures.errors call.ensures.leaves.limit (never_refused g.A.Automaton _ can call.result call.ensures.suits) in
+    outcome_plain g.R.Source g.W.Sink p (pieces_of way.replacements.now) _ _ _ _ (g.A.Automaton.is_of way.automaton.now) of (some_of g.A.Automaton _ p (g.met.A.Automaton.laws _ _ of).lengths_are can)
+    call.result call.ensures.leaves.replaced call.ensures.leaves.begun call.ensures.errors call.ensures.leaves.limit (never_refused g.A.Automaton _ can call.result call.ensures.suits) in
     record {
-      done = λ red by. rw by.is (uncounted g.R.Source g.W.Sink _ call.result _ _ _ _ c.args.counts.now none (outcome red.patterns by.of));
-      most = ungrown g.R.Source _ _ _ _ c.args.counts.now (outcome r.patterns is.of).begun;
+      done = λ red by. let is = outcome red.patterns by.of in rw by.is (uncounted g.R.Source g.W.Sink _ call.result _ _ _ _ c.args.counts.now none is (ungrown c.args.counts.now call.result is));
       still = λ red by. by;
     }
 

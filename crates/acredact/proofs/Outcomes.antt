@@ -1,0 +1,46 @@
+-- What comes of a call by what comes of its files, and what its exit status says.
+use Rattle.acredact.proofs.Common.{Errors, Failure, SinkGhosts, Tells}
+use Rattle.std.proofs.Common.{◌≡◌, ℕ, List, true, false, refl, sym, subst, arith}
+use Rattle.std.specs.Prelude.{Bool, Result, Ok, Err, IfErr, IfOk, OnOk}
+use Rattle.acredact.specs.Calls.{IsUnreadLine, TellsOfFiles}
+use Rattle.acredact.specs.Failures.{EndsCall, IsFailureLine}
+use Rattle.acredact.specs.Outcomes.{ComesOf, EndSays}
+use Rattle.acredact.proofs.Calls.{some_behind, some_then, some_weaker, tells_both, tells_last}
+use Rattle.acredact.proofs.RuledFiles.{told_any, told_as}
+
+-- files were redacted, behind what was told before, and then the counts were told, or they were not
+module _ {E : Type 0} (X : Type 0) (K : SinkGhosts E) (IsTold : List ℕ → Type 0) (names : List (List ℕ)) (all : Bool) (first old mid new : Errors E)
+    (before : Tells K IsTold first old) (may : (line : List ℕ) → IsUnreadLine names line → IsTold line) (told : TellsOfFiles {X = X} K names (Ok all) old mid) (later : Tells K IsTold mid new) where
+  all_told : Tells K IsTold first new
+  all_told = tells_both K IsTold first old new before (tells_both K IsTold old mid new (told_any {X = X} K names IsTold (Ok all) old mid may told) later)
+
+  pub files_then : {Whole : Bool → Type 0} {Begun Notes : Type 0} {MayEnd : Failure → Type 0} → Begun → (result : Result Bool Failure) → IfOk result (λ done. done ≡ all) → IfErr result MayEnd → (all ≡ true → OnOk result (Whole true × Notes))
+      → ComesOf K IsTold (λ all. all) Whole Begun Notes MayEnd result first new
+  files_then begun (Ok true) same fails whole =
+      record { whole = λ is. (whole (sym same)).0; begun = begun; told = all_told; partly = λ (is : true ≡ false). absurd (cc); notes = λ is. (whole (sym same)).1; fails = tt }
+  files_then begun (Ok false) same fails whole = record {
+    whole = λ (is : false ≡ true). absurd (cc);
+    begun = begun;
+    told = all_told;
+    partly = λ is. some_behind K IsTold first old new before
+        (some_then K IsTold old mid new (some_weaker K (IsUnreadLine names) IsTold old mid may (told_as X K names all false old mid (sym same) told)) later);
+    notes = λ (is : false ≡ true). absurd (cc);
+    fails = tt;
+  }
+  files_then begun (Err failure) same fails whole = record { whole = tt; begun = begun; told = all_told; partly = tt; notes = tt; fails = fails }
+
+-- the status says what came of the call, where it was told why it ended early, if it did
+module _ {E : Type 0} (K : SinkGhosts E) (IsTold : List ℕ → Type 0) {Whole : Bool → Type 0} {Begun Notes : Type 0} {MayEnd : Failure → Type 0} (Done : Errors E → Type 0) (status : ℕ) (old mid new : Errors E)
+    (may : (failure : Failure) (line : List ℕ) → MayEnd failure → IsFailureLine failure line → IsTold line) (done : Whole true → Notes → Done mid) where
+  pub status_says : (result : Result Bool Failure) → EndsCall K result status mid new → ComesOf K IsTold (λ all. all) Whole Begun Notes MayEnd result old mid → EndSays K IsTold (Done new) Begun status old new
+  status_says (Ok true) (is, same) of =
+      record { done = λ zero. subst Done (sym same) (done (of.whole refl) (of.notes refl)); begun = of.begun; tells = λ two. absurd (omega (arith, is, two)) }
+  status_says (Ok false) (is, same) of =
+      rw same (record { done = λ zero. absurd (omega (arith, is, zero)); begun = of.begun; tells = λ two. of.partly refl })
+  status_says (Err failure) (is, (line, is_line, told)) of =
+      record { done = λ zero. absurd (omega (arith, is, zero)); begun = of.begun; tells = λ two. tells_last K IsTold old mid new line of.told (may failure line of.fails is_line) told }
+
+-- a call that ends with status 0 came to its end
+pub ended_well : {E : Type 0} (K : SinkGhosts E) {P : Type 0} (result : Result Bool Failure) (status : ℕ) (mid new : Errors E) → EndsCall K result status mid new → OnOk result P → status ≡ 0 → P
+ended_well K (Ok all) status mid new ends is zero = is
+ended_well K (Err failure) status mid new (two, told) is zero = absurd (omega (arith, two, zero))

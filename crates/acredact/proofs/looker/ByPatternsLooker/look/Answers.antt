@@ -1,0 +1,24 @@
+-- The input is looked at from its beginning.
+use Rattle.acredact.proofs.Common.{at_end}
+use Rattle.std.proofs.Common.{◌≢◌, ap}
+use Rattle.acredact.specs.Looks.{sought}
+use Rattle.acredact.proofs.Looks.{look_is, look_reads}
+use Rattle.acredact.proofs.looker.ByPatternsLooker.look.Goals as goal
+
+pub counts_by-requires : goal.counts_by-requires
+counts_by-requires g c = record { ready = c.requires.ready.1.can }
+
+pub look_of-requires : goal.look_of-requires
+look_of-requires g c =
+    let can = c.requires.ready.1.can in
+    record { ends = (c.counts_by.ensures.looks can.patterns can.of).only }
+
+pub returns-clause-looks : goal.returns-clause-looks
+returns-clause-looks g c =
+    let left = ap (λ device. g.I.Read.remaining device.reader) c.restart.ensures.device in
+    let none = c.restart.ensures.empty_reads in
+    let ends = λ (some : c.counts_by.new.source.empty_reads ≢ 0). at_end _ (λ bytes known. c.counts_by.new.source.ended bytes some known) in
+    λ s by. rw (by.is, c.look_of.ensures.look) (look_is _ (sought by.can.patterns c.args.self.now.words) _ _ _ left none ends c.args._name.now _ c.counts_by.result (c.counts_by.ensures.looks by.can.patterns by.can.of))
+
+pub returns-clause-only : goal.returns-clause-only
+returns-clause-only g c = rw c.look_of.ensures.look (look_reads c.counts_by.result)
