@@ -12,16 +12,8 @@ use Rattle.acredact.specs.Secrets.{IsTouched}
 
 -- what is before another does not start after the other ends: both have a byte
 not_after : (kind : MatchKind) (m o : Occurrence) → m.start < m.end → o.start < o.end → IsBefore kind m o → m.start < o.end
-not_after Standard m o some_m some_o before =
-    elim before [
-      | inl less ↦ omega (arith, less, some_m)
-      | inr tie ↦ omega (arith, tie.0, some_m)
-    ]
-not_after kind m o some_m some_o before =
-    elim before [
-      | inl less ↦ omega (arith, less, some_o)
-      | inr tie ↦ omega (arith, tie.0, some_o)
-    ]
+not_after Standard m o some_m some_o before = grind arith
+not_after kind m o some_m some_o before = grind arith
 
 module _ (p : Patterns) (no_empty : 1 ≤ shortest (map length p.words)) (bytes : List ℕ) where
   full : NoneIsEmpty p

@@ -1,9 +1,8 @@
 -- Why a piece is not clean, and that it is clean where nothing is found; and that a pseudonym is, where none can spell a pattern.
-use Rattle.acredact.proofs.Common.{All, All-cons, All-head, All-nil, All-tail, ArePatterns, Bor, IsCleanPiece, IsMember, NoneHolds, Patterns, eq-eqb, folded_by, get_or-map, ne_eqb, nil_from_length, pattern_at, pieces_of, folded_word}
-use Rattle.std.proofs.Common.{◌≡◌, inl, inr, ℕ, suc, ◌+◌, ◌-◌, ◌<◌, List, [], ◌∷◌, ◌++◌, Option, true, false, length, get_or, refl, sym, ap, subst, ◌∙◌, arith, below_more, length-append, length-drop, take, ◌%◌, drop}
+use Rattle.acredact.proofs.Common.{common_steps, All, All-cons, All-head, All-nil, All-tail, ArePatterns, Bor, IsCleanPiece, IsMember, NoneHolds, Patterns, folded_by, get_or-map, nil_from_length, pattern_at, pieces_of, folded_word}
+use Rattle.std.proofs.Common.{◌≡◌, inl, inr, ℕ, suc, ◌+◌, ◌-◌, ◌<◌, List, [], ◌∷◌, ◌++◌, Option, true, false, length, get_or, refl, sym, ap, subst, ◌∙◌, arith, below_more, length-drop, take, ◌%◌, drop}
 use Rattle.std.specs.List.{list_all}
 use Rattle.std.specs.Prelude.{Bool, None, Some, if◌then◌else◌, nat_eq, ◌⊎◌, ◌||◌, slice_range}
-use Rattle.std.proofs.Math.Seq.{get_or-append_seam}
 use Rattle.std.proofs.lemmas.List.{drop_more, take-append-drop}
 use Rattle.std.proofs.lemmas.Bool.{eqb-true, or_parts}
 use Rattle.std.proofs.lemmas.List.Elements.{All-weaker, All-drop, All-take}
@@ -29,12 +28,8 @@ held_member ignore_case word byte held =
 
 not_held : (ignore_case : Bool) (word : List ℕ) (other byte : ℕ) → holds_byte ignore_case word byte ≡ false → IsMember word other → folded_by ignore_case other ≡ folded_by ignore_case byte → ⊥
 not_held ignore_case [] other byte none member same = absurd member
-not_held ignore_case (x ∷ word) other byte none member same =
-    let (first, later) = or_parts (nat_eq (folded_by ignore_case x) (folded_by ignore_case byte)) (holds_byte ignore_case word byte) none in
-    elim member [
-      | inl is ↦ (let clash : true ≡ false = sym (eq-eqb _ _ (ap (folded_by ignore_case) (sym is) ∙ same)) ∙ first in cc)
-      | inr there ↦ not_held ignore_case word other byte later there same
-    ]
+not_held ignore_case (x ∷ word) other byte none (inl is) same = grind arith
+not_held ignore_case (x ∷ word) other byte none (inr there) same = not_held ignore_case word other byte (or_parts _ _ none).1 there same
 
 -- what the first of some words is, and what they are where there is none
 abbrev IsFirst : (List ℕ → Bool) → ℕ → List (List ℕ) → Option ℕ → Type 0
@@ -55,9 +50,7 @@ module _ (ignore_case : Bool) (byte place : ℕ) (marks : List Bool) (is : place
   not_marked : (word : List ℕ) → IsMarked ignore_case word marks → holds_byte ignore_case word byte ≡ false
   not_marked word marked =
       list_any_none (λ other. nat_eq (folded_by ignore_case other) (folded_by ignore_case byte)) word
-      (All-weaker (λ other. get_or marks (folded_by ignore_case other) false ≡ true) (λ other. nat_eq (folded_by ignore_case other) (folded_by ignore_case byte) ≡ false) (λ other held.
-      ne_eqb _ _ (λ (same : folded_by ignore_case other ≡ folded_by ignore_case byte).
-      let clash : true ≡ false = sym held ∙ ap (λ (n : ℕ). get_or marks n false) (same ∙ sym is) ∙ not in cc)) word marked)
+      (All-weaker (λ other. get_or marks (folded_by ignore_case other) false ≡ true) (λ other. nat_eq (folded_by ignore_case other) (folded_by ignore_case byte) ≡ false) (λ other held. grind arith) word marked)
 
   pub unmarked : (number : ℕ) (words : List (List ℕ)) → WordsAreMarked ignore_case words marks → first_number (λ word. holds_byte ignore_case word byte) number words ≡ None
   unmarked number [] marked = refl
@@ -70,9 +63,7 @@ first_is : (piece rest : List ℕ) (byte : ℕ) → piece ≡ byte ∷ rest → 
 first_is piece rest byte is = ap (λ (l : List ℕ). get_or l 0 0) is
 
 last_is : (piece front : List ℕ) (byte : ℕ) → piece ≡ front ++ byte ∷ [] → get_or piece (length piece - 1) 0 ≡ byte
-last_is piece front byte is =
-    let count : length piece - 1 ≡ length front = omega (arith, ap length is ∙ length-append front (byte ∷ [])) in
-    ap (λ (n : ℕ). get_or piece n 0) count ∙ ap (λ (l : List ℕ). get_or l (length front) 0) is ∙ get_or-append_seam front byte [] 0
+last_is piece front byte is = grind (arith, common_steps)
 
 pub last_of : (piece : List ℕ) → 0 < length piece → (front : List ℕ) × (piece ≡ front ++ get_or piece (length piece - 1) 0 ∷ [])
 last_of piece some =
@@ -159,9 +150,7 @@ piece_all true digest = simp (hex_of_piece true) refl
 piece_all false digest = simp (hex_of_piece false) refl
 
 one_of : (a b c : Bool) → (a || b || c) ≡ true → (a ≡ true) ⊎ ((b ≡ true) ⊎ (c ≡ true))
-one_of true b c is = inl refl
-one_of false true c is = inr (inl refl)
-one_of false false c is = inr (inr is)
+one_of a b c is = grind arith
 
 -- what is so of all is so of each member
 every_member : (P : ℕ → Type 0) (xs : List ℕ) (x : ℕ) → All P xs → IsMember xs x → P x
@@ -175,9 +164,7 @@ module _ (p : Patterns) (unlike : NoneAreSpelled p.ignore_case p.words) where
   unlike_each number numbered =
       let word = pattern_at p number in
       let none : may_be_spelled p.ignore_case word ≡ false = subst (IsFirst (may_be_spelled p.ignore_case) 1 p.words) unlike (first_so (may_be_spelled p.ignore_case) 1 p.words) number [] numbered in
-      let (held, outside) = or_parts (holds_byte p.ignore_case word 91 || holds_byte p.ignore_case word 93) (lies_inside p.ignore_case word) none in
-      let (first, last) = or_parts (holds_byte p.ignore_case word 91) (holds_byte p.ignore_case word 93) held in
-      (first, last, outside)
+      grind (arith, or_parts)
 
   -- nothing occurs in a pseudonym
   none_within : (piece : List ℕ) → list_all (is_of_piece p.ignore_case) piece ≡ true → NoneOccurs p piece

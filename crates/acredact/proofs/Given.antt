@@ -27,8 +27,7 @@ read_fits (Ok read) given is =
 
 -- where the first of some options go together the others do too
 none_of : (b : Bool) (mixture : Mixture) (rest : Option Mixture) → (if b then Some mixture else rest) ≡ None → (b ≡ false) × (rest ≡ None)
-none_of true mixture rest none = absurd (cc)
-none_of false mixture rest none = (refl, none)
+none_of b mixture rest none = grind arith
 
 -- forms are those of covers, and do not go with words
 forms_fit : (given : List Given) → mixture_of given ≡ None → has Forms given ≡ true → (covers_asked given ≡ true) × (has AsWord given ≡ false)

@@ -5,7 +5,6 @@ use Rattle.std.specs.Prelude.{Bool, MatchBool, IfSome, false}
 use Rattle.std.proofs.KnownBytes.{Consumes-all}
 use Rattle.std.proofs.lemmas.List.{drop_more}
 use Rattle.acredact.specs.declared.options.Item.{Item}
-use Rattle.acredact.specs.declared.options.Word.TheVariants.{IgnoreCase}
 use Rattle.acredact.specs.Arguments.{all_given, given_of}
 use Rattle.acredact.specs.Loading.{CannotLoad, CannotLoadOne, IsFileFailure, IsListedFailure, Reading}
 use Rattle.acredact.specs.declared.load.Listed.{Listed}
@@ -41,15 +40,11 @@ module _ {I X S : Type 0} {Gives : I → List X → (left left' : S) → Type 0}
     given_all past far =
         given_end (subst (λ (l : List Y). GivenSoFar Gives all before (map f l) between old mid) (nil_from_length (drop at ys) (omega (arith, past, length-drop at ys))) far)
 
--- any item
-abbrev other : Item
-other = record { word = IgnoreCase; value = record { ref_ptr = (0, 0); now = [] } }
-
 -- one of the items cannot be loaded
-pub fails_at : (reading : Reading) (items : List Item) (at : ℕ) (failure : Failure) → at < length items → CannotLoad reading (given_of (get_or items at other)) failure → CannotLoadOne reading (all_given items) failure
-fails_at reading items at failure below fails =
-    let it = given_of (get_or items at other) in
-    (at, it, omega (arith, below, length-map items given_of), get_or-map given_of items at other it below, fails)
+pub fails_at : (reading : Reading) (items : List Item) (at : ℕ) (d : Item) (failure : Failure) → at < length items → CannotLoad reading (given_of (get_or items at d)) failure → CannotLoadOne reading (all_given items) failure
+fails_at reading items at d failure below fails =
+    let it = given_of (get_or items at d) in
+    (at, it, omega (arith, below, length-map items given_of), get_or-map given_of items at d it below, fails)
 
 -- the text that is read is what the folder tells
 text_told : (holds : List ℕ → Option (List ℕ)) (name text : List ℕ) (left left' : Option (List ℕ)) → OfName holds name (ReadsText text) left left' → is_input name ≡ false → IfSome (holds name) (λ bytes. text ≡ bytes)

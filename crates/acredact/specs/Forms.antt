@@ -123,10 +123,6 @@ forms_from asked number (secret ∷ secrets) = forms_of asked number secret ++ f
 abbrev pub with_forms : AskedForms → List Secret → List Secret
 with_forms asked secrets = secrets ++ forms_from asked 0 secrets
 
--- those that a value names stand behind these rules
-abbrev pub AddsForms : {Z : Type 0} → Option (List ℕ) → (rules rules' : Vec Rule Z) → Type 0
-AddsForms value rules rules' = secrets_of rules'.items ≡ with_forms (forms_asked value) (secrets_of rules.items)
-
 -- none of the forms shows a character that holds a bit of the secret outside the patterns
 abbrev pub HidesOnce : List SecretForm → List ℕ → Type 0
 HidesOnce forms pattern = All (HidesForm (once_patterns forms pattern) pattern) forms
@@ -143,3 +139,8 @@ HidesSecret asked secret = 4 ≤ length secret.pattern → HidesOnce asked.forms
 
 abbrev pub HideSecrets : AskedForms → List Secret → Type 0
 HideSecrets asked secrets = All (HidesSecret asked) secrets
+
+-- the forms that a value names stand behind these rules
+pub record AddsForms {Z : Type 0} (value : Option (List ℕ)) (rules rules' : Vec Rule Z) : Type 0 where
+  pub are : secrets_of rules'.items ≡ with_forms (forms_asked value) (secrets_of rules.items)
+  pub hidden : HideSecrets (forms_asked value) (secrets_of rules.items)

@@ -109,21 +109,9 @@ pub record IsAdded (Is : Secret → Type 0) (place : Place) (old new : List Secr
   pub held : Is secret
   pub stands : StandsHere place secret
 
--- what the lines of a file hold is added, in order
-pub record IsAddedList (form : Form) (old new : List Secret) (lines : List (List ℕ)) : Type 0 where
-  pub more : List Secret
-  pub grown : new ≡ old ++ more
-  pub held : AreOfLines form lines more
-
 -- the same, of the rules before and after
-abbrev pub AddsLine : {Z : Type 0} → Bool → List ℕ → Place → (rules rules' : Vec Rule Z) → Type 0
-AddsLine table line place rules rules' = IsAdded (Holds table line) place (secrets_of rules.items) (secrets_of rules'.items)
-
-abbrev pub AddsOf : {Z : Type 0} → Form → List ℕ → Place → (rules rules' : Vec Rule Z) → Type 0
-AddsOf form line place rules rules' = IsAdded (HoldsBy form line) place (secrets_of rules.items) (secrets_of rules'.items)
-
-abbrev pub AddsLines : {Z : Type 0} → Form → List (List ℕ) → (rules rules' : Vec Rule Z) → Type 0
-AddsLines form lines rules rules' = IsAddedList form (secrets_of rules.items) (secrets_of rules'.items) lines
+abbrev pub AddsAt : {Z : Type 0} → (Secret → Type 0) → Place → (rules rules' : Vec Rule Z) → Type 0
+AddsAt Is place rules rules' = IsAdded Is place (secrets_of rules.items) (secrets_of rules'.items)
 
 -- the bytes of the patterns
 abbrev pub patterns_in : List Secret → List (List ℕ)

@@ -130,6 +130,7 @@ fn found_in<A: Automaton>(automaton: &A, piece: &[u8]) -> Option<Match>
 }
 
 /// The number, from 1 on, of a pattern that holds a byte. Where the byte is not marked there is none.
+#[tactic(auto, using(crate::proofs::Flaws::unmarked))]
 fn holder_of(judge: &Judge<'_, '_>, marks: &[bool], byte: u8) -> Option<usize>
     requires sized { length marks.now ≡ 256 }
     requires marked { WordsAreMarked judge.now.ignore_case (pieces_of judge.now.words.now) marks.now }

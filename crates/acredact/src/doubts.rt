@@ -74,6 +74,7 @@ fn refuse_doubtful<'a>(given: &[Item<'a>], rules: &[Rule]) -> Result<(), Failure
 }
 
 /// Tells of each pattern of a list that is doubtful.
+#[tactic(auto, using(crate::proofs::Doubting::told_more, crate::proofs::Doubting::secrets_cut, crate::proofs::Done::concat_both))]
 fn tell_doubtful<E: Sink>(errors: &mut Errors<'_, E>, given: &[Item<'_>], rules: &[Rule])
     ensures told { TellsBytes E.Sink errors.old errors.new (concat (list_doubt_lines (all_given given.now) (secrets_of rules.now))) }
 {
@@ -97,6 +98,7 @@ fn tell_doubt<E: Sink>(errors: &mut Errors<'_, E>, given: &[Item<'_>], rule: &Ru
 }
 
 /// The file of the option of this number.
+#[tactic(auto, using(crate::proofs::Doubting::made_there))]
 fn name_of_list<'a>(given: &[Item<'a>], number: usize) -> &'a str
     ensures name { result.now ≡ list_name (all_given given.now) number }
 {

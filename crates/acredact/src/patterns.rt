@@ -6,7 +6,8 @@ ghost use Rattle.std.specs.List.{slice_split};
 ghost use Rattle.aho_core.specs.Replacement.{pieces_of};
 ghost use Rattle.acredact.specs.Forms.{split_first};
 ghost use Rattle.acredact.specs.LineFaults.{IsBadStart, IsLineFault, IsLineFaultBy, IsListFault, IsTextFault, mark_in};
-ghost use Rattle.acredact.specs.Tables.{AddsLine, AddsLines, AddsOf, Holds, IsWithout, StandsHere, escape_of, in_table, stripped_by, lines_in, parts_left, patterns_in, piece_by, secret_of, secrets_of};
+ghost use Rattle.acredact.specs.Parts.{AddsSome};
+ghost use Rattle.acredact.specs.Tables.{AddsAt, AreOfLines, Holds, HoldsBy, IsWithout, StandsHere, escape_of, in_table, stripped_by, lines_in, parts_left, patterns_in, piece_by, secret_of, secrets_of};
 
 use std::alloc::{AllocError, AllocFailed, Global};
 use std::slice;
@@ -267,7 +268,7 @@ pub fn add_lines(
     form: Form,
     list: usize,
 ) -> Result<(), BadLine>
-    ensures added { OnOk result (AddsLines form (lines_in text.now) rules.old rules.new) }
+    ensures added { OnOk result (AddsSome (AreOfLines form (lines_in text.now)) rules.old rules.new) }
     ensures fault { IfErr result (IsListFault form (lines_in text.now)) }
 {
     let mut number: usize = 1;
@@ -302,7 +303,7 @@ fn add_listed(
     form: Form,
     place: Place,
 ) -> Result<(), LineFault>
-    ensures added { OnOk result (AddsOf form line.now place rules.old rules.new) }
+    ensures added { OnOk result (AddsAt (HoldsBy form line.now) place rules.old rules.new) }
     ensures fault { IfErr result (IsLineFaultBy form line.now) }
 {
     let line = stripped_by(form, line);
@@ -340,7 +341,7 @@ pub fn add_line(
     table: bool,
     place: Place,
 ) -> Result<(), LineFault>
-    ensures added { OnOk result (AddsLine table line.now place rules.old rules.new) }
+    ensures added { OnOk result (AddsAt (Holds table line.now) place rules.old rules.new) }
     ensures fault { IfErr result (IsLineFault table line.now) }
 {
     let rule = if table {

@@ -148,6 +148,7 @@ fn warn<'a, E: Sink>(
 }
 
 /// What is done to the files.
+#[tactic(auto, using(crate::proofs::Ready::ready_redacts))]
 pub fn job_of<'s, 't, F: Folder>(
     alloc: Global,
     given: &[Item<'_>],

@@ -62,6 +62,7 @@ pub fn load_rules<'a, F: Folder, I: Read>(
 }
 
 /// Tells of doubtful patterns of lists, and makes ready what searches for all patterns.
+#[tactic(auto, using(crate::proofs::Ready::searcher_searches, crate::proofs::Ready::some_shortest))]
 pub fn ready_for_lines<'a, E: Sink>(
     alloc: Global,
     given: &[Item<'a>],

@@ -28,6 +28,7 @@ pub struct Secrets {
 }
 
 /// Loads all patterns, and the key of pseudonyms, where they are asked for.
+#[tactic(auto, using(crate::proofs::Naming::some_loaded, crate::proofs::Ready::given_some))]
 pub fn load<'a, F: Folder, I: Read>(
     alloc: Global,
     given: &[Item<'a>],

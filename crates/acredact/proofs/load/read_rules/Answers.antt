@@ -8,7 +8,7 @@ pub loop-number-preserved : goal.loop-number-preserved
 loop-number-preserved g c = given_item given_of c.args.items.now c.loop-number.number _ c.loop-number-test.true c.loop-number.invariant c.in-Ok.ensures.added
 
 pub returns-in-Err-clause-fails : goal.returns-in-Err-clause-fails
-returns-in-Err-clause-fails g c = fails_at (reading_of_lists g.F.Folder c.args.lists.now) c.args.items.now c.loop-number.number _ c.loop-number-test.true c.in-Err.ensures.fails
+returns-in-Err-clause-fails g c = fails_at (reading_of_lists g.F.Folder c.args.lists.now) c.args.items.now c.loop-number.number _ _ c.loop-number-test.true c.in-Err.ensures.fails
 
 pub returns-clause-read : goal.returns-clause-read
 returns-clause-read g c =

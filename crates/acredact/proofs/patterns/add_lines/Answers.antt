@@ -1,18 +1,9 @@
 -- One line more is added.
-use Rattle.acredact.proofs.Common.{Form}
-use Rattle.std.proofs.Common.{◌++◌, ◌+◌, ◌-◌, ◌^◌, ◌∙◌, ◌∷◌, ◌≡◌, ℕ, List, [], ap, append_assoc, arith, length, length-append, refl, rules, sym}
-use Rattle.std.specs.Prelude.{min}
+use Rattle.std.proofs.Common.{◌++◌, ◌+◌, ◌-◌, ◌∙◌, ◌∷◌, ◌≡◌, [], ap, append_assoc, arith, length, length-append, rules, sym}
 use Rattle.acredact.specs.Parts.{IsAddedSome}
-use Rattle.acredact.specs.Tables.{GivesLine, HoldsBy, IsAdded, Secret, lines_in, parts_left}
-use Rattle.acredact.specs.declared.patterns.Place.{Place}
+use Rattle.acredact.specs.Tables.{GivesLine, lines_in, parts_left, secrets_of}
 use Rattle.acredact.proofs.Loaded.{given_end, given_next}
 use Rattle.acredact.proofs.patterns.add_lines.Goals as goal
-
--- one line more gives a secret
-line_given : (form : Form) (line : List ℕ) (place : Place) (before : ℕ) (old new : List Secret) → place.line ≡ min (before + 1) (2 ^ 64 - 1) → IsAdded (HoldsBy form line) place old new
-    → IsAddedSome (λ more. GivesLine form line more before (before + 1)) old new
-line_given form line place before old new at added =
-    record { more = added.secret ∷ []; grown = added.grown; of = record { secret = added.secret; are = refl; held = added.held; numbered = added.stands.line_is ∙ at; counted = refl } }
 
 pub loop-left-preserved : goal.loop-left-preserved
 loop-left-preserved c =
@@ -20,10 +11,11 @@ loop-left-preserved c =
     let line = c.part_of.result.0.now in
     let others = parts_left 10 c.part_of.result.1 in
     let cut : parts_left 10 c.loop-left.left ≡ line ∷ others = search rules in
+    let given : IsAddedSome (λ more. GivesLine c.args.form line more (length front) (length front + 1)) (secrets_of c.loop-left.rules.items) (secrets_of c.add_listed.new.rules.items) = search rules in
     let behind : length front + 1 ≡ length (front ++ (line ∷ [])) = omega (arith, length-append front (line ∷ [])) in (
       front ++ (line ∷ []),
       is ∙ ap (λ l. front ++ l) cut ∙ sym (append_assoc front (line ∷ []) others),
-      rw (← behind) (given_next (rw cut at far) (line_given c.args.form line _ (length front) _ _ counts c.in-Ok.ensures.added)),
+      rw (← behind) (given_next (rw cut at far) given),
       omega (arith, behind, counts, c.saturating_add-number.ensures),
     )
 
@@ -33,4 +25,4 @@ returns-clause-added c =
     let all : lines_in c.args.text.now ≡ front = search rules in
     let none : parts_left 10 c.loop-left.left ≡ [] = search rules in
     let added = given_end (rw none at far) in
-    record { more = added.more; grown = added.grown; held = rw (ap length all) added.of }
+    record { more = added.more; grown = added.grown; of = rw (ap length all) added.of }

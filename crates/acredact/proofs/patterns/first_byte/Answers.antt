@@ -1,13 +1,12 @@
 -- A line end stands for no byte, nor does a backslash that names none.
-use Rattle.acredact.proofs.Common.{ne_eqb}
-use Rattle.std.proofs.Common.{◌≡◌, ◌≢◌, ◌≤◌, ℕ, List, [], ◌∷◌, ap, arith, drop, inl, inr, length}
+use Rattle.acredact.proofs.Common.{common_steps, ne_eqb}
+use Rattle.std.proofs.Common.{◌≡◌, ◌≢◌, ◌≤◌, ℕ, List, [], ◌∷◌, arith, drop, inl, inr, length}
 use Rattle.std.specs.Prelude.{slice_index}
 use Rattle.acredact.specs.LineFaults.{NamesNone}
 use Rattle.acredact.proofs.patterns.first_byte.Goals as goal
 
 cons_of : (text : List ℕ) (byte : ℕ) → 1 ≤ length text → slice_index text 0 ≡ byte → text ≡ byte ∷ drop 1 text
-cons_of [] byte some is = absurd (omega (arith, some))
-cons_of (b ∷ bytes) byte some is = ap (λ (x : ℕ). x ∷ bytes) is
+cons_of text byte some is = grind (arith, common_steps)
 
 names_none : (text : List ℕ) → slice_index text 1 ≢ 116 → slice_index text 1 ≢ 110 → slice_index text 1 ≢ 92 → NamesNone (drop 1 text)
 names_none [] t n b = tt
