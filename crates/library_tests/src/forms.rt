@@ -55,11 +55,11 @@ fn base64_where_the_alphabets_differ(rt: HostRuntime) {
 fn url_by_each_encoder(rt: HostRuntime) {
     let text = shown(rt.alloc(), url_forms(rt.alloc(), b"a b/'?\xff")).expect(&rt, "memory");
     let row: &[u8] = b"\
-        a%20b%2F%27%3F%FF a%20b%2f%27%3f%ff a+b%2F%27%3F%FF a+b%2f%27%3f%ff a%20b/%27%3F%FF \
-        a%20b/%27%3f%ff a+b/%27%3F%FF a+b/%27%3f%ff a%20b%2F'%3F%FF a%20b%2f'%3f%ff a+b%2F'%3F%FF \
-        a+b%2f'%3f%ff a%20b/'?%FF a%20b/'?%ff a+b/'?%FF a+b/'?%ff a%20b/%27?%FF a%20b/%27?%ff a+b/%27?%FF \
-        a+b/%27?%ff a%20b/'%3F%FF a%20b/'%3f%ff a+b/'%3F%FF a+b/'%3f%ff %61%20%62%2F%27%3F%FF \
-        %61%20%62%2f%27%3f%ff ";
+        a%20b%2F%27%3F%FF a%20b%2f%27%3f%ff a+b%2F%27%3F%FF a+b%2f%27%3f%ff a%20b/%27%3F%FF a%20b/%27%3f%ff \
+        a+b/%27%3F%FF a+b/%27%3f%ff a%20b%2F'%3F%FF a%20b%2f'%3f%ff a+b%2F'%3F%FF a+b%2f'%3f%ff a%20b/'?%FF \
+        a%20b/'?%ff a+b/'?%FF a+b/'?%ff a%20b/%27?%FF a%20b/%27?%ff a+b/%27?%FF a+b/%27?%ff a%20b/'%3F%FF \
+        a%20b/'%3f%ff a+b/'%3F%FF a+b/'%3f%ff %61%20%62%2F%27%3F%FF %61%20%62%2f%27%3f%ff a%20b/'%3F\xff \
+        a%20b/'%3f\xff a%20b/'?\xff a%20b%2F'%3F\xff a%20b%2f'%3f\xff ";
     assert_eq!(rt; text.as_slice(), row);
 }
 
@@ -67,8 +67,8 @@ fn url_by_each_encoder(rt: HostRuntime) {
 fn url_by_each_set_of_marks(rt: HostRuntime) {
     let text = shown(rt.alloc(), url_forms(rt.alloc(), b"~(*)^")).expect(&rt, "memory");
     let row: &[u8] = b"\
-        ~%28%2A%29%5E ~%28%2a%29%5e ~(*)%5E ~(*)%5e %7E%28*%29%5E %7e%28*%29%5e %7E%28%2A%29%5E \
-        %7e%28%2a%29%5e %7E(*)%5E %7e(*)%5e ~(*)^ ";
+        ~%28%2A%29%5E ~%28%2a%29%5e ~(*)%5E ~(*)%5e %7E%28*%29%5E %7e%28*%29%5e %7E%28%2A%29%5E %7e%28%2a%29%5e \
+        %7E(*)%5E %7e(*)%5e ~(*)^ ";
     assert_eq!(rt; text.as_slice(), row);
 }
 
@@ -77,14 +77,16 @@ fn url_of_a_password_and_a_segment(rt: HostRuntime) {
     let text = shown(rt.alloc(), url_forms(rt.alloc(), b"!&:/@")).expect(&rt, "memory");
     let row: &[u8] = b"\
         %21%26%3A%2F%40 %21%26%3a%2f%40 %21%26%3A/%40 %21%26%3a/%40 !%26%3A%2F%40 !%26%3a%2f%40 !&:/@ \
-        !&%3A%2F%40 !&%3a%2f%40 %21&%3A%2F%40 %21&%3a%2f%40 %21&:%2F@ %21&:%2f@ %21%26%3A/@ %21%26%3a/@ ";
+        !&%3A%2F%40 !&%3a%2f%40 %21&%3A%2F%40 %21&%3a%2f%40 %21&:%2F@ %21&:%2f@ %21%26%3A/@ %21%26%3a/@ \
+        !&:%2F%40 !&:%2f%40 ";
     assert_eq!(rt; text.as_slice(), row);
 }
 
 #[test]
 fn url_of_bytes_that_are_kept(rt: HostRuntime) {
     let text = shown(rt.alloc(), url_forms(rt.alloc(), b"key-1.2")).expect(&rt, "memory");
-    let row: &[u8] = b"key-1.2 %6B%65%79%2D%31%2E%32 %6b%65%79%2d%31%2e%32 ";
+    let row: &[u8] = b"\
+        key-1.2 %6B%65%79%2D%31%2E%32 %6b%65%79%2d%31%2e%32 ";
     assert_eq!(rt; text.as_slice(), row);
 }
 
@@ -146,8 +148,9 @@ fn xml_by_each_encoder(rt: HostRuntime) {
 #[test]
 fn shell_by_each_way(rt: HostRuntime) {
     let text = shown(rt.alloc(), shell_forms(rt.alloc(), b"a'b\"$ \\")).expect(&rt, "memory");
-    let row: &[u8] =
-        b"a'\\''b\"$ \\ a'\"'\"'b\"$ \\ a'b\\\"\\$ \\\\ a\\'b\\\"\\$\\ \\\\ a\\'b\"$ \\\\ ";
+    let row: &[u8] = b"\
+        a'\\''b\"$ \\ a'\"'\"'b\"$ \\ a'b\\\"\\$ \\\\ a\\'b\\\"\\$\\ \\\\ \\a\\'\\b\\\"\\$\\ \\\\ a'b\"\\$ \\\\ \
+        a\\'b\"$ \\\\ ";
     assert_eq!(rt; text.as_slice(), row);
 }
 
@@ -159,8 +162,8 @@ fn shell_as_bash_writes(rt: HostRuntime) {
     )
     .expect(&rt, "memory");
     let row: &[u8] = b"\
-        a,~\x01\x07\n\x1b\x7f\xff a,\\~\\\x01\\\x07\\\n\\\x1b\\\x7f\xff \
-        a\\,~\x01\x07\n\x1b\x7f\xff a,~\\001\\a\\n\\E\\177\xff \
+        a,~\x01\x07\n\x1b\x7f\xff a,\\~\\\x01\\\x07\\\n\\\x1b\\\x7f\xff a\\,~\x01\x07\n\x1b\x7f\xff \
+        a\\,\\~\x01\x07\n\x1b\x7f\xff \\a\\,\\~\x01\\\x07\\\n\\\x1b\x7f\\\xff a,~\\001\\a\\n\\E\\177\xff \
         a,~\\001\\a\\n\\E\\177\\377 ";
     assert_eq!(rt; text.as_slice(), row);
 }
@@ -168,7 +171,17 @@ fn shell_as_bash_writes(rt: HostRuntime) {
 #[test]
 fn shell_as_git_writes(rt: HostRuntime) {
     let text = shown(rt.alloc(), shell_forms(rt.alloc(), b"it's!")).expect(&rt, "memory");
-    let row: &[u8] = b"it'\\''s! it'\"'\"'s! it's! it\\'s\\! it\\'s! it'\\''s'\\!' ";
+    let row: &[u8] = b"\
+        it'\\''s! it'\"'\"'s! it's! it\\'s\\! \\i\\t\\'\\s\\! it\\'s! it'\\''s'\\!' ";
+    assert_eq!(rt; text.as_slice(), row);
+}
+
+#[test]
+fn shell_as_bash_traces(rt: HostRuntime) {
+    let text = shown(rt.alloc(), shell_forms(rt.alloc(), b"p\xc3\xa4.[]")).expect(&rt, "memory");
+    let row: &[u8] = b"\
+        p\xc3\xa4.[] p\xc3\xa4.\\[\\] \\p\\\xc3\\\xa4\\.\\[\\] \\p\\\xc3\xa4\\.\\[\\] p\xc3\xa4\\.\\[] \
+        p\\303\\244.[] ";
     assert_eq!(rt; text.as_slice(), row);
 }
 
@@ -200,7 +213,7 @@ fn json_of_no_text(rt: HostRuntime) {
 fn forms_in_their_order(rt: HostRuntime) {
     let chosen = [Form::Hex, Form::Url, Form::Hex, Form::Shell];
     let text = shown(rt.alloc(), forms(rt.alloc(), b"key.", &chosen)).expect(&rt, "memory");
-    let row: &[u8] = b"6b65792e 6B65792E key. %6B%65%79%2E %6b%65%79%2e ";
+    let row: &[u8] = b"6b65792e 6B65792E key. %6B%65%79%2E %6b%65%79%2e \\k\\e\\y\\. key\\. ";
     assert_eq!(rt; text.as_slice(), row);
 }
 

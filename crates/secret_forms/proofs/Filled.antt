@@ -28,7 +28,7 @@ use Rattle.secret_forms.specs.declared.bytewise.Digits.TheVariants.{Upper, Lower
 use Rattle.secret_forms.specs.declared.bytewise.Quotes.{Quotes}
 use Rattle.secret_forms.specs.declared.bytewise.Quotes.TheVariants.{Kept as KeptQuotes, Mixed, Named, DoubleAlone, Canonical, Padded, Decimal, Hexadecimal, DecimalMarks, HexadecimalMarks}
 use Rattle.secret_forms.specs.declared.bytewise.Quoting.{Quoting}
-use Rattle.secret_forms.specs.declared.bytewise.Quoting.TheVariants.{Single, SingleByDouble, Double, Backslashes, BashBackslashes, Dollar, DollarAscii, Git}
+use Rattle.secret_forms.specs.declared.bytewise.Quoting.TheVariants.{Single, SingleByDouble, Double, Backslashes, BashBackslashes, BashTildes, Every, EveryCharacter, RegexMarks, Dollar, DollarAscii, Git}
 use Rattle.secret_forms.specs.declared.bytewise.Spelling.{Spelling}
 use Rattle.secret_forms.specs.declared.bytewise.Spelling.TheVariants.{Url, Json as JsonString, Xml, Shell}
 use Rattle.secret_forms.specs.declared.form.Form.{Form}
@@ -152,6 +152,10 @@ shell_filled SingleByDouble b = search (either, filled)
 shell_filled Double b = search (either, filled)
 shell_filled Backslashes b = search (either, filled)
 shell_filled BashBackslashes b = search (either, filled)
+shell_filled BashTildes b = search (either, filled)
+shell_filled Every b = search (either, filled)
+shell_filled EveryCharacter b = search (either, filled)
+shell_filled RegexMarks b = search (either, filled)
 shell_filled Dollar b = dollar_filled _ b
 shell_filled DollarAscii b = dollar_filled _ b
 shell_filled Git b = search (either, filled)

@@ -4,7 +4,9 @@ use Rattle.std.specs.Char.{is_ascii_alphanumeric}
 use Rattle.std.specs.List.{flat_map, list_any}
 use Rattle.secret_forms.specs.Law.{HidesEach}
 use Rattle.secret_forms.specs.declared.bytewise.Kept.{Kept}
-use Rattle.secret_forms.specs.declared.bytewise.Kept.TheVariants.{Nothing, Unreserved, Slash, Component, Uri, Form, Fewest, Dotnet, Query, Path, User, GoUser, GoSegment, Escape}
+use Rattle.secret_forms.specs.declared.bytewise.Kept.TheVariants.{Nothing, Unreserved, Slash, Component, Uri, Form, Fewest, Dotnet, Query, Path, User, GoUser, GoSegment, Escape, PlainPath, PlainQuery, JavaQuery, JavaUser, Fragment}
+use Rattle.secret_forms.specs.declared.bytewise.Beyond.{Beyond}
+use Rattle.secret_forms.specs.declared.bytewise.Beyond.TheVariants.{Encoded as EncodedBeyond, Kept as KeptBeyond}
 use Rattle.secret_forms.specs.declared.bytewise.Space.{Space}
 use Rattle.secret_forms.specs.declared.bytewise.Space.TheVariants.{Encoded, Plus}
 use Rattle.secret_forms.specs.declared.bytewise.Digits.{Digits}
@@ -15,7 +17,7 @@ use Rattle.secret_forms.specs.declared.bytewise.Json.{Json}
 use Rattle.secret_forms.specs.declared.bytewise.Quotes.{Quotes}
 use Rattle.secret_forms.specs.declared.bytewise.Quotes.TheVariants.{Kept as KeptQuotes, Mixed, Named, DoubleAlone, Canonical, Padded, Decimal, Hexadecimal, DecimalMarks, HexadecimalMarks}
 use Rattle.secret_forms.specs.declared.bytewise.Quoting.{Quoting}
-use Rattle.secret_forms.specs.declared.bytewise.Quoting.TheVariants.{Single, SingleByDouble, Double, Backslashes, BashBackslashes, Dollar, DollarAscii, Git}
+use Rattle.secret_forms.specs.declared.bytewise.Quoting.TheVariants.{Single, SingleByDouble, Double, Backslashes, BashBackslashes, BashTildes, Every, EveryCharacter, RegexMarks, Dollar, DollarAscii, Git}
 use Rattle.secret_forms.specs.declared.bytewise.Spelling.{Spelling}
 use Rattle.secret_forms.specs.declared.bytewise.Spelling.TheVariants.{Url, Json as JsonString, Xml, Shell}
 
@@ -35,6 +37,25 @@ kept_marks User = codes "-._~!'()*,&+$%"
 kept_marks GoUser = codes "-._~$&+,;="
 kept_marks GoSegment = codes "-._~$&+:=@"
 kept_marks Escape = codes "-._*@+/"
+kept_marks (PlainPath beyond) = codes "-._~!'()*;,/:@&=+$"
+kept_marks (PlainQuery beyond) = codes "-._~!'()*;,/?:@&=+$"
+kept_marks (JavaQuery beyond) = codes "-._~!'()*;,/?:@&=+$[]"
+kept_marks (JavaUser beyond) = codes "-._~!'()*;,:&=+$"
+kept_marks (Fragment beyond) = codes "-._~!'()*;,/?:@&=+$#%[\\]^{|}"
+
+-- whether bytes above 127 stand as they are
+abbrev pub is_kept_beyond : Beyond → Bool
+is_kept_beyond EncodedBeyond = false
+is_kept_beyond KeptBeyond = true
+
+-- whether they do so in a URL
+abbrev pub keeps_beyond : Kept → Bool
+keeps_beyond (PlainPath beyond) = is_kept_beyond beyond
+keeps_beyond (PlainQuery beyond) = is_kept_beyond beyond
+keeps_beyond (JavaQuery beyond) = is_kept_beyond beyond
+keeps_beyond (JavaUser beyond) = is_kept_beyond beyond
+keeps_beyond (Fragment beyond) = is_kept_beyond beyond
+keeps_beyond _ = false
 
 -- whether letters and digits stand in a URL as they are
 abbrev pub keeps_letters : Kept → Bool
@@ -43,7 +64,8 @@ keeps_letters _ = true
 
 -- whether a byte stands in a URL as it is
 abbrev pub is_unencoded : Kept → ℕ → Bool
-is_unencoded kept byte = (keeps_letters kept && is_ascii_alphanumeric byte) || list_any (λ one. one == byte) (kept_marks kept)
+is_unencoded kept byte =
+    ((keeps_letters kept && is_ascii_alphanumeric byte) || list_any (λ one. one == byte) (kept_marks kept)) || (keeps_beyond kept && nat_lt 127 byte)
 
 -- a hexadecimal digit
 abbrev pub letter_base : Digits → ℕ
@@ -191,6 +213,18 @@ is_plain byte = nat_lt 127 byte || is_ascii_alphanumeric byte || list_any (λ on
 abbrev pub is_bash_mark : ℕ → Bool
 is_bash_mark byte = list_any (λ one. one == byte) (codes " !\"$&'()*,;<>?[\\]^`{|}")
 
+-- whether bash puts a backslash before a byte when it traces a comparison
+abbrev pub is_traced : ℕ → Bool
+is_traced byte = not (byte == 1) && not (byte == 127)
+
+-- whether a byte is within a character of UTF-8, and not its first
+abbrev pub is_continuation : ℕ → Bool
+is_continuation byte = nat_lt 127 byte && nat_lt byte 192
+
+-- whether a byte is a mark of a regular expression
+abbrev pub is_regex_mark : ℕ → Bool
+is_regex_mark byte = list_any (λ one. one == byte) (codes ".[*^$+?(){|\\")
+
 -- whether a byte is a control character of ASCII
 abbrev pub is_control : ℕ → Bool
 is_control byte = nat_lt byte 32 || byte == 127
@@ -227,6 +261,10 @@ shell_byte SingleByDouble byte = single_byte (39 ∷ 34 ∷ 39 ∷ 34 ∷ 39 ∷
 shell_byte Double byte = escaped_unless (not (list_any (λ one. one == byte) (36 ∷ 96 ∷ 34 ∷ 92 ∷ []))) byte
 shell_byte Backslashes byte = escaped_unless (is_plain byte) byte
 shell_byte BashBackslashes byte = escaped_unless (not (is_bash_mark byte)) byte
+shell_byte BashTildes byte = escaped_unless (not (byte == 126) && not (is_bash_mark byte)) byte
+shell_byte Every byte = escaped_unless (not (is_traced byte)) byte
+shell_byte EveryCharacter byte = escaped_unless (is_continuation byte || not (is_traced byte)) byte
+shell_byte RegexMarks byte = escaped_unless (not (is_regex_mark byte)) byte
 shell_byte Dollar byte = dollar_byte (not (is_control byte)) byte
 shell_byte DollarAscii byte = dollar_byte (is_printable byte) byte
 shell_byte Git byte = git_byte byte
@@ -254,11 +292,16 @@ url_of kept = Url kept Encoded Upper ∷ Url kept Encoded Lower ∷ Url kept Plu
 abbrev pub url_without_plus : Kept → List Spelling
 url_without_plus kept = Url kept Encoded Upper ∷ Url kept Encoded Lower ∷ []
 
+-- such an encoder, with bytes above 127 encoded and as they are
+abbrev pub url_beyond : (Beyond → Kept) → List Spelling
+url_beyond kept = url_without_plus (kept EncodedBeyond) ++ url_without_plus (kept KeptBeyond)
+
 -- the encoders of URLs
 abbrev pub url_spellings : List Spelling
 url_spellings =
     flat_map url_of (Unreserved ∷ Slash ∷ Component ∷ Uri ∷ Form ∷ Fewest ∷ Dotnet ∷ Query ∷ Path ∷ [])
-    ++ flat_map url_without_plus (User ∷ GoUser ∷ GoSegment ∷ Escape ∷ Nothing ∷ [])
+    ++ (flat_map url_without_plus (User ∷ GoUser ∷ GoSegment ∷ Escape ∷ Nothing ∷ [])
+    ++ (url_beyond PlainPath ++ (url_beyond PlainQuery ++ (url_beyond JavaQuery ++ (url_beyond JavaUser ++ url_beyond Fragment)))))
 
 -- the encoders of XML and HTML
 abbrev pub xml_spellings : List Spelling
@@ -270,7 +313,7 @@ xml_spellings =
 abbrev pub shell_spellings : List Spelling
 shell_spellings =
     Shell Single ∷ Shell SingleByDouble ∷ Shell Double ∷ Shell Backslashes ∷ Shell BashBackslashes
-    ∷ Shell Dollar ∷ Shell DollarAscii ∷ Shell Git ∷ []
+    ∷ Shell BashTildes ∷ Shell Every ∷ Shell EveryCharacter ∷ Shell RegexMarks ∷ Shell Dollar ∷ Shell DollarAscii ∷ Shell Git ∷ []
 
 -- no character that belongs to the secret is outside the patterns
 abbrev pub HidesSpelled : List (List ℕ) → List ℕ → Spelling → Type 0

@@ -38,6 +38,25 @@ pub enum Kept {
     GoSegment,
     /// What `escape` of JavaScript leaves: letters, digits and `@*_+-./`.
     Escape,
+    /// What RFC 3986 leaves in a path, as Java does: the unreserved ones and `!'()*;,/:@&=+$`.
+    PlainPath(Beyond),
+    /// What it leaves in a query: these and `?`.
+    PlainQuery(Beyond),
+    /// What Java leaves in a query and a fragment: these, `[` and `]`.
+    JavaQuery(Beyond),
+    /// What Java leaves in the name and password of a URL: the unreserved ones and `!'()*;,:&=+$`.
+    JavaUser(Beyond),
+    /// What a browser leaves in the fragment of a URL: all marks but `"<>` and backquotes.
+    Fragment(Beyond),
+}
+
+/// How a URL's encoder writes the bytes above 127.
+#[derive(Clone, Copy, Debug, PartialEq, Eq)]
+pub enum Beyond {
+    /// Encoded.
+    Encoded,
+    /// As they are.
+    Kept,
 }
 
 /// How a URL's encoder writes a space.
@@ -96,6 +115,14 @@ pub enum Quoting {
     Backslashes,
     /// By the backslashes that bash writes, which leaves `#` and `~` and other bytes that other shells escape.
     BashBackslashes,
+    /// So with `~` escaped too, as bash does behind `=` and `:`.
+    BashTildes,
+    /// As bash traces a comparison by `[[ ]]`: with a backslash before each byte, but 1 and 127.
+    Every,
+    /// So, with none within a character of UTF-8.
+    EveryCharacter,
+    /// As bash traces `=~`: with a backslash before the marks of a regular expression.
+    RegexMarks,
     /// Within `$'` and `'`, with letters or octal digits for control characters.
     Dollar,
     /// So in ASCII alone.
@@ -162,6 +189,25 @@ fn kept_marks(kept: Kept) -> &'static [u8]
         Kept::GoUser => b"-._~$&+,;=",
         Kept::GoSegment => b"-._~$&+:=@",
         Kept::Escape => b"-._*@+/",
+        Kept::PlainPath(_) => b"-._~!'()*;,/:@&=+$",
+        Kept::PlainQuery(_) => b"-._~!'()*;,/?:@&=+$",
+        Kept::JavaQuery(_) => b"-._~!'()*;,/?:@&=+$[]",
+        Kept::JavaUser(_) => b"-._~!'()*;,:&=+$",
+        Kept::Fragment(_) => b"-._~!'()*;,/?:@&=+$#%[\\]^{|}",
+    }
+}
+
+/// Whether bytes above 127 stand in a URL as they are.
+fn keeps_beyond(kept: Kept) -> bool
+    ensures { result ≡ spec.keeps_beyond kept }
+{
+    match kept {
+        Kept::PlainPath(beyond)
+        | Kept::PlainQuery(beyond)
+        | Kept::JavaQuery(beyond)
+        | Kept::JavaUser(beyond)
+        | Kept::Fragment(beyond) => beyond == Beyond::Kept,
+        _ => false,
     }
 }
 
@@ -179,7 +225,9 @@ fn keeps_letters(kept: Kept) -> bool
 fn is_unencoded(kept: Kept, byte: u8) -> bool
     ensures { result ≡ spec.is_unencoded kept byte }
 {
-    keeps_letters(kept) && byte.is_ascii_alphanumeric() || kept_marks(kept).contains(&byte)
+    keeps_letters(kept) && byte.is_ascii_alphanumeric()
+        || kept_marks(kept).contains(&byte)
+        || keeps_beyond(kept) && byte > 127
 }
 
 /// A hexadecimal digit.
@@ -401,6 +449,27 @@ fn is_bash_mark(byte: u8) -> bool
     b" !\"$&'()*,;<>?[\\]^`{|}".contains(&byte)
 }
 
+/// Whether bash puts a backslash before a byte when it traces a comparison.
+fn is_traced(byte: u8) -> bool
+    ensures { result ≡ spec.is_traced byte }
+{
+    byte != 1 && byte != 127
+}
+
+/// Whether a byte is within a character of UTF-8, and not its first.
+fn is_continuation(byte: u8) -> bool
+    ensures { result ≡ spec.is_continuation byte }
+{
+    byte > 127 && byte < 192
+}
+
+/// Whether a byte is a mark of a regular expression.
+fn is_regex_mark(byte: u8) -> bool
+    ensures { result ≡ spec.is_regex_mark byte }
+{
+    b".[*^$+?(){|\\".contains(&byte)
+}
+
 /// Whether a byte is a control character of ASCII.
 fn is_control(byte: u8) -> bool
     ensures { result ≡ spec.is_control byte }
@@ -479,6 +548,12 @@ fn push_shell(out: &mut Vec<u8>, quoting: Quoting, byte: u8) -> Result<(), Alloc
         Quoting::Double => push_escaped(out, !b"$`\"\\".contains(&byte), byte),
         Quoting::Backslashes => push_escaped(out, is_plain(byte), byte),
         Quoting::BashBackslashes => push_escaped(out, !is_bash_mark(byte), byte),
+        Quoting::BashTildes => push_escaped(out, byte != b'~' && !is_bash_mark(byte), byte),
+        Quoting::Every => push_escaped(out, !is_traced(byte), byte),
+        Quoting::EveryCharacter => {
+            push_escaped(out, is_continuation(byte) || !is_traced(byte), byte)
+        }
+        Quoting::RegexMarks => push_escaped(out, !is_regex_mark(byte), byte),
         Quoting::Dollar => push_dollar(out, !is_control(byte), byte),
         Quoting::DollarAscii => push_dollar(out, is_printable(byte), byte),
         Quoting::Git => push_git(out, byte),

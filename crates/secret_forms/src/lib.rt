@@ -15,7 +15,7 @@ mod listed;
 mod spelled_form;
 
 pub use base64_form::base64_forms;
-pub use bytewise::{Digits, Json, Kept, Marks, Quotes, Quoting, Space, Spelling};
+pub use bytewise::{Beyond, Digits, Json, Kept, Marks, Quotes, Quoting, Space, Spelling};
 pub use error::FormError;
 pub use form::{Form, forms, nested_forms};
 pub use hex_form::hex_forms;

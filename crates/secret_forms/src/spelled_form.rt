@@ -8,7 +8,7 @@ ghost use Rattle.secret_forms.specs.Patterns.{ListsPatterns, pattern_bytes};
 ghost use Rattle.secret_forms.specs.Spelling.{HidesSpelled, shell_spellings, spelled_by, url_spellings, xml_spellings};
 ghost use Rattle.secret_forms.specs.declared.error.FormError.TheVariants.{TooShort};
 
-use crate::bytewise::{Digits, Kept, Quotes, Quoting, Space, Spelling, add_spelled};
+use crate::bytewise::{Beyond, Digits, Kept, Quotes, Quoting, Space, Spelling, add_spelled};
 use crate::error::{FormError, SHORTEST};
 use std::alloc::Global;
 
@@ -34,8 +34,8 @@ pub fn spelled_forms(
 }
 
 /// The encoders of URLs: nine that leave some bytes, each with a space as any other byte and as `+`, four that write no `+` for a space,
-/// and one that encodes each byte; with digits in both cases.
-pub(crate) fn url_encoders() -> [Spelling; 46]
+/// one that encodes each byte, and five more without `+`, with bytes above 127 encoded and as they are; with digits in both cases.
+pub(crate) fn url_encoders() -> [Spelling; 66]
     ensures { result ≡ url_spellings }
 {
     let (encoded, plus) = (Space::Encoded, Space::Plus);
@@ -87,6 +87,26 @@ pub(crate) fn url_encoders() -> [Spelling; 46]
         Spelling::Url(Kept::Escape, encoded, lower),
         Spelling::Url(Kept::Nothing, encoded, upper),
         Spelling::Url(Kept::Nothing, encoded, lower),
+        Spelling::Url(Kept::PlainPath(Beyond::Encoded), encoded, upper),
+        Spelling::Url(Kept::PlainPath(Beyond::Encoded), encoded, lower),
+        Spelling::Url(Kept::PlainPath(Beyond::Kept), encoded, upper),
+        Spelling::Url(Kept::PlainPath(Beyond::Kept), encoded, lower),
+        Spelling::Url(Kept::PlainQuery(Beyond::Encoded), encoded, upper),
+        Spelling::Url(Kept::PlainQuery(Beyond::Encoded), encoded, lower),
+        Spelling::Url(Kept::PlainQuery(Beyond::Kept), encoded, upper),
+        Spelling::Url(Kept::PlainQuery(Beyond::Kept), encoded, lower),
+        Spelling::Url(Kept::JavaQuery(Beyond::Encoded), encoded, upper),
+        Spelling::Url(Kept::JavaQuery(Beyond::Encoded), encoded, lower),
+        Spelling::Url(Kept::JavaQuery(Beyond::Kept), encoded, upper),
+        Spelling::Url(Kept::JavaQuery(Beyond::Kept), encoded, lower),
+        Spelling::Url(Kept::JavaUser(Beyond::Encoded), encoded, upper),
+        Spelling::Url(Kept::JavaUser(Beyond::Encoded), encoded, lower),
+        Spelling::Url(Kept::JavaUser(Beyond::Kept), encoded, upper),
+        Spelling::Url(Kept::JavaUser(Beyond::Kept), encoded, lower),
+        Spelling::Url(Kept::Fragment(Beyond::Encoded), encoded, upper),
+        Spelling::Url(Kept::Fragment(Beyond::Encoded), encoded, lower),
+        Spelling::Url(Kept::Fragment(Beyond::Kept), encoded, upper),
+        Spelling::Url(Kept::Fragment(Beyond::Kept), encoded, lower),
     ]
 }
 
@@ -131,7 +151,7 @@ pub fn xml_forms(alloc: Global, secret: &[u8]) -> Result<Vec<Vec<u8>>, FormError
 }
 
 /// The ways to quote a shell's word.
-pub(crate) fn shell_encoders() -> [Spelling; 8]
+pub(crate) fn shell_encoders() -> [Spelling; 12]
     ensures { result ≡ shell_spellings }
 {
     [
@@ -140,13 +160,18 @@ pub(crate) fn shell_encoders() -> [Spelling; 8]
         Spelling::Shell(Quoting::Double),
         Spelling::Shell(Quoting::Backslashes),
         Spelling::Shell(Quoting::BashBackslashes),
+        Spelling::Shell(Quoting::BashTildes),
+        Spelling::Shell(Quoting::Every),
+        Spelling::Shell(Quoting::EveryCharacter),
+        Spelling::Shell(Quoting::RegexMarks),
         Spelling::Shell(Quoting::Dollar),
         Spelling::Shell(Quoting::DollarAscii),
         Spelling::Shell(Quoting::Git),
     ]
 }
 
-/// A secret as it is quoted for a shell: within single quotes, as git does too, within double quotes, or `$'` and `'`, or by backslashes.
+/// A secret as it is quoted for a shell: within single quotes, as git does too, within double quotes, or `$'` and `'`, or by backslashes,
+/// also by those that bash writes when it traces `[[ ]]`.
 pub fn shell_forms(alloc: Global, secret: &[u8]) -> Result<Vec<Vec<u8>>, FormError>
     ensures short { length secret.now < 4 → result ≡ Err TooShort }
     ensures long { IfErr result (λ e. e ≡ TooShort → length secret.now < 4) }

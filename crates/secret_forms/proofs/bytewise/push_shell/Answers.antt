@@ -34,3 +34,19 @@ returns-in-DollarAscii c = search rules
 pub returns-in-Git : goal.returns-in-Git
 unfolding shell_byte
 returns-in-Git c = search rules
+
+pub returns-in-BashTildes : goal.returns-in-BashTildes
+unfolding shell_byte
+returns-in-BashTildes c = search rules
+
+pub returns-in-Every : goal.returns-in-Every
+unfolding shell_byte
+returns-in-Every c = search rules
+
+pub returns-in-EveryCharacter : goal.returns-in-EveryCharacter
+unfolding shell_byte
+returns-in-EveryCharacter c = search rules
+
+pub returns-in-RegexMarks : goal.returns-in-RegexMarks
+unfolding shell_byte
+returns-in-RegexMarks c = search rules
