@@ -54,7 +54,8 @@ module _ (patterns : List (List ℕ)) (secret text : List ℕ) (place : ℕ) whe
   form_hidden Base64 (a, b, c, d) (inr (inr (inr shows))) = bits_hidden 6 (encode_of url_safe_no_pad) d shows
   form_hidden Hex (a, b) (inl shows) = bits_hidden 4 encode_lower a shows
   form_hidden Hex (a, b) (inr shows) = bits_hidden 4 encode_upper b shows
-  form_hidden Url law shows = spelled_hidden url_spellings law shows
+  form_hidden Url (law, others) (inl shows) = spelled_hidden url_spellings law shows
+  form_hidden Url (law, others) (inr (utf8, shows)) = each_hidden _ (chars secret) (others utf8) shows
   form_hidden Json (law, others) (inl shows) = spelled_hidden json_spellings law shows
   form_hidden Json (law, others) (inr (utf8, way, listed, shows)) = each_hidden _ (chars secret) (All-contains (HidesCharacters patterns secret) json_ways way (others utf8) listed) shows
   form_hidden Xml law shows = spelled_hidden xml_spellings law shows

@@ -5,6 +5,7 @@ use Rattle.base64.specs.Engines.{standard, standard_no_pad, url_safe, url_safe_n
 use Rattle.base64.specs.GeneralPurpose.{encode_of}
 use Rattle.hex.specs.Hex.{encode_lower, encode_upper}
 use Rattle.aho_core.specs.Cover.{IsCovered}
+use Rattle.secret_forms.specs.Escape.{escape_char}
 use Rattle.secret_forms.specs.Forms.{form_patterns}
 use Rattle.secret_forms.specs.Json.{json_char, json_spellings, json_ways}
 use Rattle.secret_forms.specs.Law.{HoldsBit, IsOfBytes}
@@ -60,7 +61,8 @@ ShowsBase64 secret text place =
 abbrev pub ShowsForm : Form → (secret text : List ℕ) (place : ℕ) → Type 0
 ShowsForm Base64 secret text place = ShowsBase64 secret text place
 ShowsForm Hex secret text place = ShowsBits 4 encode_lower secret text place ⊎ ShowsBits 4 encode_upper secret text place
-ShowsForm Url secret text place = SpellsForm url_spellings secret text place
+ShowsForm Url secret text place =
+    SpellsForm url_spellings secret text place ⊎ (IsUtf8 secret × SpellsEach escape_char (chars secret) text place)
 ShowsForm Json secret text place =
     SpellsForm json_spellings secret text place
     ⊎ (IsUtf8 secret × (way : JsonWay) × Contains json_ways way × SpellsEach (json_char way) (chars secret) text place)

@@ -16,6 +16,7 @@ use Rattle.base64.proofs.RoundTrip.{length-encode_symbols}
 use Rattle.hex.specs.Hex.{encode_with, lower_digits, upper_digits}
 use Rattle.hex.proofs.HexLemmas.{length-encode_with}
 use Rattle.secret_forms.specs.Base64.{secret_within, trimmed, front_of, rest_of, back_of, byte_behind, values_ahead, values_behind, core_of, with_ahead, with_behind, all_ahead, all_behind, shift_patterns, alphabet_patterns, base64_patterns}
+use Rattle.secret_forms.specs.Escape.{escape_char, escaped, url_patterns}
 use Rattle.secret_forms.specs.Forms.{form_patterns}
 use Rattle.secret_forms.specs.Json.{json_char, json_patterns, json_spellings, json_ways, numbered, numbered_by}
 use Rattle.secret_forms.specs.Lines.{ends_line, long_line}
@@ -197,6 +198,18 @@ maybe_numbered s false is some = none
 json_all : (s : List ℕ) → IsFilled s → All IsFilled (json_patterns s)
 json_all s some = both (spelled_by json_spellings s) _ (spelled_filled json_spellings s some) (maybe_numbered s (is_utf8 s) refl some)
 
+-- the same of `escape`
+escape_filled : (c : ℕ) → IsFilled (escape_char c)
+unfolding escape_char
+escape_filled c = search (either, filled, url_filled)
+
+maybe_escaped : (s : List ℕ) (b : Bool) → is_utf8 s ≡ b → IsFilled s → All IsFilled (cond b (escaped (chars s) ∷ []) [])
+maybe_escaped s true is some = one (escaped (chars s)) (each escape_char (chars s) escape_filled (chars_filled s (chars s) some (encodes-chars s (IsUtf8-from_is_utf8 s is))))
+maybe_escaped s false is some = none
+
+url_all : (s : List ℕ) → IsFilled s → All IsFilled (url_patterns s)
+url_all s some = both (spelled_by url_spellings s) _ (spelled_filled url_spellings s some) (maybe_escaped s (is_utf8 s) refl some)
+
 -- lines
 line_filled : (line : List ℕ) (b : Bool) → nat_lt (length line) 8 ≡ b → All IsFilled (cond b [] (line ∷ []))
 line_filled line true is = none
@@ -258,7 +271,7 @@ digits_filled t s long = record { some = rw (length-encode_with t s) (omega (ari
 pub All-filled : (s : List ℕ) (form : Form) → 4 ≤ length s → All IsFilled (form_patterns s form)
 All-filled s Base64 long = base64_filled s long
 All-filled s Hex long = both (encode_with lower_digits s ∷ []) (encode_with upper_digits s ∷ []) (one _ (digits_filled lower_digits s long)) (one _ (digits_filled upper_digits s long))
-All-filled s UrlForm long = spelled_filled url_spellings s (record { some = omega (arith, long) })
+All-filled s UrlForm long = url_all s (record { some = omega (arith, long) })
 All-filled s JsonForm long = json_all s (record { some = omega (arith, long) })
 All-filled s XmlForm long = spelled_filled xml_spellings s (record { some = omega (arith, long) })
 All-filled s ShellForm long = spelled_filled shell_spellings s (record { some = omega (arith, long) })

@@ -10,6 +10,7 @@ use Rattle.base64.specs.Engines.{standard, standard_no_pad, url_safe, url_safe_n
 use Rattle.base64.specs.Rfc4648.{encode, encode_symbols}
 use Rattle.hex.specs.Hex.{lower_digits, upper_digits}
 use Rattle.secret_forms.specs.Base64.{alphabet_patterns, base64_patterns}
+use Rattle.secret_forms.specs.Escape.{HidesUrl, escape_char, escape_patterns, escaped, url_patterns}
 use Rattle.secret_forms.specs.Forms.{HidesForm, HidesBase64, HidesJson, form_patterns}
 use Rattle.secret_forms.specs.Json.{HidesCharacters, json_char, json_patterns, json_spellings, json_ways, numbered, numbered_by}
 use Rattle.secret_forms.specs.Law.{HidesBits}
@@ -75,6 +76,16 @@ HidesJson-held patterns s has = (
   λ text. HidesCharacters-held patterns s json_ways (λ x held. has x (whole_characters s x (is_utf8-from_IsUtf8 s text) held)),
 )
 
+has_escape : (s : List ℕ) → is_utf8 s ≡ true → Contains (url_patterns s) (escaped (chars s))
+has_escape s valid =
+    Contains-append_right (spelled_by url_spellings s) (escape_patterns s) (escaped (chars s)) (rw valid (0, omega arith, refl))
+
+pub HidesUrl-held : (patterns : List (List ℕ)) (s : List ℕ) → Has patterns (url_patterns s) → HidesUrl patterns s
+HidesUrl-held patterns s has = (
+  HidesSpelled-held patterns s url_spellings (λ x held. has x (Contains-append_left (spelled_by url_spellings s) (escape_patterns s) x held)),
+  λ text. HidesEach-listed escape_char patterns (chars s) (has (escaped (chars s)) (has_escape s (is_utf8-from_IsUtf8 s text))),
+)
+
 -- of lines
 pub HidesLine-held : (patterns lines : List (List ℕ)) → Has patterns lines → All (HidesLine patterns) lines
 HidesLine-held patterns lines has = All-held (HidesLine patterns) lines
@@ -88,7 +99,7 @@ pub HidesForm-held : (patterns : List (List ℕ)) (s : List ℕ) (form : Form) �
 HidesForm-held patterns s Base64 some has = HidesBase64-held patterns s some has
 HidesForm-held patterns s Hex some has =
     (HidesBits-hex lower_digits patterns s (has _ (0, omega arith, refl)), HidesBits-hex upper_digits patterns s (has _ (1, omega arith, refl)))
-HidesForm-held patterns s Url some has = HidesSpelled-held patterns s url_spellings has
+HidesForm-held patterns s Url some has = HidesUrl-held patterns s has
 HidesForm-held patterns s JsonForm some has = HidesJson-held patterns s has
 HidesForm-held patterns s Xml some has = HidesSpelled-held patterns s xml_spellings has
 HidesForm-held patterns s Shell some has = HidesSpelled-held patterns s shell_spellings has

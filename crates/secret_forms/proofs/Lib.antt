@@ -6,6 +6,7 @@ pub mod Sextets
 pub mod Base64Law
 pub mod Alphabets
 pub mod FormLaw
+pub mod EscapeAdds
 pub mod JsonAdds
 pub mod Filled
 pub mod NestedLaw

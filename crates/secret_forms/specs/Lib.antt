@@ -1,4 +1,5 @@
 pub mod Base64
+pub mod Escape
 pub mod Forms
 pub mod Hex
 pub mod Json

@@ -36,6 +36,8 @@ pub enum Kept {
     GoUser,
     /// What Go leaves in a segment of a path: the unreserved ones and `$&+:=@`.
     GoSegment,
+    /// What Go leaves in a path: the unreserved ones and `$&+,/:;=@`.
+    GoPath,
     /// What `escape` of JavaScript leaves: letters, digits and `@*_+-./`.
     Escape,
     /// What RFC 3986 leaves in a path, as Java does: the unreserved ones and `!'()*;,/:@&=+$`.
@@ -146,6 +148,10 @@ pub enum Marks {
     Gson,
     /// What .NET escapes: `<`, `>`, `&`, `+`, both quotes, backquotes and the byte 127, by their numbers.
     Dotnet,
+    /// What Newtonsoft's Json.NET escapes for HTML: `<`, `>`, `&` and both quotes, by their numbers.
+    Html,
+    /// These and `/`, as PHP does.
+    SlashAndHtml,
 }
 
 /// How an encoder of JSON writes what it escapes.
@@ -188,6 +194,7 @@ fn kept_marks(kept: Kept) -> &'static [u8]
         Kept::User => b"-._~!'()*,&+$%",
         Kept::GoUser => b"-._~$&+,;=",
         Kept::GoSegment => b"-._~$&+:=@",
+        Kept::GoPath => b"-._~$&+,/:;=@",
         Kept::Escape => b"-._*@+/",
         Kept::PlainPath(_) => b"-._~!'()*;,/:@&=+$",
         Kept::PlainQuery(_) => b"-._~!'()*;,/?:@&=+$",
@@ -231,7 +238,7 @@ fn is_unencoded(kept: Kept, byte: u8) -> bool
 }
 
 /// A hexadecimal digit.
-fn digit(digits: Digits, value: u8) -> u8
+pub(crate) fn digit(digits: Digits, value: u8) -> u8
     requires { value < 16 }
     ensures { result ≡ spec.digit digits value }
 {
@@ -255,7 +262,7 @@ fn is_plus(space: Space, byte: u8) -> bool
 }
 
 /// Writes a byte of a URL.
-fn push_url(
+pub(crate) fn push_url(
     out: &mut Vec<u8>,
     kept: Kept,
     space: Space,
@@ -289,7 +296,7 @@ fn escapes_slash(marks: Marks) -> bool
     ensures { result ≡ spec.escapes_slash marks }
 {
     match marks {
-        Marks::Slash | Marks::SlashAndMarkup => true,
+        Marks::Slash | Marks::SlashAndMarkup | Marks::SlashAndHtml => true,
         _ => false,
     }
 }
@@ -303,6 +310,7 @@ fn numbered_marks(marks: Marks) -> &'static [u8]
         Marks::Markup | Marks::SlashAndMarkup => b"<>&",
         Marks::Gson => b"<>&='",
         Marks::Dotnet => b"<>&+'\"`\x7f",
+        Marks::Html | Marks::SlashAndHtml => b"<>&'\"",
     }
 }
 
@@ -449,6 +457,13 @@ fn is_bash_mark(byte: u8) -> bool
     b" !\"$&'()*,;<>?[\\]^`{|}".contains(&byte)
 }
 
+/// Whether a byte is such a one or `~`.
+fn is_bash_mark_or_tilde(byte: u8) -> bool
+    ensures { result ≡ spec.is_bash_mark_or_tilde byte }
+{
+    byte == b'~' || is_bash_mark(byte)
+}
+
 /// Whether bash puts a backslash before a byte when it traces a comparison.
 fn is_traced(byte: u8) -> bool
     ensures { result ≡ spec.is_traced byte }
@@ -461,6 +476,13 @@ fn is_continuation(byte: u8) -> bool
     ensures { result ≡ spec.is_continuation byte }
 {
     byte > 127 && byte < 192
+}
+
+/// Whether bash puts a backslash before a character that begins with a byte.
+fn is_traced_character(byte: u8) -> bool
+    ensures { result ≡ spec.is_traced_character byte }
+{
+    is_traced(byte) && !is_continuation(byte)
 }
 
 /// Whether a byte is a mark of a regular expression.
@@ -548,11 +570,9 @@ fn push_shell(out: &mut Vec<u8>, quoting: Quoting, byte: u8) -> Result<(), Alloc
         Quoting::Double => push_escaped(out, !b"$`\"\\".contains(&byte), byte),
         Quoting::Backslashes => push_escaped(out, is_plain(byte), byte),
         Quoting::BashBackslashes => push_escaped(out, !is_bash_mark(byte), byte),
-        Quoting::BashTildes => push_escaped(out, byte != b'~' && !is_bash_mark(byte), byte),
+        Quoting::BashTildes => push_escaped(out, !is_bash_mark_or_tilde(byte), byte),
         Quoting::Every => push_escaped(out, !is_traced(byte), byte),
-        Quoting::EveryCharacter => {
-            push_escaped(out, is_continuation(byte) || !is_traced(byte), byte)
-        }
+        Quoting::EveryCharacter => push_escaped(out, !is_traced_character(byte), byte),
         Quoting::RegexMarks => push_escaped(out, !is_regex_mark(byte), byte),
         Quoting::Dollar => push_dollar(out, !is_control(byte), byte),
         Quoting::DollarAscii => push_dollar(out, is_printable(byte), byte),

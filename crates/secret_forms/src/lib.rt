@@ -7,6 +7,7 @@
 mod base64_form;
 mod bytewise;
 mod error;
+mod escape_form;
 mod form;
 mod hex_form;
 mod json_form;
@@ -17,8 +18,9 @@ mod spelled_form;
 pub use base64_form::base64_forms;
 pub use bytewise::{Beyond, Digits, Json, Kept, Marks, Quotes, Quoting, Space, Spelling};
 pub use error::FormError;
+pub use escape_form::url_forms;
 pub use form::{Form, forms, nested_forms};
 pub use hex_form::hex_forms;
 pub use json_form::json_forms;
 pub use lines_form::lines_forms;
-pub use spelled_form::{shell_forms, spelled_forms, url_forms, xml_forms};
+pub use spelled_form::{shell_forms, spelled_forms, xml_forms};
