@@ -213,6 +213,10 @@ is_plain byte = nat_lt 127 byte || is_ascii_alphanumeric byte || list_any (λ on
 abbrev pub is_bash_mark : ℕ → Bool
 is_bash_mark byte = list_any (λ one. one == byte) (codes " !\"$&'()*,;<>?[\\]^`{|}")
 
+-- whether a byte is such a one or `~`
+abbrev pub is_bash_mark_or_tilde : ℕ → Bool
+is_bash_mark_or_tilde byte = (byte == 126) || is_bash_mark byte
+
 -- whether bash puts a backslash before a byte when it traces a comparison
 abbrev pub is_traced : ℕ → Bool
 is_traced byte = not (byte == 1) && not (byte == 127)
@@ -220,6 +224,10 @@ is_traced byte = not (byte == 1) && not (byte == 127)
 -- whether a byte is within a character of UTF-8, and not its first
 abbrev pub is_continuation : ℕ → Bool
 is_continuation byte = nat_lt 127 byte && nat_lt byte 192
+
+-- whether bash puts a backslash before a character that begins with a byte
+abbrev pub is_traced_character : ℕ → Bool
+is_traced_character byte = is_traced byte && not (is_continuation byte)
 
 -- whether a byte is a mark of a regular expression
 abbrev pub is_regex_mark : ℕ → Bool
@@ -261,9 +269,9 @@ shell_byte SingleByDouble byte = single_byte (39 ∷ 34 ∷ 39 ∷ 34 ∷ 39 ∷
 shell_byte Double byte = escaped_unless (not (list_any (λ one. one == byte) (36 ∷ 96 ∷ 34 ∷ 92 ∷ []))) byte
 shell_byte Backslashes byte = escaped_unless (is_plain byte) byte
 shell_byte BashBackslashes byte = escaped_unless (not (is_bash_mark byte)) byte
-shell_byte BashTildes byte = escaped_unless (not (byte == 126) && not (is_bash_mark byte)) byte
+shell_byte BashTildes byte = escaped_unless (not (is_bash_mark_or_tilde byte)) byte
 shell_byte Every byte = escaped_unless (not (is_traced byte)) byte
-shell_byte EveryCharacter byte = escaped_unless (is_continuation byte || not (is_traced byte)) byte
+shell_byte EveryCharacter byte = escaped_unless (not (is_traced_character byte)) byte
 shell_byte RegexMarks byte = escaped_unless (not (is_regex_mark byte)) byte
 shell_byte Dollar byte = dollar_byte (not (is_control byte)) byte
 shell_byte DollarAscii byte = dollar_byte (is_printable byte) byte

@@ -449,6 +449,13 @@ fn is_bash_mark(byte: u8) -> bool
     b" !\"$&'()*,;<>?[\\]^`{|}".contains(&byte)
 }
 
+/// Whether a byte is such a one or `~`.
+fn is_bash_mark_or_tilde(byte: u8) -> bool
+    ensures { result ≡ spec.is_bash_mark_or_tilde byte }
+{
+    byte == b'~' || is_bash_mark(byte)
+}
+
 /// Whether bash puts a backslash before a byte when it traces a comparison.
 fn is_traced(byte: u8) -> bool
     ensures { result ≡ spec.is_traced byte }
@@ -461,6 +468,13 @@ fn is_continuation(byte: u8) -> bool
     ensures { result ≡ spec.is_continuation byte }
 {
     byte > 127 && byte < 192
+}
+
+/// Whether bash puts a backslash before a character that begins with a byte.
+fn is_traced_character(byte: u8) -> bool
+    ensures { result ≡ spec.is_traced_character byte }
+{
+    is_traced(byte) && !is_continuation(byte)
 }
 
 /// Whether a byte is a mark of a regular expression.
@@ -548,11 +562,9 @@ fn push_shell(out: &mut Vec<u8>, quoting: Quoting, byte: u8) -> Result<(), Alloc
         Quoting::Double => push_escaped(out, !b"$`\"\\".contains(&byte), byte),
         Quoting::Backslashes => push_escaped(out, is_plain(byte), byte),
         Quoting::BashBackslashes => push_escaped(out, !is_bash_mark(byte), byte),
-        Quoting::BashTildes => push_escaped(out, byte != b'~' && !is_bash_mark(byte), byte),
+        Quoting::BashTildes => push_escaped(out, !is_bash_mark_or_tilde(byte), byte),
         Quoting::Every => push_escaped(out, !is_traced(byte), byte),
-        Quoting::EveryCharacter => {
-            push_escaped(out, is_continuation(byte) || !is_traced(byte), byte)
-        }
+        Quoting::EveryCharacter => push_escaped(out, !is_traced_character(byte), byte),
         Quoting::RegexMarks => push_escaped(out, !is_regex_mark(byte), byte),
         Quoting::Dollar => push_dollar(out, !is_control(byte), byte),
         Quoting::DollarAscii => push_dollar(out, is_printable(byte), byte),
