@@ -12,6 +12,7 @@ use Rattle.hex.specs.Hex.{lower_digits, upper_digits}
 use Rattle.secret_forms.specs.Base64.{alphabet_patterns, base64_patterns}
 use Rattle.secret_forms.specs.Escape.{HidesUrl, escape_char, escape_patterns, escaped, url_patterns}
 use Rattle.secret_forms.specs.Forms.{HidesForm, HidesBase64, HidesJson, form_patterns}
+use Rattle.secret_forms.specs.Joined.{HidesJoined, HidesShell, joined, joined_by, joinings, shell_patterns}
 use Rattle.secret_forms.specs.Json.{HidesCharacters, json_char, json_patterns, json_spellings, json_ways, numbered, numbered_by}
 use Rattle.secret_forms.specs.Law.{HidesBits}
 use Rattle.secret_forms.specs.Lines.{HidesLine, line_patterns}
@@ -19,12 +20,14 @@ use Rattle.secret_forms.specs.Patterns.{added_all}
 use Rattle.secret_forms.specs.Spelling.{HidesSpelled, shell_spellings, spelled, spelled_by, spelled_byte, url_spellings, xml_spellings}
 use Rattle.secret_forms.specs.declared.bytewise.Json.{Json}
 use Rattle.secret_forms.specs.declared.bytewise.Spelling.{Spelling}
+use Rattle.secret_forms.specs.declared.joined_form.Joining.{Joining}
 use Rattle.secret_forms.specs.declared.form.Form.{Form}
 use Rattle.secret_forms.specs.declared.form.Form.TheVariants.{Base64, Hex, Url, Json as JsonForm, Xml, Shell, Lines}
 use Rattle.secret_forms.proofs.Alphabets.{HasShifts-alphabet}
 use Rattle.secret_forms.proofs.Base64Law.{HidesBits-base64, HasShifts}
 use Rattle.secret_forms.proofs.EachLaw.{All-held, Contains-flat_map, Contains-map, HidesEach-listed}
 use Rattle.secret_forms.proofs.HexLaw.{HidesBits-hex}
+use Rattle.secret_forms.proofs.JoinedLaw.{HidesJoined-listed}
 use Rattle.secret_forms.proofs.Members.{Contains-added_all_new}
 
 -- each of some patterns is among others
@@ -86,6 +89,18 @@ HidesUrl-held patterns s has = (
   λ text. HidesEach-listed escape_char patterns (chars s) (has (escaped (chars s)) (has_escape s (is_utf8-from_IsUtf8 s text))),
 )
 
+-- of encoders that look at the byte before each
+HidesJoined-held : (patterns : List (List ℕ)) (s : List ℕ) (all : List Joining) → 1 ≤ length s → Has patterns (joined_by all s)
+    → All (HidesJoined patterns s) all
+HidesJoined-held patterns s all some has = All-held (HidesJoined patterns s) all
+    (λ one there. HidesJoined-listed one patterns s some (has (joined one s) (Contains-map (λ (u : Joining). joined u s) all one there)))
+
+HidesShell-held : (patterns : List (List ℕ)) (s : List ℕ) → 1 ≤ length s → Has patterns (shell_patterns s) → HidesShell patterns s
+HidesShell-held patterns s some has = (
+  HidesSpelled-held patterns s shell_spellings (λ x held. has x (Contains-append_left (spelled_by shell_spellings s) (joined_by joinings s) x held)),
+  HidesJoined-held patterns s joinings some (λ x held. has x (Contains-append_right (spelled_by shell_spellings s) (joined_by joinings s) x held)),
+)
+
 -- of lines
 pub HidesLine-held : (patterns lines : List (List ℕ)) → Has patterns lines → All (HidesLine patterns) lines
 HidesLine-held patterns lines has = All-held (HidesLine patterns) lines
@@ -102,7 +117,7 @@ HidesForm-held patterns s Hex some has =
 HidesForm-held patterns s Url some has = HidesUrl-held patterns s has
 HidesForm-held patterns s JsonForm some has = HidesJson-held patterns s has
 HidesForm-held patterns s Xml some has = HidesSpelled-held patterns s xml_spellings has
-HidesForm-held patterns s Shell some has = HidesSpelled-held patterns s shell_spellings has
+HidesForm-held patterns s Shell some has = HidesShell-held patterns s some has
 HidesForm-held patterns s Lines some has = HidesLine-held patterns (line_patterns s) has
 
 pub HidesForm-all : (patterns : List (List ℕ)) (s : List ℕ) (forms : List Form) → 1 ≤ length s

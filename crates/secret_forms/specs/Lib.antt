@@ -2,6 +2,7 @@ pub mod Base64
 pub mod Escape
 pub mod Forms
 pub mod Hex
+pub mod Joined
 pub mod Json
 pub mod Law
 pub mod Lines

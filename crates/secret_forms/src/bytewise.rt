@@ -441,7 +441,7 @@ fn is_plain(byte: u8) -> bool
 }
 
 /// Writes a byte with a backslash before it, unless it stands as it is.
-fn push_escaped(out: &mut Vec<u8>, is_kept: bool, byte: u8) -> Result<(), AllocError>
+pub(crate) fn push_escaped(out: &mut Vec<u8>, is_kept: bool, byte: u8) -> Result<(), AllocError>
     ensures escaped { Writes result out.old out.new (spec.escaped_unless is_kept byte) }
 {
     if is_kept {
@@ -451,7 +451,7 @@ fn push_escaped(out: &mut Vec<u8>, is_kept: bool, byte: u8) -> Result<(), AllocE
 }
 
 /// Whether bash puts a backslash before a byte, by which it quotes a word.
-fn is_bash_mark(byte: u8) -> bool
+pub(crate) fn is_bash_mark(byte: u8) -> bool
     ensures { result ≡ spec.is_bash_mark byte }
 {
     b" !\"$&'()*,;<>?[\\]^`{|}".contains(&byte)
@@ -493,21 +493,21 @@ fn is_regex_mark(byte: u8) -> bool
 }
 
 /// Whether a byte is a control character of ASCII.
-fn is_control(byte: u8) -> bool
+pub(crate) fn is_control(byte: u8) -> bool
     ensures { result ≡ spec.is_control byte }
 {
     byte < 32 || byte == 127
 }
 
 /// Whether a byte is one of ASCII, and no control character.
-fn is_printable(byte: u8) -> bool
+pub(crate) fn is_printable(byte: u8) -> bool
     ensures { result ≡ spec.is_printable byte }
 {
     !is_control(byte) && byte < 128
 }
 
 /// Writes a byte by its number, a backslash and three octal digits, unless it stands as it is.
-fn push_octal(out: &mut Vec<u8>, is_kept: bool, byte: u8) -> Result<(), AllocError>
+pub(crate) fn push_octal(out: &mut Vec<u8>, is_kept: bool, byte: u8) -> Result<(), AllocError>
     ensures octal { Writes result out.old out.new (spec.octal_unless is_kept byte) }
 {
     if is_kept {

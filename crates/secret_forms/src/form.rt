@@ -10,9 +10,10 @@ use crate::bytewise::add_spelled;
 use crate::error::{FormError, SHORTEST};
 use crate::escape_form::add_url;
 use crate::hex_form::add_hex;
+use crate::joined_form::add_shell;
 use crate::json_form::add_json;
 use crate::lines_form::add_lines;
-use crate::spelled_form::{shell_encoders, xml_encoders};
+use crate::spelled_form::xml_encoders;
 use std::alloc::{AllocError, Global};
 
 /// How a secret is encoded.
@@ -83,7 +84,7 @@ fn add_form(
         Form::Url => add_url(alloc, secret, patterns),
         Form::Json => add_json(alloc, secret, patterns),
         Form::Xml => add_spelled(alloc, secret, &xml_encoders(), patterns),
-        Form::Shell => add_spelled(alloc, secret, &shell_encoders(), patterns),
+        Form::Shell => add_shell(alloc, secret, patterns),
         Form::Lines => add_lines(alloc, secret, patterns),
     }
 }

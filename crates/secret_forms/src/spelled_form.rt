@@ -161,14 +161,3 @@ pub(crate) fn shell_encoders() -> [Spelling; 12]
         Spelling::Shell(Quoting::Git),
     ]
 }
-
-/// A secret as it is quoted for a shell: within single quotes, as git does too, within double quotes, or `$'` and `'`, or by backslashes,
-/// also by those that bash writes when it traces `[[ ]]`.
-pub fn shell_forms(alloc: Global, secret: &[u8]) -> Result<Vec<Vec<u8>>, FormError>
-    ensures short { length secret.now < 4 → result ≡ Err TooShort }
-    ensures long { IfErr result (λ e. e ≡ TooShort → length secret.now < 4) }
-    ensures value { ListsPatterns result (spelled_by shell_spellings secret.now) }
-    ensures law { IfOk result (λ v. All (HidesSpelled (pattern_bytes v.items) secret.now) shell_spellings) }
-{
-    spelled_forms(alloc, secret, &shell_encoders())
-}
