@@ -176,7 +176,7 @@ fn shell_as_bash_writes(rt: HostRuntime) {
     let row: &[u8] = b"\
         a,~\x01\x07\n\x1b\x7f\xff a,\\~\\\x01\\\x07\\\n\\\x1b\\\x7f\xff a\\,~\x01\x07\n\x1b\x7f\xff \
         a\\,\\~\x01\x07\n\x1b\x7f\xff \\a\\,\\~\x01\\\x07\\\n\\\x1b\x7f\\\xff a,~\\001\\a\\n\\E\\177\xff \
-        a,~\\001\\a\\n\\E\\177\\377 ";
+        a,~\\001\\a\\n\\E\\177\\377 a,~'$'\\001\\a\\n\\033\\177''\xff a,~'$'\\001\\a\\n\\033\\177\\377 ";
     assert_eq!(rt; text.as_slice(), row);
 }
 
@@ -193,7 +193,17 @@ fn shell_as_bash_traces(rt: HostRuntime) {
     let text = shown(rt.alloc(), shell_forms(rt.alloc(), b"p\xc3\xa4.[]")).expect(&rt, "memory");
     let row: &[u8] = b"\
         p\xc3\xa4.[] p\xc3\xa4.\\[\\] \\p\\\xc3\\\xa4\\.\\[\\] \\p\\\xc3\xa4\\.\\[\\] p\xc3\xa4\\.\\[] \
-        p\\303\\244.[] ";
+        p\\303\\244.[] p'$'\\303\\244''.[] ";
+    assert_eq!(rt; text.as_slice(), row);
+}
+
+#[test]
+fn shell_by_the_byte_before(rt: HostRuntime) {
+    let text = shown(rt.alloc(), shell_forms(rt.alloc(), b"~a~=~\t'\xffb")).expect(&rt, "memory");
+    let row: &[u8] = b"\
+        ~a~=~\t'\\''\xffb ~a~=~\t'\"'\"'\xffb ~a~=~\t'\xffb \\~a\\~=\\~\\\t\\'\xffb ~a~=~\t\\'\xffb \
+        \\~a\\~=\\~\t\\'\xffb \\~\\a\\~\\=\\~\\\t\\'\\\xff\\b ~a~=~\\t\\'\xffb ~a~=~\\t\\'\\377b \
+        ~a~=\\~\t\\'\xffb ~a~=~'$'\\t'\\''\xffb ~a~=~'$'\\t'\\'''$'\\377''b ";
     assert_eq!(rt; text.as_slice(), row);
 }
 

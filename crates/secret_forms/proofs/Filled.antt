@@ -18,7 +18,7 @@ use Rattle.hex.proofs.HexLemmas.{length-encode_with}
 use Rattle.secret_forms.specs.Base64.{secret_within, trimmed, front_of, rest_of, back_of, byte_behind, values_ahead, values_behind, core_of, with_ahead, with_behind, all_ahead, all_behind, shift_patterns, alphabet_patterns, base64_patterns}
 use Rattle.secret_forms.specs.Escape.{escape_char, escaped, url_patterns}
 use Rattle.secret_forms.specs.Forms.{form_patterns}
-use Rattle.secret_forms.specs.Joined.{alone_byte, joined, joined_by, joined_from, joinings, named_byte}
+use Rattle.secret_forms.specs.Joined.{alone_byte, joined_word, joined_words, joined_from, joinings, named_byte}
 use Rattle.secret_forms.specs.Json.{json_char, json_patterns, json_spellings, json_ways, numbered, numbered_by}
 use Rattle.secret_forms.specs.Lines.{ends_line, long_line}
 use Rattle.secret_forms.specs.Spelling.{ampersand, dollar_byte, double_quote, greater_than, json_byte, json_no_letter, less_than, octal_unless, shell_byte, shell_spellings, single_quote, spelled, spelled_by, spelled_byte, url_byte, url_spellings, xml_byte, xml_spellings}
@@ -224,15 +224,15 @@ alone_filled Bash b = search (either, filled)
 alone_filled Coreutils b = named_filled _ b
 alone_filled CoreutilsAscii b = named_filled _ b
 
-joined_filled : (joining : Joining) (s : List ℕ) → IsFilled s → IsFilled (joined joining s)
+joined_filled : (joining : Joining) (s : List ℕ) → IsFilled s → IsFilled (joined_word joining s)
 joined_filled joining [] has = absurd (omega (arith, has.some))
 joined_filled joining (b ∷ bs) has =
     let here : 1 ≤ length (alone_byte joining b) = (alone_filled joining b).some in
     record { some = rw (length-append (alone_byte joining b) (joined_from joining (Some b) bs)) (omega (arith, here)) }
 
-shell_all : (s : List ℕ) → IsFilled s → All IsFilled (spelled_by shell_spellings s ++ joined_by joinings s)
-shell_all s some = both (spelled_by shell_spellings s) (joined_by joinings s) (spelled_filled shell_spellings s some)
-    (All-map IsFilled (λ (u : Joining). joined u s) joinings (λ k d below. joined_filled _ s some))
+shell_all : (s : List ℕ) → IsFilled s → All IsFilled (spelled_by shell_spellings s ++ joined_words joinings s)
+shell_all s some = both (spelled_by shell_spellings s) (joined_words joinings s) (spelled_filled shell_spellings s some)
+    (All-map IsFilled (λ (u : Joining). joined_word u s) joinings (λ k d below. joined_filled _ s some))
 
 -- lines
 line_filled : (line : List ℕ) (b : Bool) → nat_lt (length line) 8 ≡ b → All IsFilled (cond b [] (line ∷ []))

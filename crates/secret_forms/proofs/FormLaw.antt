@@ -12,7 +12,7 @@ use Rattle.hex.specs.Hex.{lower_digits, upper_digits}
 use Rattle.secret_forms.specs.Base64.{alphabet_patterns, base64_patterns}
 use Rattle.secret_forms.specs.Escape.{HidesUrl, escape_char, escape_patterns, escaped, url_patterns}
 use Rattle.secret_forms.specs.Forms.{HidesForm, HidesBase64, HidesJson, form_patterns}
-use Rattle.secret_forms.specs.Joined.{HidesJoined, HidesShell, joined, joined_by, joinings, shell_patterns}
+use Rattle.secret_forms.specs.Joined.{HidesJoined, HidesShell, joined_word, joined_words, joinings, shell_patterns}
 use Rattle.secret_forms.specs.Json.{HidesCharacters, json_char, json_patterns, json_spellings, json_ways, numbered, numbered_by}
 use Rattle.secret_forms.specs.Law.{HidesBits}
 use Rattle.secret_forms.specs.Lines.{HidesLine, line_patterns}
@@ -90,15 +90,15 @@ HidesUrl-held patterns s has = (
 )
 
 -- of encoders that look at the byte before each
-HidesJoined-held : (patterns : List (List ℕ)) (s : List ℕ) (all : List Joining) → 1 ≤ length s → Has patterns (joined_by all s)
+HidesJoined-held : (patterns : List (List ℕ)) (s : List ℕ) (all : List Joining) → 1 ≤ length s → Has patterns (joined_words all s)
     → All (HidesJoined patterns s) all
 HidesJoined-held patterns s all some has = All-held (HidesJoined patterns s) all
-    (λ one there. HidesJoined-listed one patterns s some (has (joined one s) (Contains-map (λ (u : Joining). joined u s) all one there)))
+    (λ one there. HidesJoined-listed one patterns s some (has (joined_word one s) (Contains-map (λ (u : Joining). joined_word u s) all one there)))
 
 HidesShell-held : (patterns : List (List ℕ)) (s : List ℕ) → 1 ≤ length s → Has patterns (shell_patterns s) → HidesShell patterns s
 HidesShell-held patterns s some has = (
-  HidesSpelled-held patterns s shell_spellings (λ x held. has x (Contains-append_left (spelled_by shell_spellings s) (joined_by joinings s) x held)),
-  HidesJoined-held patterns s joinings some (λ x held. has x (Contains-append_right (spelled_by shell_spellings s) (joined_by joinings s) x held)),
+  HidesSpelled-held patterns s shell_spellings (λ x held. has x (Contains-append_left (spelled_by shell_spellings s) (joined_words joinings s) x held)),
+  HidesJoined-held patterns s joinings some (λ x held. has x (Contains-append_right (spelled_by shell_spellings s) (joined_words joinings s) x held)),
 )
 
 -- of lines

@@ -13,12 +13,16 @@ abbrev pub escape_unit : ℕ → List ℕ
 escape_unit unit =
     37 ∷ 117 ∷ digit Upper (unit / 4096) ∷ digit Upper (unit / 256 % 16) ∷ digit Upper (unit / 16 % 16) ∷ digit Upper (unit % 16) ∷ []
 
+-- a character by how far it is beyond the first 65,536
+abbrev pub escape_pair : ℕ → List ℕ
+escape_pair above = escape_unit (high_half above) ++ escape_unit (low_half above)
+
 -- a character: up to 255 as a byte of a URL
 unfoldable pub escape_char : ℕ → List ℕ
 escape_char character =
     if nat_lt character 256 then url_byte Escape Encoded Upper character
     else if nat_lt character 65536 then escape_unit character
-    else escape_unit (high_half (character - 65536)) ++ escape_unit (low_half (character - 65536))
+    else escape_pair (character - 65536)
 
 -- characters
 abbrev pub escaped : List ℕ → List ℕ

@@ -27,6 +27,15 @@ fn push_number(out: &mut Vec<u8>, unit: u16) -> Result<(), AllocError>
     out.extend_from_slice(&[b'%', b'u', high, second, third, low])
 }
 
+/// Writes a character beyond the first 65,536 as a pair of numbers.
+fn push_halves(out: &mut Vec<u8>, above: u32) -> Result<(), AllocError>
+    requires { above < 1048576 }
+    ensures halves { Writes result out.old out.new (spec.escape_pair above) }
+{
+    push_number(out, (0xD800 + above / 1024) as u16)?;
+    push_number(out, (0xDC00 + above % 1024) as u16)
+}
+
 /// Writes a character.
 fn push_escape(out: &mut Vec<u8>, character: char) -> Result<(), AllocError>
     ensures character { Writes result out.old out.new (escape_char character) }
@@ -38,9 +47,7 @@ fn push_escape(out: &mut Vec<u8>, character: char) -> Result<(), AllocError>
     if code < 65536 {
         return push_number(out, code as u16);
     }
-    let above = code - 65536;
-    push_number(out, (0xD800 + above / 1024) as u16)?;
-    push_number(out, (0xDC00 + above % 1024) as u16)
+    push_halves(out, code - 65536)
 }
 
 /// A text as `escape` writes it.

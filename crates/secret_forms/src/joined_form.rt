@@ -30,7 +30,7 @@ pub enum Joining {
 
 /// Whether a byte is written by a letter or its number.
 fn is_numbered(joining: Joining, byte: u8) -> bool
-    ensures { result ≡ spec.is_numbered joining byte }
+    ensures { result ≡ spec.is_dollar_byte joining byte }
 {
     match joining {
         Joining::Bash => false,
@@ -79,7 +79,7 @@ fn escapes_tilde(joining: Joining, before: u8, byte: u8) -> bool
 
 /// What begins numbers, unless the byte before is one.
 fn opening(is_open: bool) -> &'static [u8]
-    ensures { result.now ≡ spec.opening is_open }
+    ensures { result.now ≡ spec.opening_marks is_open }
 {
     if is_open {
         return b"";
@@ -89,7 +89,7 @@ fn opening(is_open: bool) -> &'static [u8]
 
 /// What ends numbers before a byte: a quote ends them by itself.
 fn closing(byte: u8) -> &'static [u8]
-    ensures { result.now ≡ spec.closing byte }
+    ensures { result.now ≡ spec.closing_marks byte }
 {
     if byte == b'\'' {
         return b"";
@@ -99,7 +99,7 @@ fn closing(byte: u8) -> &'static [u8]
 
 /// What stands between two bytes.
 fn between(joining: Joining, before: u8, byte: u8) -> &'static [u8]
-    ensures { result.now ≡ spec.between joining before byte }
+    ensures { result.now ≡ spec.marks_between joining before byte }
 {
     if is_numbered(joining, byte) {
         return opening(is_numbered(joining, before));
@@ -125,7 +125,7 @@ fn marks_before(joining: Joining, before: Option<u8>, byte: u8) -> &'static [u8]
 
 /// A secret as an encoder writes it.
 fn joined(alloc: Global, secret: &[u8], joining: Joining) -> Result<Vec<u8>, AllocError>
-    ensures whole { IfOk result (λ v. v.items ≡ spec.joined joining secret.now) }
+    ensures whole { IfOk result (λ v. v.items ≡ spec.joined_word joining secret.now) }
 {
     let mut out = Vec::new(alloc);
     let mut before = None;
@@ -144,14 +144,14 @@ fn add_one(
     joining: Joining,
     patterns: &mut Vec<Vec<u8>>,
 ) -> Result<(), AllocError>
-    ensures one { OnOk result (AddsPatterns patterns.old patterns.new (spec.joined joining secret.now ∷ [])) }
+    ensures one { OnOk result (AddsPatterns patterns.old patterns.new (spec.joined_word joining secret.now ∷ [])) }
 {
     push_new(patterns, joined(alloc, secret, joining)?)
 }
 
 /// Adds a secret as each of these encoders writes it.
 fn add_joined(alloc: Global, secret: &[u8], patterns: &mut Vec<Vec<u8>>) -> Result<(), AllocError>
-    ensures all { OnOk result (AddsPatterns patterns.old patterns.new (spec.joined_by joinings secret.now)) }
+    ensures all { OnOk result (AddsPatterns patterns.old patterns.new (spec.joined_words joinings secret.now)) }
 {
     add_one(alloc, secret, Joining::Bash, patterns)?;
     add_one(alloc, secret, Joining::Coreutils, patterns)?;

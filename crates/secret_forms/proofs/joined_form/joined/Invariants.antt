@@ -4,4 +4,4 @@ use Rattle.secret_forms.specs.Joined as spec
 use Rattle.secret_forms.proofs.joined_form.joined.Given as goal
 
 abbrev pub invariant-loop-byte : goal.invariant-loop-byte
-invariant-loop-byte l = l.out.items ++ spec.joined_from l.joining l.before (drop l.byte-index l.secret) ≡ spec.joined l.joining l.secret
+invariant-loop-byte l = l.out.items ++ spec.joined_from l.joining l.before (drop l.byte-index l.secret) ≡ spec.joined_word l.joining l.secret
