@@ -8,7 +8,7 @@ use Rattle.secret_forms.specs.declared.joined_form.Joining.{Joining}
 use Rattle.secret_forms.proofs.Hiding.{IsHidden-within}
 
 -- the last byte
-last_of : Option ℕ → List ℕ → Option ℕ
+abbrev last_of : Option ℕ → List ℕ → Option ℕ
 last_of first [] = first
 last_of first (b ∷ bs) = last_of (Some b) bs
 
