@@ -2,7 +2,7 @@
 //!
 //! A secret that is no UTF-8 has no characters, and so no form of that kind.
 
-ghost use Rattle.std.specs.Prelude.{◌≡◌, ◌<◌, All, Err, IfErr, IfOk, IsUtf8, OnOk, chars, length};
+ghost use Rattle.std.specs.Prelude.{◌≡◌, ◌<◌, All, Err, IfErr, IfOk, IsUtf8, OnOk, [], ◌∷◌, chars, length};
 ghost use Rattle.secret_forms.specs.Escape as spec;
 ghost use Rattle.secret_forms.specs.Escape.{escape_char, escape_patterns, url_patterns};
 ghost use Rattle.secret_forms.specs.Law.{HidesEach};
@@ -61,12 +61,19 @@ fn escaped(alloc: Global, text: &str) -> Result<Vec<u8>, AllocError>
     Ok(out)
 }
 
+/// Adds a text as `escape` writes it.
+fn add_text(alloc: Global, text: &str, patterns: &mut Vec<Vec<u8>>) -> Result<(), AllocError>
+    ensures text { OnOk result (AddsPatterns patterns.old patterns.new (spec.escaped (chars text.now) ∷ [])) }
+{
+    push_new(patterns, escaped(alloc, text)?)
+}
+
 /// Adds a secret as `escape` writes it, if it has characters.
 fn add_escaped(alloc: Global, secret: &[u8], patterns: &mut Vec<Vec<u8>>) -> Result<(), AllocError>
     ensures escape { OnOk result (AddsPatterns patterns.old patterns.new (escape_patterns secret.now)) }
 {
     match str::from_utf8(secret) {
-        Ok(text) => push_new(patterns, escaped(alloc, text)?),
+        Ok(text) => add_text(alloc, text, patterns),
         Err(_) => Ok(()),
     }
 }
