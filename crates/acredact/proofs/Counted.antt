@@ -1,8 +1,7 @@
--- What a replacement by a closure writes, where the closure writes the piece of each match.
-use Rattle.acredact.proofs.Common.{Appends, Appends-nil, Appends-trans, AreFinds, Bor, CanBegin, Consumes-nil, CountsThese, Ghosts, IfErr-weaker, IsFillRefusal, Memory, MutBor, Occurrence, Patterns, PositionLimit, Read, Refused, SinkGhosts, SourceGave, SourceGhosts, StartsWith, StreamError, counted, counts_none, counts_then, finds-exist, is_read_fault, is_write_fault, is_write_of_nothing, on_ok_weaker, plain_search, shortest}
-use Rattle.acredact.proofs.Covered.{few_from}
-use Rattle.std.proofs.Common.{inl, inr, ◌≡◌, ◌⊎◌, ℕ, ◌≤◌, Bool, true, false, List, [], ◌∷◌, ◌++◌, Option, length, map, take, drop, refl, sym, ap, subst, ◌∙◌, append-nil, le_refl, arith, length-append, ◌+◌}
-use Rattle.std.specs.Prelude.{None, Some, Result, Ok, Err, IfErr, MatchBool, OnErr, OnOk, ◌&&◌, slice_index_or, slice_range}
+-- What a replacement by a closure does, where the closure counts each match and writes its piece.
+use Rattle.acredact.proofs.Common.{Appends, Appends-nil, Appends-trans, AreFinds, Bor, Consumes-nil, CountsThese, Ghosts, IsFillRefusal, Memory, MutBor, Occurrence, Patterns, Refused, SinkGhosts, SourceGave, SourceGhosts, StartsWith, StreamError, Write, WriteZero, counted, counts_none, counts_then, finds-exist, is_read_fault, is_write_fault, is_write_of_nothing, on_ok_weaker, plain_search, shortest}
+use Rattle.std.proofs.Common.{inl, inr, ◌≡◌, ℕ, ◌≤◌, Bool, true, false, List, [], ◌∷◌, ◌++◌, Option, length, map, take, drop, refl, sym, ap, subst, ◌∙◌, append-nil, le_refl, arith, length-append}
+use Rattle.std.specs.Prelude.{◌+◌, None, Some, Result, Ok, Err, IfErr, MatchBool, OnErr, OnOk, ◌&&◌, slice_range}
 use Rattle.std.specs.Fn.{Mut}
 use Rattle.std.proofs.lemmas.List.{append_cancel_left, length-take-le}
 use Rattle.std.proofs.Math.Bool.{and-false}
@@ -12,58 +11,44 @@ use Rattle.aho_core.specs.Replacement.{replaced, replaced_from}
 use Rattle.aho_devices.specs.Counts.{AppendsBeginning}
 use Rattle.aho_devices.specs.Refusals.{IsWriteRefusal}
 use Rattle.aho_stream.specs.Refills.{is_limit}
-use Rattle.aho_stream.specs.Replacing.{MayBe}
+use Rattle.aho_stream.specs.Replacing.{BeginsReplacing, MayBe, ReplacesStream, piece_for}
 use Rattle.aho_stream.proofs.Called.{CalledOnFirst, run_calls}
 use Rattle.aho_stream.specs.StreamRun.{CallsOn, RunsAndLeaves, RunsLent, SinkTakes}
 use Rattle.tool_parts.proofs.Beginnings.{beginning-later, beginning-more}
+use Rattle.acredact.specs.Deeds.{WholeStream}
 use Rattle.acredact.specs.Faults.{IsStreamEnd}
-use Rattle.acredact.specs.Deeds.{BegunAs, WholeStream}
 use Rattle.acredact.specs.Files.{deed_of}
-use Rattle.acredact.specs.Secrets.{BeginsRedaction}
-use Rattle.acredact.specs.Streams.{DoesStream, StreamOutcome, WritesPiece}
-use Rattle.acredact.proofs.Redactions.{begins_by, begins_nothing, no_more, plain_by, plain_outcome, redaction_by, some_of}
-use Rattle.acredact.proofs.Bounded.{grow_few, ungrown}
+use Rattle.acredact.specs.Streams.{DoesStream, StreamOutcome}
+use Rattle.acredact.proofs.Redactions.{few_from, no_more, outcome_plain, plain_by, ungrown}
+use Rattle.acredact.proofs.Totals.{grow_few}
 
--- an error of a run: of the reading where it stopped, or of a write
-abbrev IsRunError : Bool → StreamError → Type 0
-IsRunError stopped error = MatchBool stopped (IsFillRefusal error) (IsWriteRefusal error) ⊎ IsWriteRefusal error
+-- why a run ends: a read fault and the limit are of the reading, where it stopped
+stops_as : (stopped by : Bool) (result : Result (Unit {0}) StreamError) → (by ≡ true → stopped ≡ true) → IfErr result (λ reason. MatchBool by (IsFillRefusal reason) (IsWriteRefusal reason))
+    → ((stopped && is_read_fault result) ≡ is_read_fault result) × (is_limit result ≡ true → stopped ≡ true) × IfErr result IsStreamEnd
+stops_as stopped by (Ok x) so is = (and-false stopped, λ (met : false ≡ true). absurd (cc), tt)
+stops_as stopped true (Err (Refused cause)) so is = absurd is
+stops_as stopped true (Err error) so is = rw (so refl) (refl, λ met. refl, tt)
+stops_as stopped false (Err (Write fault)) so is = (and-false stopped, λ (met : false ≡ true). absurd (cc), tt)
+stops_as stopped false (Err WriteZero) so is = (and-false stopped, λ (met : false ≡ true). absurd (cc), tt)
+stops_as stopped false (Err error) so is = absurd is
 
--- a read fault is one of the reading, and so is the limit; and none is a refusal
-abbrev StopsAs : Bool → StreamError → Type 0
-StopsAs stopped error = ((stopped && is_read_fault {A = Unit {0}} (Err error)) ≡ is_read_fault {A = Unit {0}} (Err error)) × (is_limit {A = Unit {0}} (Err error) ≡ true → stopped ≡ true) × IsStreamEnd error
+-- where a beginning of one text was appended, that begins each text of which one was
+one_beginning : (old new : Option (List ℕ)) (text : List ℕ) → AppendsBeginning old new text
+    → (part : List ℕ) × Appends old new part × ((other : List ℕ) → AppendsBeginning old new other → StartsWith other part)
+one_beginning None new text begun = ([], tt, λ other begun. refl)
+one_beginning (Some old) None text begun = absurd begun.2
+one_beginning (Some old) (Some new) text (count, within, is) = (
+  take count text,
+  is,
+  λ other begun.
+      let same : take count text ≡ take begun.0 other = append_cancel_left old (take count text) (take begun.0 other) (sym is ∙ begun.2) in
+      ap (λ n. take n other) (ap length same ∙ length-take-le begun.0 other begun.1) ∙ sym same,
+)
 
-stops_as : (stopped : Bool) (error : StreamError) → IsRunError stopped error → StopsAs stopped error
-stops_as true (Refused cause) (inl is) = absurd is
-stops_as true (Refused cause) (inr is) = absurd is
-stops_as true error is = (refl, λ met. refl, tt)
-stops_as false (Refused cause) (inl is) = absurd is
-stops_as false (Refused cause) (inr is) = absurd is
-stops_as false (Read fault) (inl is) = absurd is
-stops_as false (Read fault) (inr is) = absurd is
-stops_as false PositionLimit (inl is) = absurd is
-stops_as false PositionLimit (inr is) = absurd is
-stops_as false error is = (refl, λ met. met, tt)
-
--- some bytes are taken, or a beginning of them where the run failed
-record Takes {W : Type 0} (K : SinkGhosts W) (stopped : Bool) (result : Result (Unit {0}) StreamError) (old new : W) (bytes : List ℕ) : Type 0 where
-  whole : OnOk result (Appends (K.taken old) (K.taken new) bytes)
-  beginning : OnErr result (AppendsBeginning (K.taken old) (K.taken new) bytes)
-  write_failed : K.failures new ≡ counted (is_write_fault result) (K.failures old)
-  took_nothing : K.empty_writes new ≡ counted (is_write_of_nothing result) (K.empty_writes old)
-  only : IfErr result (IsRunError stopped)
-
-module _ {W : Type 0} (K : SinkGhosts W) (stopped : Bool) where
-  takes_sink : (old : W) (bytes : List ℕ) (result : Result (Unit {0}) StreamError) (new : W) → SinkTakes K stopped old bytes result new → Takes K stopped result old new bytes
-  takes_sink old bytes result new takes =
-      record { whole = takes.whole; beginning = takes.beginning; write_failed = takes.write_failed; took_nothing = takes.took_nothing; only = IfErr-weaker result _ _ (λ error is. inl is) takes.only }
-
-  takes_piece : (old : W) (piece : List ℕ) (result : Result (Unit {0}) StreamError) (new : W) → WritesPiece K result old new piece → Takes K stopped result old new piece
-  takes_piece old piece result new writes =
-      record { whole = writes.whole; beginning = writes.beginning; write_failed = writes.write_failed; took_nothing = writes.took_nothing; only = IfErr-weaker result _ _ (λ error is. inr is) writes.only }
-
-  -- all of some bytes, and then others
-  takes_later : (old mid new : W) (result : Result (Unit {0}) StreamError) (bs cs : List ℕ) → Takes K stopped (Ok tt) old mid bs → Takes K stopped result mid new cs → Takes K stopped result old new (bs ++ cs)
-  takes_later old mid new result bs cs first later = record {
+module _ {W : Type 0} (K : SinkGhosts W) (old : W) where
+  -- all of some bytes are taken, and then others
+  takes_later : {first by : Bool} {mid new : W} {result : Result (Unit {0}) StreamError} (bs cs : List ℕ) → SinkTakes K first old bs (Ok tt) mid → SinkTakes K by mid cs result new → SinkTakes K by old (bs ++ cs) result new
+  takes_later {result = result} bs cs first later = record {
     whole = on_ok_weaker result (λ taken. Appends-trans _ _ _ bs cs first.whole taken) later.whole;
     beginning = on_err_weaker result (λ taken. beginning-later _ _ _ bs cs first.whole taken) later.beginning;
     write_failed = later.write_failed ∙ ap (counted (is_write_fault result)) first.write_failed;
@@ -72,198 +57,131 @@ module _ {W : Type 0} (K : SinkGhosts W) (stopped : Bool) where
   }
 
   -- what fails takes a beginning of more
-  takes_more : (old new : W) (error : StreamError) (bs cs : List ℕ) → Takes K stopped (Err error) old new bs → Takes K stopped (Err error) old new (bs ++ cs)
-  takes_more old new error bs cs takes = record {
-    whole = tt;
-    beginning = beginning-more _ _ bs cs takes.beginning;
-    write_failed = takes.write_failed;
-    took_nothing = takes.took_nothing;
-    only = takes.only;
-  }
+  takes_more : {by : Bool} {new : W} {error : StreamError} (bs cs : List ℕ) → SinkTakes K by old bs (Err error) new → SinkTakes K by old (bs ++ cs) (Err error) new
+  takes_more bs cs takes =
+      record { whole = tt; beginning = beginning-more _ _ bs cs takes.beginning; write_failed = takes.write_failed; took_nothing = takes.took_nothing; only = takes.only }
 
-module _ {F W : Type 0} (K : SinkGhosts W) (calls : F → Occurrence → List ℕ → W → Result Bool StreamError → F → W → Type 0) (stopped : Bool) (haystack : List ℕ)
-    (piece : Occurrence → List ℕ) (Fits : F → Type 0)
-    -- the closure writes a match's piece, and goes on as it is
-    (goes_on : (f : F) (m : Occurrence) (matched : List ℕ) (old : W) (goes : Bool) (next : F) (new : W) → Fits f → calls f m matched old (Ok goes) next new
-    → (goes ≡ true) × Fits next × WritesPiece K (Ok tt) old new (piece m))
-    (fails : (f : F) (m : Occurrence) (matched : List ℕ) (old : W) (reason : StreamError) (next : F) (new : W) → Fits f → calls f m matched old (Err reason) next new
-    → WritesPiece K (Err reason) old new (piece m)) where
-  abbrev Runs : ℕ → List Occurrence → F → W → Result (Unit {0}) StreamError → F → W → Type 0
-  Runs at ms f old result last new = ClosureRun (SinkTakes K stopped) calls haystack at ms f old result last new
-
-  run_takes : (ms : List Occurrence) (at : ℕ) (f : F) (old : W) (result : Result (Unit {0}) StreamError) (last : F) (new : W) → Fits f → Runs at ms f old result last new
-      → Takes K stopped result old new (replaced_from haystack at ms piece)
-  run_takes [] at f old result last new fits run = takes_sink K stopped old (drop at haystack) result new run.1
-  run_takes (m ∷ ms) at f old (Ok x) last new fits (inl refused) = let clash = refused.1 in absurd (cc)
-  run_takes (m ∷ ms) at f old (Err error) last new fits (inl refused) =
-      takes_more K stopped old new error (slice_range haystack at m.start) (piece m ++ replaced_from haystack m.end ms piece)
-      (takes_sink K stopped old (slice_range haystack at m.start) (Err error) new refused.3)
-  run_takes (m ∷ ms) at f old (Ok x) last new fits (inr (lent, gap, (Err reason, next, left, called, ends))) = let clash = ends.0 in absurd (cc)
-  run_takes (m ∷ ms) at f old (Err error) last new fits (inr (lent, gap, (Err reason, next, left, called, ends))) =
-      let same : error ≡ reason = let is = ends.0 in cc in
-      let wrote : Takes K stopped (Err error) lent new (piece m) =
-      rw (same, ends.2) (takes_piece K stopped lent (piece m) (Err reason) left (fails f m (slice_range haystack m.start m.end) lent reason next left fits called)) in
-      takes_later K stopped old lent new (Err error) (slice_range haystack at m.start) (piece m ++ replaced_from haystack m.end ms piece)
-      (takes_sink K stopped old (slice_range haystack at m.start) (Ok tt) lent gap)
-      (takes_more K stopped lent new error (piece m) (replaced_from haystack m.end ms piece) wrote)
-  run_takes (m ∷ ms) at f old result last new fits (inr (lent, gap, (Ok goes, next, left, called, ends))) =
-      let step = goes_on f m (slice_range haystack m.start m.end) lent goes next left fits called in
-      let later : Runs m.end ms next left result last new = subst (λ (b : Bool). MatchBool b (Runs m.end ms next left result last new) ((last ≡ next) × SinkTakes K stopped left (drop m.end haystack) result new)) step.0 ends in
-      takes_later K stopped old lent new result (slice_range haystack at m.start) (piece m ++ replaced_from haystack m.end ms piece)
-      (takes_sink K stopped old (slice_range haystack at m.start) (Ok tt) lent gap)
-      (takes_later K stopped lent left new result (piece m) (replaced_from haystack m.end ms piece)
-      (takes_piece K stopped lent (piece m) (Ok tt) left step.2) (run_takes ms m.end next left result last new step.1 later))
-
--- the closure counts each match that it is called on, into the same borrow all along
 module _ {F W : Type 0} (K : SinkGhosts W) (calls : Mut F (Bor Occurrence × (Bor (List ℕ) × (MutBor W × Unit {0}))) (Result (Unit {0}) StreamError × (MutBor W × Unit {0})))
-    (closure last : F) (sink sink' : W) (name_of : F → ℕ) (counts_of : F → List ℕ)
-    (counts : (f : F) (m : Occurrence) (matched : List ℕ) (old : W) (answer : Result (Unit {0}) StreamError) (next : F) (new : W) → CalledOn calls f m matched old answer next new
-    → (name_of next ≡ name_of f) × CountsThese (m ∷ []) (counts_of f) (counts_of next)) where
-  abbrev pub HasCounted : List Occurrence → F → Type 0
+    (closure : F) (name_of : F → ℕ) (pieces_by : F → List (List ℕ)) (counts_of : F → List ℕ)
+    -- each call counts its match into the same borrow all along, and writes its piece
+    (steps : (f : F) (m : Occurrence) (matched : List ℕ) (old : W) (answer : Result (Unit {0}) StreamError) (next : F) (new : W) → CalledOn calls f m matched old answer next new
+    → (name_of next ≡ name_of f) × (pieces_by next ≡ pieces_by f) × CountsThese (m ∷ []) (counts_of f) (counts_of next) × SinkTakes K false old (piece_for (pieces_by f) m) answer new) where
+  -- it has counted these
+  abbrev HasCounted : List Occurrence → F → Type 0
   HasCounted done f = (name_of f ≡ name_of closure) × CountsThese done (counts_of closure) (counts_of f)
 
-  counted_one : (done : List Occurrence) (f : F) (m : Occurrence) (matched : List ℕ) (old : W) (answer : Result (Unit {0}) StreamError) (next : F) (new : W)
-      → HasCounted done f → CalledOn calls f m matched old answer next new → HasCounted (done ++ (m ∷ [])) next
-  counted_one done f m matched old answer next new so called =
-      let step = counts f m matched old answer next new called in
-      (step.0 ∙ so.0, counts_then done (m ∷ []) (counts_of closure) (counts_of f) (counts_of next) so.1 step.1)
-
-  one_call : (done : List Occurrence) (f : F) (m : Occurrence) (matched : List ℕ) (old : W) (answer : Result Bool StreamError) (next : F) (new : W)
+  counted_one : (done : List Occurrence) (f : F) (m : Occurrence) (matched : List ℕ) (old : W) (answer : Result Bool StreamError) (next : F) (new : W)
       → HasCounted done f → CallsOn calls f m matched old answer next new → HasCounted (done ++ (m ∷ [])) next
-  one_call done f m matched old (Ok goes) next new so called = counted_one done f m matched old (Ok tt) next new so called.1
-  one_call done f m matched old (Err error) next new so called = counted_one done f m matched old (Err error) next new so called
+  counted_one done f m matched old (Ok goes) next new so called =
+      let step = steps f m matched old (Ok tt) next new called.1 in (step.0 ∙ so.0, counts_then done (m ∷ []) (counts_of closure) (counts_of f) (counts_of next) so.1 step.2)
+  counted_one done f m matched old (Err error) next new so called =
+      let step = steps f m matched old (Err error) next new called in (step.0 ∙ so.0, counts_then done (m ∷ []) (counts_of closure) (counts_of f) (counts_of next) so.1 step.2)
 
-  pub has_counted : (stopped : Bool) (haystack : List ℕ) (ms : List Occurrence) (result : Result (Unit {0}) StreamError) → ClosureRun (SinkTakes K stopped) (CallsOn calls) haystack 0 ms closure sink result last sink'
-      → CalledOnFirst HasCounted [] ms result last
-  has_counted stopped haystack ms result run =
-      run_calls (SinkTakes K stopped) (CallsOn calls) haystack HasCounted (λ f m matched old goes next new called. called.0) one_call ms [] 0 closure sink result last sink'
-      (refl, counts_none (counts_of closure)) run
+  module _ (stopped : Bool) (haystack : List ℕ) where
+    abbrev Runs : ℕ → List Occurrence → F → W → Result (Unit {0}) StreamError → F → W → Type 0
+    Runs at ms f old result last new = ClosureRun (SinkTakes K stopped) (CallsOn calls) haystack at ms f old result last new
 
--- a beginning of some bytes, by known ones that grow by a beginning of them
-begins_known : (bytes rest : List ℕ) (count : ℕ) → count ≤ length rest → bytes ≡ take count rest → StartsWith rest bytes
-begins_known bytes rest count within is =
-    let sized : length bytes ≡ count = ap length is ∙ length-take-le count rest within in
-    ap (λ n. take n rest) sized ∙ sym is
+    -- bytes are taken, or a beginning of them where the reading stopped or a write failed
+    abbrev Takes : W → List ℕ → Result (Unit {0}) StreamError → W → Type 0
+    Takes old bytes result new = (by : Bool) × (by ≡ true → stopped ≡ true) × SinkTakes K by old bytes result new
 
--- what was written once is what was written, by whichever beginnings that is told
-same_beginning : (old new : List ℕ) (bytes rest : List ℕ) (count : ℕ) → new ≡ old ++ bytes → count ≤ length rest → new ≡ old ++ take count rest → StartsWith rest bytes
-same_beginning old new bytes rest count first within second = begins_known bytes rest count within (append_cancel_left old bytes (take count rest) (sym first ∙ second))
+    run_takes : (ms : List Occurrence) (at : ℕ) (f : F) (old : W) (result : Result (Unit {0}) StreamError) (last : F) (new : W) → pieces_by f ≡ pieces_by closure → Runs at ms f old result last new
+        → Takes old (replaced_from haystack at ms (piece_for (pieces_by closure))) result new
+    run_takes [] at f old result last new same run = (stopped, λ is. is, run.1)
+    run_takes (m ∷ ms) at f old result last new same (inl (reason, is, left, took)) =
+        rw is (stopped, λ so. so, takes_more K old (slice_range haystack at m.start) _ (subst (λ r. SinkTakes K stopped old (slice_range haystack at m.start) r new) is took))
+    run_takes (m ∷ ms) at f old result last new same (inr (lent, gap, (Err reason, next, left, called, (is, kept, there)))) =
+        let step = steps f m (slice_range haystack m.start m.end) lent (Err reason) next left called in
+        rw (is, there, ← same)
+        (false, λ (so : false ≡ true). absurd (cc), takes_later K old (slice_range haystack at m.start) _ gap (takes_more K lent (piece_for (pieces_by f) m) _ step.3))
+    run_takes (m ∷ ms) at f old result last new same (inr (lent, gap, (Ok goes, next, left, called, ends))) =
+        let step = steps f m (slice_range haystack m.start m.end) lent (Ok tt) next left called.1 in
+        let later : Runs m.end ms next left result last new = subst (λ (b : Bool). MatchBool b (Runs m.end ms next left result last new) ((last ≡ next) × SinkTakes K stopped left (drop m.end haystack) result new)) called.0 ends in
+        let (by, so, takes) = run_takes ms m.end next left result last new (step.1 ∙ same) later in (
+          by,
+          so,
+          takes_later K old (slice_range haystack at m.start) _ gap
+              (takes_later K lent (piece_for (pieces_by closure) m) _ (subst (λ (pieces : List (List ℕ)). SinkTakes K false lent (piece_for pieces m) (Ok tt) left) same step.3) takes),
+        )
 
-module _ (p : Patterns) (pieces : List (List ℕ)) (some : 1 ≤ shortest (map length p.words)) (given : List ℕ) (ended : Bool) where
-  -- a beginning of each replacement that may come was written
-  abbrev BeginsEach : (old new : Option (List ℕ)) → Type 0
-  BeginsEach old new = (bytes : List ℕ) (ms : List Occurrence) → MayBe given ended bytes → AreFinds p (plain_search bytes) None ms → AppendsBeginning old new (replaced bytes ms pieces)
+  module _ {A R : Type 0} (G : Ghosts A) (S : SourceGhosts R) (automaton : A) (p : Patterns) (of : G.is_of automaton p) (some : 1 ≤ shortest (map length p.words))
+      (source source' : R) (last : F) (sink sink' : W) where
+    abbrev pieces : List (List ℕ)
+    pieces = pieces_by closure
 
-  -- so it is a beginning of all of them
-  begins_each : (old new : Option (List ℕ)) → BeginsEach old new → BegunAs (BeginsRedaction (plain_by p pieces)) old new given ended
-  begins_each None new each = ([], begins_nothing (plain_by p pieces) some given ended, tt)
-  begins_each (Some old) None each =
-      let finds = finds-exist p (plain_search given) None (le_refl (length given)) in
-      absurd ((each given finds.0 (no_more given ended) finds.1).2)
-  begins_each (Some old) (Some new) each =
-      let finds = finds-exist p (plain_search given) None (le_refl (length given)) in
-      let one = each given finds.0 (no_more given ended) finds.1 in
-      let part = take one.0 (replaced given finds.0 pieces) in (
-        part,
-        begins_by (plain_by p pieces) some given ended part (λ bytes ms may found.
-            let other = each bytes ms may found in
-            same_beginning old new part (replaced bytes ms pieces) other.0 one.2 other.1 other.2),
-        one.2,
-      )
+    abbrev Leaves : Result (Unit {0}) StreamError → Type 0
+    Leaves result = RunsAndLeaves S K (G.is_of automaton) calls source source' closure sink result last sink'
 
-module _ {A R W F : Type 0} (G : Ghosts A) (S : SourceGhosts R) (K : SinkGhosts W) (automaton : A) (p : Patterns) (pieces : List (List ℕ)) (of : G.is_of automaton p)
-    (are : G.lengths automaton ≡ map length p.words) (can : CanBegin G automaton)
-    (calls : Mut F (Bor Occurrence × (Bor (List ℕ) × (MutBor W × Unit {0}))) (Result (Unit {0}) StreamError × (MutBor W × Unit {0})))
-    (source source' : R) (closure : F) (sink sink' : W) (Fits : F → Type 0) (fits : Fits closure)
-    (goes_on : (f : F) (m : Occurrence) (matched : List ℕ) (old : W) (next : F) (new : W) → Fits f → CalledOn calls f m matched old (Ok tt) next new
-    → Fits next × WritesPiece K (Ok tt) old new (slice_index_or pieces m.pattern []))
-    (fails : (f : F) (m : Occurrence) (matched : List ℕ) (old : W) (reason : StreamError) (next : F) (new : W) → Fits f → CalledOn calls f m matched old (Err reason) next new
-    → WritesPiece K (Err reason) old new (slice_index_or pieces m.pattern [])) where
-  some_one : 1 ≤ shortest (map length p.words)
-  some_one = some_of G automaton p are can
+    -- what a run took, by the finds of any text that may come
+    over_takes : (result : Result (Unit {0}) StreamError) (over : Leaves result) (q : Patterns) (bytes : List ℕ) (ms : List Occurrence)
+        → G.is_of automaton q → MayBe over.given over.ended bytes → AreFinds q (plain_search bytes) None ms → Takes over.stopped bytes sink (replaced bytes ms pieces) result sink'
+    over_takes result over q bytes ms of may found = run_takes over.stopped bytes ms 0 closure sink result last sink' refl (over.run q bytes ms of may found)
 
-  abbrev Leaves : Result (Unit {0}) StreamError → F → Type 0
-  Leaves result last = RunsAndLeaves S K (G.is_of automaton) calls source source' closure sink result last sink'
+    whole : (result : Result (Unit {0}) StreamError) → Leaves result → OnOk result (ReplacesStream S K (G.is_of automaton) pieces source source' sink sink')
+    whole (Err error) over = tt
+    whole (Ok tt) over = record {
+      given = over.given;
+      gives = subst (SourceGave S source source' over.given) over.whole over.gives;
+      writes = λ q ms of found. (over_takes (Ok tt) over q over.given ms of (no_more over.given over.ended) found).2.whole;
+    }
 
-  -- what a run took, by the finds of any text that may come
-  over_takes : (result : Result (Unit {0}) StreamError) (last : F) (over : Leaves result last) (bytes : List ℕ) (ms : List Occurrence)
-      → MayBe over.given over.ended bytes → AreFinds p (plain_search bytes) None ms → Takes K over.stopped result sink sink' (replaced bytes ms pieces)
-  over_takes result last over bytes ms may found =
-      run_takes K (CallsOn calls) over.stopped bytes (λ m. slice_index_or pieces m.pattern []) Fits
-      (λ f m matched old goes next new is called. let step = goes_on f m matched old next new is called.1 in (called.0, step.0, step.1))
-      (λ f m matched old reason next new is called. fails f m matched old reason next new is called)
-      ms 0 closure sink result last sink' fits (over.run p bytes ms of may found)
+    begun : (result : Result (Unit {0}) StreamError) (over : Leaves result) (ms : List Occurrence) → AreFinds p (plain_search over.given) None ms
+        → OnErr result (BeginsReplacing S K (G.is_of automaton) pieces source source' sink sink')
+    begun (Ok x) over ms found = tt
+    begun (Err error) over ms found =
+        let (part, wrote, begins) = one_beginning (K.taken sink) (K.taken sink') (replaced over.given ms pieces) (over_takes (Err error) over p over.given ms of (no_more over.given over.ended) found).2.beginning in
+        record {
+          given = over.given;
+          ended = over.ended;
+          gives = over.gives;
+          written = part;
+          writes = wrote;
+          beginning = λ q bytes ms of may found. begins (replaced bytes ms pieces) (over_takes (Err error) over q bytes ms of may found).2.beginning;
+        }
 
-  -- what comes of it, by those of the bytes that were given
-  ran : (result : Result (Unit {0}) StreamError) (last : F) (over : Leaves result last) (ms : List Occurrence) → AreFinds p (plain_search over.given) None ms
-      → StreamOutcome S K (deed_of (plain_by p pieces)) source source' sink sink' result
-  ran (Ok tt) last over ms found =
-      let taken = over_takes (Ok tt) last over over.given ms (no_more over.given over.ended) found in
-      plain_outcome S K p pieces source source' sink sink' (Ok tt)
-      (record {
-        text = over.given;
-        gives = subst (SourceGave S source source' over.given) over.whole over.gives;
-        is = (replaced over.given ms pieces, redaction_by (plain_by p pieces) some_one over.given ms found, taken.whole);
-      })
-      tt
-      (record {
-        read_failed = over.read_failed ∙ ap (λ (b : Bool). counted b (S.failures source)) (and-false over.stopped);
-        write_failed = taken.write_failed;
-        took_nothing = taken.took_nothing;
-      })
-      (λ (met : false ≡ true). absurd (cc)) tt
-  ran (Err error) last over ms found =
-      let taken = over_takes (Err error) last over over.given ms (no_more over.given over.ended) found in
-      let (fault, stops, only) = stops_as over.stopped error taken.only in
-      plain_outcome S K p pieces source source' sink sink' (Err error) tt
-      (record {
-        given = over.given;
-        ended = over.ended;
-        gives = over.gives;
-        is = begins_each p pieces some_one over.given over.ended (K.taken sink) (K.taken sink') (λ bytes ms may found. (over_takes (Err error) last over bytes ms may found).beginning);
-      })
-      (record {
-        read_failed = over.read_failed ∙ ap (λ (b : Bool). counted b (S.failures source)) fault;
-        write_failed = taken.write_failed;
-        took_nothing = taken.took_nothing;
-      })
-      (λ met. let at_limit = over.limit (stops met) met in (over.given, subst (SourceGave S source source' over.given) at_limit.1 over.gives, at_limit.0)) only
+    -- what comes of it, by the finds of the bytes that were given
+    ran : (result : Result (Unit {0}) StreamError) (over : Leaves result) (ms : List Occurrence) → AreFinds p (plain_search over.given) None ms → StreamOutcome S K (deed_of (plain_by p pieces)) source source' sink sink' result
+    ran result over ms found =
+        let (by, so, takes) = over_takes result over p over.given ms of (no_more over.given over.ended) found in
+        let (fault, stops, only) = stops_as over.stopped by result so takes.only in
+        outcome_plain S K p pieces source source' sink sink' (G.is_of automaton) of some result (whole result over) (begun result over ms found)
+        (record { read_failed = over.read_failed ∙ ap (λ (b : Bool). counted b (S.failures source)) fault; write_failed = takes.write_failed; took_nothing = takes.took_nothing })
+        (λ met. let at_limit = over.limit (stops met) met in (over.given, subst (SourceGave S source source' over.given) at_limit.1 over.gives, at_limit.0)) only
 
-  -- before a stream was begun nothing is touched
-  untouched : StreamOutcome S K (deed_of (plain_by p pieces)) source source sink sink (Err Memory)
-  untouched =
-      plain_outcome S K p pieces source source sink sink (Err Memory) tt
-      (record {
-        given = [];
-        ended = false;
-        gives = record { bytes = Consumes-nil (S.remaining source); end = refl };
-        is = ([], begins_nothing (plain_by p pieces) some_one [] false, Appends-nil (K.taken sink));
-      })
-      (record { read_failed = refl; write_failed = refl; took_nothing = refl }) (λ (met : false ≡ true). absurd (cc)) tt
+    -- before a stream was begun nothing is touched
+    untouched : StreamOutcome S K (deed_of (plain_by p pieces)) source source sink sink (Err Memory)
+    untouched =
+        outcome_plain S K p pieces source source sink sink (G.is_of automaton) of some (Err Memory) tt
+        (record {
+          given = [];
+          ended = false;
+          gives = record { bytes = Consumes-nil (S.remaining source); end = refl };
+          written = [];
+          writes = Appends-nil (K.taken sink);
+          beginning = λ q bytes ms of may found. refl;
+        })
+        (record { read_failed = refl; write_failed = refl; took_nothing = refl }) (λ (met : false ≡ true). absurd (cc)) tt
 
-  -- and what was counted: no more than the closure was called on
-  module _ (last : F) (name_of : F → ℕ) (counts_of : F → List ℕ)
-      (counts : (f : F) (m : Occurrence) (matched : List ℕ) (old : W) (answer : Result (Unit {0}) StreamError) (next : F) (new : W) → CalledOn calls f m matched old answer next new
-      → (name_of next ≡ name_of f) × CountsThese (m ∷ []) (counts_of f) (counts_of next)) where
     abbrev Does : Result (Unit {0}) StreamError → Type 0
     Does result = (name_of last ≡ name_of closure) × DoesStream S K (deed_of (plain_by p pieces)) source source' sink sink' result (counts_of closure) (counts_of last)
 
-    run_does : (result : Result (Unit {0}) StreamError) → Leaves result last → Does result
+    -- and no more was counted than the closure was called on
+    run_does : (result : Result (Unit {0}) StreamError) → Leaves result → Does result
     run_does result over =
         let (ms, found) = finds-exist p (plain_search over.given) None (le_refl (length over.given)) in
-        let first = has_counted K calls closure last sink sink' name_of counts_of counts over.stopped over.given ms result (over.run p over.given ms of (no_more over.given over.ended) found) in
-        let few = few_from p some_one over.given ms 0 None found (omega arith) in
+        let first = run_calls (SinkTakes K over.stopped) (CallsOn calls) over.given HasCounted (λ f m matched old goes next new called. called.0) counted_one ms [] 0 closure sink result last sink'
+        (refl, counts_none (counts_of closure)) (over.run p over.given ms of (no_more over.given over.ended) found) in
+        let few = few_from p some over.given ms 0 None found (omega arith) in
         let sizes : length ms ≡ length first.called + length first.rest = ap length first.are ∙ length-append first.called first.rest in (
           first.holds.0,
           record {
-            outcome = ran result last over ms found;
+            outcome = ran result over ms found;
             counted = by result over ms found first;
             most = λ measured. record { given = over.given; ended = over.ended; gives = over.gives; is = grow_few first.called (counts_of closure) (counts_of last) (length over.given) first.holds.1 (omega (arith, sizes, few)) };
           },
         )
       where
-        by : (result : Result (Unit {0}) StreamError) (over : Leaves result last) (ms : List Occurrence) → AreFinds p (plain_search over.given) None ms
-            → CalledOnFirst (HasCounted K calls closure last sink sink' name_of counts_of counts) [] ms result last
+        by : (result : Result (Unit {0}) StreamError) (over : Leaves result) (ms : List Occurrence) → AreFinds p (plain_search over.given) None ms → CalledOnFirst HasCounted [] ms result last
             → OnOk result ((ranges : List Occurrence) × WholeStream S (λ text. AreFinds p (plain_search text) None ranges) source source' × CountsThese ranges (counts_of closure) (counts_of last))
         by (Err error) over ms found first = tt
         by (Ok x) over ms found first =
@@ -274,10 +192,6 @@ module _ {A R W F : Type 0} (G : Ghosts A) (S : SourceGhosts R) (K : SinkGhosts 
             )
 
     -- whatever is answered
-    pub lent_does : (result : Result (Unit {0}) StreamError) → (CanBegin G automaton → RunsLent S K (G.is_of automaton) calls source source' closure sink result last sink') → Does result
-    lent_does result runs =
-        elim (runs can) [
-          | inl memory ↦ rw (memory.0.0, memory.0.1, memory.0.2, memory.1)
-              (refl, record { outcome = untouched; counted = tt; most = λ measured. ungrown (counts_of closure) (Err Memory) untouched })
-          | inr over ↦ run_does result over
-        ]
+    pub lent_does : (result : Result (Unit {0}) StreamError) → RunsLent S K (G.is_of automaton) calls source source' closure sink result last sink' → Does result
+    lent_does result (inl memory) = rw (memory.0.0, memory.0.1, memory.0.2, memory.1) (refl, record { outcome = untouched; counted = tt; most = λ measured. ungrown (counts_of closure) (Err Memory) untouched })
+    lent_does result (inr over) = run_does result over

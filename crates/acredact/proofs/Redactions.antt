@@ -1,35 +1,83 @@
--- What a cover or a replacement of a stream writes is a redaction, and what it begins is begun.
-use Rattle.acredact.proofs.Common.{AreFinds, CanBegin, CountsRunsWith, Ghosts, IfErr-weaker, IsFillRefusal, Memory, No, Occurrence, Patterns, Refused, SinkGhosts, SourceGhosts, StartsWith, StreamError, all-covers, all-made, all_runs, finds-exist, on_ok_weaker, plain_search, shortest}
-use Rattle.std.proofs.Common.{◌≡◌, ◌≢◌, ◌⊎◌, inl, inr, ℕ, suc, ◌<◌, ◌≤◌, ◌∷◌, ◌++◌, List, [], true, false, length, map, refl, sym, ap, subst, ◌∙◌, append-nil, arith, le_refl}
-use Rattle.std.specs.Prelude.{Bool, MatchBool, Option, None, Some, Result, Ok, Err, IfErr, OnErr, OnOk, is_some, slice_index_or}
+-- What a cover or a replacement of a stream writes is a redaction, and what it begins is begun. Where no pattern is empty each that occurs shares a byte with a find.
+use Rattle.acredact.proofs.Common.{AreFinds, CanBegin, Ghosts, IfErr-weaker, Memory, No, Occurrence, Patterns, Refused, SinkGhosts, SourceGhosts, Standard, StartsWith, StreamError, all-covers, all-made, all_runs, cases_lt, finds-exist, on_ok_weaker, plain_search, shortest}
+use Rattle.std.proofs.Common.{◌≡◌, ◌≢◌, ◌⊎◌, inl, inr, ℕ, ◌+◌, ◌<◌, ◌≤◌, ◌∷◌, ◌++◌, List, [], true, false, length, map, refl, sym, ap, subst, ◌∙◌, append-nil, arith, le_refl, length-append}
+use Rattle.std.specs.Prelude.{Bool, MatchBool, Option, None, Some, Result, Ok, Err, IfErr, OnErr, OnOk, is_some}
 use Rattle.std.proofs.lemmas.Result.{on_err_weaker}
 use Rattle.aho_core.specs.Cover.{AreRuns, AreRunsOf}
+use Rattle.aho_core.specs.Occurs.{Occurs}
+use Rattle.aho_core.specs.Order.{IsBefore}
 use Rattle.aho_core.specs.Replacement.{replaced, replaced_by}
 use Rattle.aho_core.specs.declared.error.MatchErrorKind.{MatchErrorKind}
+use Rattle.aho_core.specs.declared.search.MatchKind.{MatchKind}
 use Rattle.aho_devices.specs.Errors.{CountsErrors}
+use Rattle.aho_laws.specs.CutLaws.{NoneIsEmpty}
+use Rattle.aho_laws.proofs.ClearCuts.{Occurs-full, Occurs-in, find-best}
 use Rattle.aho_laws.proofs.CoverClean.{cover-free}
 use Rattle.aho_laws.proofs.CoverKept.{kept-uncovered}
 use Rattle.aho_laws.proofs.CoverRuns.{Covers}
-use Rattle.aho_backward.specs.Searcher.{IsBackwardOf}
-use Rattle.aho_backward.specs.declared.backward.Backward.{Backward}
-use Rattle.aho_stream.specs.After.{greatest_position}
+use Rattle.aho_stream.proofs.PatternLengths.{shortest_bounds}
+use Rattle.aho_stream.specs.After.{greatest_position, search_from}
 use Rattle.aho_stream.specs.Refills.{is_limit}
 use Rattle.aho_stream.specs.Replacing.{BeginsReplacing, GaveAsMany, IsStreamFault, MayBe, ReplacesStream}
 use Rattle.acredact.specs.Bounds.{Bounded}
-use Rattle.acredact.specs.Deeds.{Deed}
 use Rattle.acredact.specs.Faults.{IsStreamEnd}
 use Rattle.acredact.specs.Files.{deed_of}
-use Rattle.aho_cover.specs.Covers.{BeginsCoveringWith, CoversStreamUpToWith, CoversStreamWith, IsUnbegunWith, LeavesCoveredWith}
+use Rattle.aho_cover.specs.Covers.{IsUnbegunWith, LeavesCoveredWith, LeavesCountedWith}
 use Rattle.aho_cover.specs.declared.progress.CoverProgress.{CoverProgress}
-use Rattle.aho_cover.specs.Pieces.{IsCoverWith, piece_in}
+use Rattle.aho_cover.specs.Pieces.{piece_in}
 use Rattle.aho_cover.specs.Words.{AreRunsWith}
 use Rattle.aho_cover.proofs.Chosen.{all-are}
 use Rattle.acredact.specs.Pseudonyms.{pseudonym_rule}
-use Rattle.acredact.specs.Secrets.{AreCleanBy, AreReplaced, BeginsRedaction, CountsFor, IsRedaction, Keyed, NoByteIsKept, NoneIsWhole, NoneOccurs, Redactor, rule_by, rule_of}
-use Rattle.acredact.specs.Streams.{DoesStream, NearsStream, RedactsStream, StartsStream, StreamOutcome}
-use Rattle.acredact.proofs.Covered.{touched_from}
-use Rattle.acredact.proofs.MadeClean.{made-free}
-use Rattle.acredact.proofs.Flaws.{pseudonyms_clean}
+use Rattle.acredact.specs.Secrets.{AreCleanBy, AreReplaced, BeginsRedaction, CountsFor, IsRedaction, IsTouched, Keyed, NoByteIsKept, NoneIsWhole, NoneOccurs, Redactor, rule_by, rule_of}
+use Rattle.acredact.specs.Streams.{DoesStream, StreamOutcome}
+use Rattle.acredact.proofs.Flaws.{made-free, pseudonyms_clean}
+use Rattle.acredact.specs.Deeds.{Deed}
+use Rattle.acredact.proofs.Totals.{grow_few, grow_none}
+use Rattle.aho_laws.specs.CoverLaws.{AreInOrder}
+use Rattle.aho_laws.proofs.SettledRuns.{few-open}
+
+-- what is before another does not start after the other ends: both have a byte
+not_after : (kind : MatchKind) (m o : Occurrence) → m.start < m.end → o.start < o.end → IsBefore kind m o → m.start < o.end
+not_after Standard m o some_m some_o before = grind arith
+not_after kind m o some_m some_o before = grind arith
+
+module _ (p : Patterns) (no_empty : 1 ≤ shortest (map length p.words)) (bytes : List ℕ) where
+  full : NoneIsEmpty p
+  full number numbered = omega (arith, shortest_bounds p.words number numbered, no_empty)
+
+  -- what occurs has a byte
+  pub occurs_some : (from : ℕ) (m : Occurrence) → Occurs p No bytes from (length bytes) m → m.start < m.end
+  occurs_some from m occurs = Occurs-full p full bytes from (length bytes) m occurs
+
+  pub touched_from : (ms : List Occurrence) (from : ℕ) (last : Option ℕ) → AreFinds p (search_from from bytes) last ms
+      → (o : Occurrence) → Occurs p No bytes from (length bytes) o → IsTouched ms o
+  touched_from [] from last finds o occurs = absurd (find-best p full bytes from (length bytes) last None finds o occurs)
+  touched_from (m ∷ ms) from last finds o occurs =
+      let best = find-best p full bytes from (length bytes) last (Some m) finds.0 in
+      let some_m = occurs_some from m best.0 in
+      elim (cases_lt o.start m.end) [
+        | inl early ↦ (
+          m,
+          inl refl,
+          (
+            elim (best.1 o occurs) [
+              | inl same ↦ omega (arith, some_m, ap (λ (x : Occurrence). x.end) same)
+              | inr before ↦ not_after p.kind m o some_m (occurs_some from o occurs) before
+            ],
+            early,
+          ),
+        )
+        | inr late ↦
+            (let rest = touched_from ms m.end (Some m.end) finds.1 o (Occurs-in p bytes from (length bytes) m.end (length bytes) o late occurs.before_end occurs) in
+            (rest.0, inr rest.1, rest.2))
+      ]
+
+  -- each find has a byte of its own
+  pub few_from : (ms : List Occurrence) (from : ℕ) (last : Option ℕ) → AreFinds p (search_from from bytes) last ms → from ≤ length bytes → from + length ms ≤ length bytes
+  few_from [] from last finds within = omega (arith, within)
+  few_from (m ∷ ms) from last finds within =
+      let best = find-best p full bytes from (length bytes) last (Some m) finds.0 in
+      omega (arith, occurs_some from m best.0, best.0.after_start, few_from ms m.end (Some m.end) finds.1 best.0.before_end)
 
 -- some bytes with an end that was seen are all
 pub all_of : (given text : List ℕ) → MayBe given true text → text ≡ given
@@ -100,37 +148,29 @@ module _ (r : Redactor) (some : 1 ≤ shortest (map length r.patterns.words)) wh
 abbrev pub plain_by : Patterns → List (List ℕ) → Redactor
 plain_by p pieces = record { patterns = p; covers = false; words = false; pieces = pieces; key = None }
 
-module _ {R W : Type 0} (S : SourceGhosts R) (K : SinkGhosts W) (p : Patterns) (pieces : List (List ℕ)) (source source' : R) (sink sink' : W) where
-  abbrev Plain : Deed
-  Plain = deed_of (plain_by p pieces)
-
-  -- what comes of a stream
-  pub plain_outcome : (result : Result (Unit {0}) StreamError) → OnOk result (RedactsStream S K Plain source source' sink sink') → OnErr result (StartsStream S K Plain source source' sink sink')
-      → CountsErrors S K source source' sink sink' result → (is_limit result ≡ true → GaveAsMany S source source' greatest_position) → IfErr result IsStreamEnd → StreamOutcome S K Plain source source' sink sink' result
-  plain_outcome result whole begun errors limit only = record { redacted = whole; begun = begun; near = near result begun; errors = errors; limit = λ measured. limit; only = only }
-    where
-      near : (result : Result (Unit {0}) StreamError) → OnErr result (StartsStream S K Plain source source' sink sink') → IfErr result (λ error. IsFillRefusal error → NearsStream S K Plain source source' sink sink')
-      near (Ok x) begun = tt
-      near (Err error) begun = λ fills. record { given = begun.given; ended = begun.ended; gives = begun.gives; is = λ (covers : false ≡ true). absurd (cc) }
-
-  -- what replaces the finds of the patterns that are searched for redacts by these
-  module _ (AreSearched : Patterns → Type 0) (of : AreSearched p) (some : 1 ≤ shortest (map length p.words)) where
-    whole_by : ReplacesStream S K AreSearched pieces source source' sink sink' → RedactsStream S K Plain source source' sink sink'
-    whole_by whole =
-        let (ms, found) = finds-exist p (plain_search whole.given) None (le_refl (length whole.given)) in
-        record { text = whole.given; gives = whole.gives; is = (replaced whole.given ms pieces, redaction_by (plain_by p pieces) some whole.given ms found, whole.writes p ms of found) }
-
-    begun_by : BeginsReplacing S K AreSearched pieces source source' sink sink' → StartsStream S K Plain source source' sink sink'
-    begun_by begun = record {
-      given = begun.given;
-      ended = begun.ended;
-      gives = begun.gives;
-      is = (begun.written, begins_by (plain_by p pieces) some begun.given begun.ended begun.written (λ text ms may found. begun.beginning p text ms of may found), begun.writes);
+-- what replaces the finds of the patterns that are searched for redacts by these
+pub outcome_plain : {R W : Type 0} (S : SourceGhosts R) (K : SinkGhosts W) (p : Patterns) (pieces : List (List ℕ)) (source source' : R) (sink sink' : W) (AreSearched : Patterns → Type 0)
+    → AreSearched p → 1 ≤ shortest (map length p.words) → (result : Result (Unit {0}) StreamError)
+    → OnOk result (ReplacesStream S K AreSearched pieces source source' sink sink') → OnErr result (BeginsReplacing S K AreSearched pieces source source' sink sink')
+    → CountsErrors S K source source' sink sink' result → (is_limit result ≡ true → GaveAsMany S source source' greatest_position) → IfErr result IsStreamEnd
+    → StreamOutcome S K (deed_of (plain_by p pieces)) source source' sink sink' result
+outcome_plain S K p pieces source source' sink sink' AreSearched of some result whole begun errors limit only =
+    let r = plain_by p pieces in
+    record {
+      redacted = on_ok_weaker result (λ whole.
+          let (ms, found) = finds-exist p (plain_search whole.given) None (le_refl (length whole.given)) in
+          record { text = whole.given; gives = whole.gives; is = (replaced whole.given ms pieces, redaction_by r some whole.given ms found, whole.writes p ms of found) }) whole;
+      begun = on_err_weaker result (λ begun. record {
+        given = begun.given;
+        ended = begun.ended;
+        gives = begun.gives;
+        is = (begun.written, begins_by r some begun.given begun.ended begun.written (λ text ms may found. begun.beginning p text ms of may found), begun.writes);
+      }) begun;
+      near = IfErr-weaker result _ _ (λ error begun fills. record { given = begun.given; ended = begun.ended; gives = begun.gives; is = λ (covers : false ≡ true). absurd (cc) }) begun;
+      errors = errors;
+      limit = λ measured. limit;
+      only = only;
     }
-
-    pub outcome_plain : (result : Result (Unit {0}) StreamError) → OnOk result (ReplacesStream S K AreSearched pieces source source' sink sink') → OnErr result (BeginsReplacing S K AreSearched pieces source source' sink sink')
-        → CountsErrors S K source source' sink sink' result → (is_limit result ≡ true → GaveAsMany S source source' greatest_position) → IfErr result IsStreamEnd → StreamOutcome S K Plain source source' sink sink' result
-    outcome_plain result whole begun errors limit only = plain_outcome result (on_ok_weaker result whole_by whole) (on_err_weaker result begun_by begun) errors limit only
 
 -- no pattern is empty of an automaton that can search streams
 pub some_of : {A : Type 0} (G : Ghosts A) (automaton : A) (p : Patterns) → G.lengths automaton ≡ map length p.words → CanBegin G automaton → 1 ≤ shortest (map length p.words)
@@ -153,86 +193,102 @@ pub back_ends : (error : StreamError) → (error ≡ Memory) ⊎ IsStreamFault e
 back_ends error (inl memory) = subst IsStreamEnd (sym memory) tt
 back_ends error (inr fault) = fault_ends error fault
 
--- words of which none is empty
-some_words : (words : List (List ℕ)) → ((number : ℕ) → number < length words → 0 < length (slice_index_or words number [])) → 1 ≤ shortest (map length words)
-some_words [] full = omega arith
-some_words (word ∷ words) full = omega (arith, full 0 (omega arith), some_words words (λ number within. full (suc number) (omega (arith, within))))
-
--- none is of a searcher by a walk backward
-pub some_back : {A : Type 0} (G : Ghosts A) (searcher : Backward A) (p : Patterns) → IsBackwardOf G searcher p → 1 ≤ shortest (map length p.words)
-some_back G searcher p is = some_words p.words is.turned_from.full
-
 -- no pattern is empty where a cover can begin
 pub some_cover : {A : Type 0} (G : Ghosts A) (automaton : A) {words : Bool} {progress : CoverProgress} (p : Patterns) → G.lengths automaton ≡ map length p.words → IsUnbegunWith words G automaton progress
     → 1 ≤ shortest (map length p.words)
 some_cover G automaton p are can = subst (λ (ns : List ℕ). 1 ≤ shortest ns) are can.no_empty
 
--- the same of a cover
-module _ {R W : Type 0} (S : SourceGhosts R) (K : SinkGhosts W) (r : Redactor) (covers : r.covers ≡ true) (AreSearched : Patterns → Type 0) (of : AreSearched r.patterns)
-    (some : 1 ≤ shortest (map length r.patterns.words)) (source source' : R) (sink sink' : W) where
-  covered_of : CoversStreamWith S K AreSearched r.words (rule_of r) source source' sink sink' → RedactsStream S K (deed_of r) source source' sink sink'
-  covered_of whole =
-      let cover : IsCoverWith r.words r.patterns whole.given (rule_of r) whole.output = whole.covers r.patterns of in
-      record {
-        text = whole.given;
-        gives = whole.gives;
-        is = (whole.output, subst (IsRedaction r whole.given) (sym cover.2) (redaction_by r some whole.given cover.0 (rw covers cover.1)), whole.writes);
-      }
+-- a text has no more runs than bytes
+runs_few : (words : Bool) (p : Patterns) (text : List ℕ) → length (all_runs words p text) ≤ length text
+runs_few words p text =
+    let ordered : AreInOrder (all_runs words p text) (length text) = (all-covers p text words).ordered in
+    omega (arith, few-open (all_runs words p text) 1 (length text) ordered (λ x there. omega (arith, ordered.full x there)))
 
-  covering_of : BeginsCoveringWith S K AreSearched r.words (rule_of r) source source' sink sink' → StartsStream S K (deed_of r) source source' sink sink'
-  covering_of begun = record {
-    given = begun.given;
-    ended = begun.ended;
-    gives = begun.gives;
-    is = (
-      begun.written,
-      begins_by r some begun.given begun.ended begun.written
-          (λ text runs may found. begun.beginning r.patterns text (redacted r text runs) of may (runs, rw covers at found, refl)),
-      begun.writes,
-    );
-  }
-
-  reaching_of : CoversStreamUpToWith S K AreSearched r.words (rule_of r) source source' sink sink' → NearsStream S K (deed_of r) source source' sink sink'
-  reaching_of up = record {
-    given = up.given;
-    ended = up.ended;
-    gives = up.gives;
-    is = λ covering. record {
-      place = up.place;
-      within = up.within;
-      prompt = λ at behind before out. up.prompt r.patterns at of behind before out;
-      written = λ text ranges may found. up.writes r.patterns text ranges of may (rw covers at found);
-    };
-  }
-
-  pub does_cover : (result : Result (Unit {0}) StreamError) (counts counts' : List ℕ) → LeavesCoveredWith S K AreSearched r.words (rule_of r) source source' sink sink' result
-      → OnOk result (CountsRunsWith S AreSearched r.words source source' counts counts') → CountsErrors S K source source' sink sink' result → IfErr result IsStreamFault → Bounded S source source' counts counts'
-      → DoesStream S K (deed_of r) source source' sink sink' result counts counts'
-  does_cover result counts counts' leaves counted errors only most = record {
-    outcome = record {
-      redacted = on_ok_weaker result covered_of leaves.covered;
-      begun = on_err_weaker result covering_of leaves.begun;
-      near = IfErr-weaker result _ _ (λ error up fills. reaching_of (up fills)) leaves.near;
-      errors = errors;
-      limit = λ measured. leaves.limit;
-      only = IfErr-weaker result IsStreamFault IsStreamEnd fault_ends only;
-    };
-    counted = on_ok_weaker result (λ whole.
+-- and what covers them redacts by a cover
+pub does_cover : {R W : Type 0} (S : SourceGhosts R) (K : SinkGhosts W) (r : Redactor) → r.covers ≡ true → (AreSearched : Patterns → Type 0) → AreSearched r.patterns
+    → 1 ≤ shortest (map length r.patterns.words) → (source source' : R) (sink sink' : W) (result : Result (Unit {0}) StreamError) (counts counts' : List ℕ)
+    → LeavesCoveredWith S K AreSearched r.words (rule_of r) source source' sink sink' result → LeavesCountedWith S K AreSearched r.words (rule_of r) source source' sink sink' counts counts' result
+    → CountsErrors S K source source' sink sink' result → IfErr result IsStreamFault → DoesStream S K (deed_of r) source source' sink sink' result counts counts'
+does_cover S K r covers AreSearched of some source source' sink sink' result counts counts' leaves counts_so errors only = record {
+  outcome = record {
+    redacted = on_ok_weaker result (λ whole.
+        let (runs, are, is) = whole.covers r.patterns of in
+        record {
+          text = whole.given;
+          gives = whole.gives;
+          is = (whole.output, subst (IsRedaction r whole.given) (sym is) (redaction_by r some whole.given runs (rw covers are)), whole.writes);
+        }) leaves.covered;
+    begun = on_err_weaker result (λ begun. record {
+      given = begun.given;
+      ended = begun.ended;
+      gives = begun.gives;
+      is = (
+        begun.written,
+        begins_by r some begun.given begun.ended begun.written (λ text runs may found. begun.beginning r.patterns text (redacted r text runs) of may (runs, rw covers at found, refl)),
+        begun.writes,
+      );
+    }) leaves.begun;
+    near = IfErr-weaker result _ _ (λ error near fills.
+        let up = near fills in
+        record {
+          given = up.given;
+          ended = up.ended;
+          gives = up.gives;
+          is = λ covering. record {
+            place = up.place;
+            within = up.within;
+            prompt = λ at behind before out. up.prompt r.patterns at of behind before out;
+            written = λ text ranges may found. up.writes r.patterns text ranges of may (rw covers at found);
+          };
+        }) leaves.near;
+    errors = errors;
+    limit = λ measured. leaves.limit;
+    only = IfErr-weaker result IsStreamFault IsStreamEnd fault_ends only;
+  };
+  counted = on_ok_weaker result (λ whole.
+      let runs = all_runs r.words r.patterns whole.given in
+      let are = all-made r.patterns whole.given r.words in
+      (runs, record { text = whole.given; gives = whole.gives; is = rw covers are }, whole.counted r.patterns runs of are)) counts_so.counted;
+  most = λ measured. given result counts_so;
+}
+  where
+    -- no more is counted than was given
+    given : (result : Result (Unit {0}) StreamError) → LeavesCountedWith S K AreSearched r.words (rule_of r) source source' sink sink' counts counts' result → Bounded S source source' counts counts'
+    given (Ok x) leaves =
+        let whole = leaves.counted in
         let runs = all_runs r.words r.patterns whole.given in
-        let are = all-made r.patterns whole.given r.words in
-        (runs, record { text = whole.given; gives = whole.gives; is = rw covers are }, whole.counted r.patterns runs of are)) counted;
-    most = λ measured. most;
-  }
+        record {
+          given = whole.given;
+          ended = true;
+          gives = whole.gives;
+          is = grow_few runs counts counts' (length whole.given) (whole.counted r.patterns runs of (all-made r.patterns whole.given r.words)) (runs_few r.words r.patterns whole.given);
+        }
+    given (Err error) leaves =
+        let some = leaves.begun in
+        let runs = all_runs r.words r.patterns some.given in
+        let (later, are, ends) = some.beginning r.patterns some.given runs of (no_more some.given some.ended) (all-made r.patterns some.given r.words) in
+        let sizes : length runs ≡ length some.first + length later = ap length are ∙ length-append some.first later in
+        record {
+          given = some.given;
+          ended = some.ended;
+          gives = some.gives;
+          is = grow_few some.first counts counts' (length some.given) some.counted (omega (arith, sizes, runs_few r.words r.patterns some.given));
+        }
 
--- where there are no counts
+-- where nothing is counted nothing has grown
+pub ungrown : {R W : Type 0} {S : SourceGhosts R} {K : SinkGhosts W} {d : Deed} {source source' : R} {sink sink' : W} (counts : List ℕ) (result : Result (Unit {0}) StreamError) → StreamOutcome S K d source source' sink sink' result → Bounded S source source' counts counts
+ungrown counts (Ok x) of = record { given = of.redacted.text; ended = true; gives = of.redacted.gives; is = grow_none counts (length of.redacted.text) }
+ungrown counts (Err error) of = record { given = of.begun.given; ended = of.begun.ended; gives = of.begun.gives; is = grow_none counts (length of.begun.given) }
+
+-- what is done to a stream where there are no counts
 pub uncounted : {R W : Type 0} (S : SourceGhosts R) (K : SinkGhosts W) (r : Redactor) (result : Result (Unit {0}) StreamError) (source source' : R) (sink sink' : W) (counts : List ℕ) → length counts ≡ 0
-    → StreamOutcome S K (deed_of r) source source' sink sink' result → Bounded S source source' counts counts → DoesStream S K (deed_of r) source source' sink sink' result counts counts
-uncounted S K r result source source' sink sink' counts none outcome most = record {
+    → StreamOutcome S K (deed_of r) source source' sink sink' result → DoesStream S K (deed_of r) source source' sink sink' result counts counts
+uncounted S K r result source source' sink sink' counts none outcome = record {
   outcome = outcome;
   counted = on_ok_weaker result (λ whole. (
     whole.is.1.ranges,
     record { text = whole.text; gives = whole.gives; is = whole.is.1.found },
     record { as_many = refl; grown = λ number (within : number < length counts). absurd (omega (arith, within, none)) },
   )) outcome.redacted;
-  most = λ measured. most;
+  most = λ measured. ungrown counts result outcome;
 }

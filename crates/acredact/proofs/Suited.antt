@@ -1,19 +1,20 @@
 -- How an automaton redacts streams.
-use Rattle.acredact.proofs.Common.{CanBegin, Folders, Ghosts, Keeps-refl, Memory, No, Patterns, PieceRule, Readers, Refused, SinkGhosts, Standard, StreamError, Streams, Volume, Writers, ne_eqb, pieces_of, shortest, tells-nothing}
-use Rattle.std.proofs.Common.{◌≡◌, inl, ℕ, List, [], ◌∷◌, Option, true, false, length, map, refl, sym, ap, subst, ◌∙◌, arith}
+use Rattle.acredact.proofs.Common.{Bor, CanBegin, Folders, Ghosts, Memory, No, Patterns, PieceRule, Readers, Refused, SinkGhosts, Standard, StreamError, Streams, Volume, Writers, ne_eqb, pieces_of, shortest, tells-nothing}
+use Rattle.std.proofs.Common.{◌≡◌, ℕ, List, [], true, false, length, map, refl, sym, ap, subst, ◌∙◌, arith, Option}
 use Rattle.std.specs.Prelude.{Bool, ◌&&◌, None, Some, Err, if◌then◌else◌}
 use Rattle.aho_core.specs.declared.error.MatchErrorKind.TheVariants.{UnsupportedEmpty}
 use Rattle.aho_automaton.specs.Covering.{cover_refusal}
+use Rattle.aho_backward.specs.declared.backward.Backward.{Backward}
 use Rattle.aho_cover.specs.Covers.{IsUnbegunWith, RefusesStreamCover}
 use Rattle.aho_cover.specs.declared.progress.CoverProgress.{CoverProgress}
 use Rattle.aho_stream.specs.Replacing.{IsMakingRefusal}
 use Rattle.acredact.specs.Back.{DoesByPatterns}
-use Rattle.acredact.specs.Files.{AreCut, CanDo, Task, deed_of, key_for, redactor_of, rule_for, task_in}
+use Rattle.acredact.specs.Files.{CanDo, deed_of, key_for, redactor_of, rule_for, task_in}
 use Rattle.acredact.specs.Secrets.{CanRedact, Redactor}
-use Rattle.acredact.specs.Ways.{IsCovering, IsRedactor}
+use Rattle.acredact.specs.Ways.{IsCovering, IsRedactor, MayWalkBack}
 use Rattle.acredact.specs.declared.files.Job.{Job}
 use Rattle.acredact.proofs.Jobs.{job_ended}
-use Rattle.acredact.proofs.OneFile.{named_none}
+use Rattle.acredact.proofs.OneFile.{cut_none}
 use Rattle.acredact.proofs.Redactions.{begins_nothing, some_of}
 
 module _ {A : Type 0} (G : Ghosts A) where
@@ -44,9 +45,11 @@ module _ {A : Type 0} (G : Ghosts A) where
 
 module _ {A F : Type 0} (G : Ghosts A) (automaton : A) (job : Job F) (p : Patterns) (of : G.is_of automaton p) where
   -- an automaton that suits redacts a job by its patterns, without a cover
-  pub redactor_is : CanDo G automaton job → job.covers ≡ false → IsRedactor G automaton job.replacements.now (redactor_of job p)
-  redactor_is ready plain = record {
+  pub redactor_is : {B : Type 0} (H : Ghosts B) (backward : Option (Bor (Backward B))) → MayWalkBack H backward p → CanDo G automaton job → job.covers ≡ false
+      → IsRedactor G H automaton backward job.replacements.now (redactor_of job p)
+  redactor_is H backward walks ready plain = record {
     of = of;
+    walks = walks;
     is = ap (λ (b : Bool). record { patterns = p; covers = b; words = b && job.words; pieces = pieces_of job.replacements.now; key = key_for b job.key }) plain;
     ready = subst (λ (b : Bool). CanRedact G automaton b job.replacements.now) plain ready;
   }
@@ -63,10 +66,6 @@ module _ {A F : Type 0} (G : Ghosts A) (automaton : A) (job : Job F) (p : Patter
   }
 
 -- where a cover cannot begin, memory ran out before the first file
-cut_none : (task : Task) → task.deed.begins [] false [] → (names : List (List ℕ)) (left held : Option (List ℕ)) → AreCut task names [] left left held held
-cut_none task none [] left held = (refl, refl, Keeps-refl held)
-cut_none task none (name ∷ names) left held = inl (refl, named_none task none name left left held held refl (Keeps-refl held))
-
 pub job_unbegun : {R W E F X A T : Type 0} {Reads : Readers R} (Writes : Writers W) (K : SinkGhosts E) (D : Folders F X) (G : Ghosts A) (automaton : A) (job : Job F) (streams : Streams R W E Reads) (counts : List ℕ) (volume : Volume) (p : Patterns)
     → G.lengths automaton ≡ map length p.words → CanDo G automaton job → job.covers ≡ true → (error : StreamError) → IsMakingRefusal error
     → RefusesStreamCover {T = T} (cover_refusal (G.kind automaton) (G.lengths automaton) (G.start automaton No)) (Err error)

@@ -1,26 +1,17 @@
--- What comes of files, and by what a stream is redacted by a walk backward.
-use Rattle.acredact.specs.Common.{Bor, FromRead, FromWrite, Ghosts, Keeps, Occurrence, Patterns, Readers, Reason, SinkGhosts, StreamError, Writers, bytes_left, name_bytes, output_bytes}
+-- What comes of files.
+use Rattle.acredact.specs.Common.{FromRead, FromWrite, Keeps, Occurrence, Patterns, Readers, Reason, SinkGhosts, StreamError, Writers, bytes_left, name_bytes, output_bytes}
 use Rattle.std.specs.Prelude.{◌≡◌, ℕ, Bool, IfOk, List, [], None, Ok, OnErr, OnOk, Option, Result, true}
-use Rattle.aho_backward.specs.Searcher.{IsBackwardOf}
-use Rattle.aho_backward.specs.declared.backward.Backward.{Backward}
 use Rattle.aho_cover.specs.Counting.{CountsThese}
 use Rattle.acredact.specs.Bounds.{NumbersOfAll, NumbersRead}
 use Rattle.acredact.specs.Deeds.{Deed, WholeText}
 use Rattle.acredact.specs.Files.{BeginsNamed, ComesOfReading, Does, FailsByOutput, IsDone, RefusesName, Task, TaskOutcome, are_none, deed_of, redactor_of, task_in}
 use Rattle.acredact.specs.Reads.{OfName}
-use Rattle.acredact.specs.Secrets.{Redactor}
 use Rattle.acredact.specs.Totals.{CountsFile, CountsFiles}
 use Rattle.acredact.specs.Volumes.{AddsBytes, AddsName, ReadsVolume, files_with}
-use Rattle.acredact.specs.Ways.{IsRedactor}
 use Rattle.acredact.specs.declared.files.Job.{Job}
 use Rattle.acredact.specs.declared.folder.Folder.{Ghosts as Folders}
 use Rattle.acredact.specs.declared.streams.Streams.{Streams}
 use Rattle.acredact.specs.declared.summary.Volume.{Volume}
-
--- it and an automaton redact so, with these replacements
-pub record IsBacking {A B : Type 0} (G : Ghosts A) (H : Ghosts B) (searcher : Backward B) (automaton : A) (replacements : List (Bor (List ℕ))) (r : Redactor) : Type 0 where
-  pub backward : IsBackwardOf H searcher r.patterns
-  pub forward : IsRedactor G automaton replacements r
 
 module _ {W : Type 0} (Writes : Writers W) (result : Result (Option Reason) StreamError) (output output' : FromWrite W) (counts counts' : List ℕ) (bytes bytes' : ℕ) where
   -- what comes of what was read of something: what was written of it, and where it was read to its end, what was counted and how much was read

@@ -1,24 +1,20 @@
 -- What the redaction of one stream reads and writes.
-use Rattle.acredact.specs.Common.{Appends, Occurrence, SinkGhosts, SourceGhosts, StreamError, counted}
-use Rattle.std.specs.Prelude.{◌≡◌, ℕ, List, Result, IfErr, OnErr, OnOk, true}
+use Rattle.acredact.specs.Common.{Occurrence, SinkGhosts, SourceGhosts, StreamError, counted}
+use Rattle.std.specs.Prelude.{◌≡◌, ℕ, List, Result, IfErr, OnErr, OnOk, false, true}
 use Rattle.aho_cover.specs.Counting.{CountsThese}
-use Rattle.aho_devices.specs.Counts.{AppendsBeginning}
 use Rattle.aho_devices.specs.Errors.{CountsErrors}
-use Rattle.aho_devices.specs.Refusals.{IsFillRefusal, IsWriteRefusal, is_write_fault, is_write_of_nothing}
+use Rattle.aho_devices.specs.Refusals.{IsFillRefusal}
 use Rattle.aho_stream.specs.After.{greatest_position}
 use Rattle.aho_stream.specs.Refills.{is_limit}
 use Rattle.aho_stream.specs.Replacing.{GaveAsMany}
+use Rattle.aho_stream.specs.StreamRun.{SinkTakes}
 use Rattle.acredact.specs.Bounds.{Bounded}
 use Rattle.acredact.specs.Deeds.{BegunAs, Deed, SomeStream, WholeStream, WrittenAs}
 use Rattle.acredact.specs.Faults.{IsStreamEnd}
 
 -- a piece was written, or a beginning of it where a write failed or took nothing
-pub record WritesPiece {W : Type 0} (K : SinkGhosts W) (result : Result (Unit {0}) StreamError) (sink sink' : W) (piece : List ℕ) : Type 0 where
-  pub whole : OnOk result (Appends (K.taken sink) (K.taken sink') piece)
-  pub beginning : OnErr result (AppendsBeginning (K.taken sink) (K.taken sink') piece)
-  pub write_failed : K.failures sink' ≡ counted (is_write_fault result) (K.failures sink)
-  pub took_nothing : K.empty_writes sink' ≡ counted (is_write_of_nothing result) (K.empty_writes sink)
-  pub only : IfErr result IsWriteRefusal
+abbrev pub WritesPiece : {W : Type 0} → SinkGhosts W → Result (Unit {0}) StreamError → (sink sink' : W) → (piece : List ℕ) → Type 0
+WritesPiece K result sink sink' piece = SinkTakes K false sink piece result sink'
 
 -- from a source and a sink before a call to those after it
 module _ {R W : Type 0} (S : SourceGhosts R) (K : SinkGhosts W) (d : Deed) (source source' : R) (sink sink' : W) where

@@ -3,16 +3,14 @@
 ghost use Rattle.std.specs.Prelude.{◌≡◌, ◌&&◌, IfErr, IfOk, true};
 ghost use Rattle.std.specs.Io.KnownBytes.{Keeps};
 ghost use Rattle.aho_core.specs.Patterns.{Patterns};
-ghost use Rattle.aho_backward.specs.Searcher.{IsBackwardOf};
 ghost use Rattle.tool_parts.specs.Names.{is_input, name_bytes};
 ghost use Rattle.tool_parts.specs.Streams.{bytes_left};
 ghost use Rattle.acredact.specs.Back.{DoesByPatterns, DoesJob, DoesNamed, DoesText, DoesTold};
 ghost use Rattle.acredact.specs.Faults.{reading_of};
 ghost use Rattle.acredact.specs.Files.{CanDo, rule_for, task_in};
 ghost use Rattle.acredact.specs.Secrets.{IfOf};
-ghost use Rattle.acredact.specs.Ways.{IfBy};
+ghost use Rattle.acredact.specs.Ways.{IfBy, MayWalkBack};
 
-use crate::back::Backing;
 use crate::failure::{tell_output, tell_unread};
 use crate::folder::Folder;
 use crate::meter::{Known, Lent, Metered, Taken};
@@ -47,21 +45,24 @@ pub struct Job<'s, 't, F> {
 }
 
 /// Redacts all files, and flushes. It answers whether all were read to their ends: one that was not is told, and the others are
-/// still redacted. The ranges that are replaced are counted, for each pattern that has a count.
+/// still redacted. The ranges that are replaced are counted, for each pattern that has a count. Matches that share no byte are found
+/// by a walk backward of the same patterns, if there is one.
 ///
 /// # Errors
 ///
 /// `Write` and `WriteZero` where the output fails or takes nothing, and `Memory` where it runs out.
-pub fn redact_files<A: Automaton, F: Folder, I: Read, W: Write, E: Sink>(
+pub fn redact_files<A: Automaton, B: Automaton, F: Folder, I: Read, W: Write, E: Sink>(
     automaton: &A,
+    backward: Option<&Backward<B>>,
     job: &Job<'_, '_, F>,
     counts: &mut [u64],
     volume: &mut Volume,
     streams: &mut Streams<'_, I, W, E>,
 ) -> Result<bool, StreamError>
     requires ready { CanDo A.Automaton automaton.now job.now }
-    ensures done { IfOf A.Automaton automaton.now (DoesByPatterns W.Write E.Sink F.Folder job.now
-        result streams.old streams.new counts.old counts.new volume.old volume.new) }
+    requires both { (p : Patterns) × A.is_of automaton.now p × MayWalkBack B.Automaton backward p }
+    ensures done { IfOf A.Automaton automaton.now (λ p. MayWalkBack B.Automaton backward.entry p → DoesByPatterns
+        W.Write E.Sink F.Folder job.now result streams.old streams.new counts.old counts.new volume.old volume.new p) }
 {
     if job.covers {
         return cover_files(automaton, job, counts, volume, streams);
@@ -69,6 +70,7 @@ pub fn redact_files<A: Automaton, F: Folder, I: Read, W: Write, E: Sink>(
     let mut way = Replacing {
         alloc: job.alloc,
         automaton,
+        backward,
         replacements: job.replacements,
     };
     redact_flushed(&mut way, job.folder, job.names, counts, volume, streams)
@@ -116,35 +118,6 @@ fn cover_by<A: Automaton, P: Pieces + Drop, F: Folder, I: Read, W: Write, E: Sin
 {
     let start = StreamCoverStart::new_with(job.alloc, automaton, job.words)?;
     let mut way = Covering { start, pieces };
-    redact_flushed(&mut way, job.folder, job.names, counts, volume, streams)
-}
-
-/// Redacts all files by matches that share no byte, by a walk backward of the same patterns; by covers where these are asked for.
-pub fn back_files<A: Automaton, B: Automaton, F: Folder, I: Read, W: Write, E: Sink>(
-    automaton: &A,
-    searcher: &Backward<B>,
-    job: &Job<'_, '_, F>,
-    counts: &mut [u64],
-    volume: &mut Volume,
-    streams: &mut Streams<'_, I, W, E>,
-) -> Result<bool, StreamError>
-    requires ready { CanDo A.Automaton automaton.now job.now }
-    requires both { (p : Patterns) × A.is_of automaton.now p × IsBackwardOf B.Automaton searcher.now p }
-    ensures done { IfOf A.Automaton automaton.now (λ p. IsBackwardOf B.Automaton searcher.now p → DoesByPatterns
-        W.Write E.Sink F.Folder job.now result streams.old streams.new counts.old counts.new volume.old volume.new p) }
-{
-    if job.covers {
-        return cover_files(automaton, job, counts, volume, streams);
-    }
-    let replacing = Replacing {
-        alloc: job.alloc,
-        automaton,
-        replacements: job.replacements,
-    };
-    let mut way = Backing {
-        searcher,
-        replacing,
-    };
     redact_flushed(&mut way, job.folder, job.names, counts, volume, streams)
 }
 
@@ -275,9 +248,12 @@ fn redact_input<X: Way, I: Read, W: Write>(
     ensures still { IfBy X.Way way.old (X.by way.new) }
 {
     input.restart();
-    let taken = redact_with::<Brand, X, I, W>(way, counts, Lent { source: input }, *bytes, output);
-    *bytes = taken.bytes;
-    let Taken { lent, done, .. } = taken;
+    let lent = Lent {
+        source: input,
+        bytes: *bytes,
+    };
+    let Taken { lent, done } = redact_with::<Brand, X, I, W>(way, counts, lent, output);
+    *bytes = lent.bytes;
     let _source = lent.source;
     done
 }
@@ -287,28 +263,25 @@ fn redact_with<'s, K: Known, X: Way, I: Read, W: Write>(
     way: &mut X,
     counts: &mut [u64],
     lent: Lent<'s, FromRead<I>>,
-    bytes: u64,
     output: &mut FromWrite<W>,
 ) -> Taken<'s, FromRead<I>>
     requires ready { (plan : X.Plan) × X.by way.old plan }
     requires whole { K.whole ≡ bytes_left lent.source.now }
-    requires start { K.start ≡ bytes }
+    requires start { K.start ≡ lent.bytes }
     requires name { K.name ≡ lent.source.ghost_name }
     requires unread { lent.source.now.empty_reads ≡ 0 }
     ensures outcome { IfBy X.Way way.old (λ plan. DoesText W.Write result.done output.old output.new counts.old counts.new
-        bytes result.bytes lent.entry.source.now result.lent.source.now (X.means plan)) }
+        lent.entry.bytes result.lent.bytes lent.entry.source.now result.lent.source.now (X.means plan)) }
     ensures still { IfBy X.Way way.old (X.by way.new) }
     ensures same { result.lent.source.ghost_name ≡ lent.entry.source.ghost_name }
 {
     let mut meter = Metered::<FromRead<I>, K> {
         lent,
-        bytes,
-        settled: true,
         of: PhantomData,
     };
     let done = reading_of(way.redact(counts, &mut meter, output));
-    let Metered { lent, bytes, .. } = meter;
-    Taken { lent, bytes, done }
+    let Metered { lent, .. } = meter;
+    Taken { lent, done }
 }
 
 /// Why a stream was not read to its end, where that is so; any other error ends the program.

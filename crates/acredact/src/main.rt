@@ -10,7 +10,6 @@
 
 mod apart;
 mod arguments;
-mod back;
 mod beside;
 mod check;
 mod clean;

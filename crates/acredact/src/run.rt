@@ -19,7 +19,7 @@ use crate::arguments::items;
 use crate::check::check;
 use crate::counts::counts_of;
 use crate::failure::{Failure, report, report_end};
-use crate::files::{Job, back_files, redact_files};
+use crate::files::{Job, redact_files};
 use crate::folder::Folder;
 use crate::help::{HELP, VERSION};
 use crate::mistakes::Mistake;
@@ -155,7 +155,7 @@ pub fn run<F: Folder, I: Read, W: Write, E: Sink>(
 }
 
 /// Reads the arguments, does what they ask for, and answers the exit status.
-fn answer_to<F: Folder, I: Read, W: Write, E: Sink>(
+pub fn answer_to<F: Folder, I: Read, W: Write, E: Sink>(
     alloc: Global,
     arguments: &[String],
     folder: &F,
@@ -278,14 +278,15 @@ pub fn redact_by<F: Folder, I: Read, W: Write, E: Sink>(
     ensures done { ForItsPatterns searcher.now (DoesByPatterns W.Write E.Sink F.Folder job.now
         result streams.old streams.new counts.old counts.new volume.old volume.new) }
 {
-    if let Some(back) = searcher.backward() {
-        return back_files(searcher.itself(), back, job, counts, volume, streams);
+    let back = searcher.backward();
+    if back.is_some() {
+        return redact_files(searcher.itself(), back, job, counts, volume, streams);
     }
     if let Some(rows) = searcher.rows() {
-        return redact_files(rows, job, counts, volume, streams);
+        return redact_files(rows, back, job, counts, volume, streams);
     }
     match searcher.levels() {
-        Some(levels) => redact_files(levels, job, counts, volume, streams),
-        None => redact_files(searcher.itself(), job, counts, volume, streams),
+        Some(levels) => redact_files(levels, back, job, counts, volume, streams),
+        None => redact_files(searcher.itself(), back, job, counts, volume, streams),
     }
 }

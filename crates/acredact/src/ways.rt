@@ -4,7 +4,7 @@ ghost use Rattle.acredact.specs.Deeds.{Deed};
 ghost use Rattle.acredact.specs.Streams.{DoesStream};
 
 use crate::redact::redact_counting;
-use chromesquid::any::{Pieces, StreamCoverStart, cover_with, try_stream_replace_all};
+use chromesquid::any::{Backward, Pieces, StreamCoverStart, cover_with, try_stream_replace_all};
 use chromesquid::{Automaton, Sink, Source, StreamError};
 use std::alloc::Global;
 
@@ -79,18 +79,21 @@ impl<A: Automaton, P: Pieces> Way for Covering<'_, A, P> {
     }
 }
 
-/// A replacement of matches that share no byte.
+/// A replacement of matches that share no byte. A walk backward looks up at most four transitions for each byte whatever the patterns
+/// are: it is for a leftmost kind where patterns go far beyond others that occur in them.
 #[derive(Clone, Copy)]
-pub struct Replacing<'s, 't, A> {
+pub struct Replacing<'s, 't, A, B> {
     /// What memory is taken from.
     pub alloc: Global,
     /// The automaton that searches.
     pub automaton: &'s A,
+    /// What walks backward in its place where nothing is counted, if anything does.
+    pub backward: Option<&'s Backward<B>>,
     /// What is written in the place of each pattern.
     pub replacements: &'s [&'t [u8]],
 }
 
-impl<A: Automaton> Way for Replacing<'_, '_, A> {
+impl<A: Automaton, B: Automaton> Way for Replacing<'_, '_, A, B> {
     ghost use Rattle.acredact.specs.Files.{deed_of};
     ghost use Rattle.acredact.specs.Secrets.{Redactor};
     ghost use Rattle.acredact.specs.Ways.{IsRedactor};
@@ -99,31 +102,37 @@ impl<A: Automaton> Way for Replacing<'_, '_, A> {
 
     ghost means = { deed_of };
 
-    ghost by = { λ way r. IsRedactor A.Automaton way.automaton.now way.replacements.now r };
+    ghost by = { λ way r. IsRedactor A.Automaton B.Automaton way.automaton.now way.backward way.replacements.now r };
 
-    /// Where nothing is counted the output is flushed before each read.
+    /// Where nothing is counted the output is flushed before each read; by a walk backward all is written before each read but the last
+    /// bytes, at most twice as many as the longest pattern has.
     fn redact<R: Source, W: Sink>(
         &mut self,
         counts: &mut [u64],
         source: &mut R,
         sink: &mut W,
     ) -> Result<(), StreamError> {
-        if counts.is_empty() {
-            return try_stream_replace_all(
+        if !counts.is_empty() {
+            return redact_counting(
+                self.alloc,
+                self.automaton,
+                self.replacements,
+                counts,
+                source,
+                sink,
+            );
+        }
+        match self.backward {
+            Some(searcher) => {
+                searcher.try_stream_replace_all(self.alloc, source, sink, self.replacements)
+            }
+            None => try_stream_replace_all(
                 self.alloc,
                 self.automaton,
                 source,
                 sink,
                 self.replacements,
-            );
+            ),
         }
-        redact_counting(
-            self.alloc,
-            self.automaton,
-            self.replacements,
-            counts,
-            source,
-            sink,
-        )
     }
 }

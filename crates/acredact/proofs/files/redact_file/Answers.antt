@@ -3,7 +3,7 @@ use Rattle.acredact.proofs.Common.{Keeps-refl}
 use Rattle.std.proofs.Common.{◌≡◌, ◌∙◌, inr, refl, sym}
 use Rattle.std.specs.Prelude.{None, Ok, Some}
 use Rattle.acredact.specs.Files.{task_in}
-use Rattle.acredact.proofs.Bounded.{no_numbers}
+use Rattle.acredact.proofs.Totals.{no_numbers}
 use Rattle.acredact.proofs.Jobs.{named_does}
 use Rattle.acredact.proofs.OneFile.{read_input, read_opened}
 use Rattle.acredact.proofs.files.redact_file.Goals as goal

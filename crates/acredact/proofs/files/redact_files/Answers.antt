@@ -1,4 +1,4 @@
--- The automaton replaces by its patterns.
+-- The automaton replaces by its patterns, and what walks backward by the same.
 use Rattle.std.proofs.Common.{rules, ◌≡◌, false}
 use Rattle.acredact.specs.Files.{redactor_of}
 use Rattle.acredact.proofs.Suited.{redactor_is}
@@ -7,10 +7,12 @@ use Rattle.acredact.proofs.files.redact_files.Goals as goal
 pub redact_flushed-requires : goal.redact_flushed-requires
 redact_flushed-requires g c =
     let plain : c.args.job.now.covers ≡ false = search rules in
-    let ready = c.requires.ready in
-    record { ready = (redactor_of c.args.job.now ready.patterns, redactor_is g.A.Automaton _ c.args.job.now ready.patterns ready.of ready plain) }
+    let (p, of, walks) = c.requires.both in
+    record { ready = (redactor_of c.args.job.now p, redactor_is g.A.Automaton _ c.args.job.now p of g.B.Automaton _ walks c.requires.ready plain) }
 
 pub returns : goal.returns
 returns g c =
     let plain : c.args.job.now.covers ≡ false = search rules in
-    record { done = λ p of. c.redact_flushed.ensures.done (redactor_of c.args.job.now p) (redactor_is g.A.Automaton _ c.args.job.now p of c.requires.ready plain) }
+    record {
+      done = λ p of walks. c.redact_flushed.ensures.done (redactor_of c.args.job.now p) (redactor_is g.A.Automaton _ c.args.job.now p of g.B.Automaton _ walks c.requires.ready plain);
+    }

@@ -4,7 +4,7 @@ use Rattle.std.proofs.Common.{[], rules, ◌≡◌, inl, inr, refl, true}
 use Rattle.std.specs.Prelude.{Err, Ok}
 use Rattle.acredact.specs.Files.{task_in, unread_line}
 use Rattle.acredact.specs.Messages.{output_line}
-use Rattle.acredact.proofs.Bounded.{no_numbers}
+use Rattle.acredact.proofs.Totals.{no_numbers}
 use Rattle.acredact.proofs.Done.{told_line}
 use Rattle.acredact.proofs.files.redact_told.Goals as goal
 

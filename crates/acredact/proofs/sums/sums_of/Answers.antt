@@ -2,7 +2,7 @@
 use Rattle.std.proofs.Common.{rules, ◌≡◌, length, ◌∙◌, append-nil, arith}
 use Rattle.std.proofs.lemmas.List.{drop_all, take_at}
 use Rattle.acredact.specs.Tables.{secrets_of}
-use Rattle.acredact.proofs.Summing.{sums_are}
+use Rattle.acredact.proofs.Totals.{sums_are}
 use Rattle.acredact.proofs.sums.sums_of.Goals as goal
 
 pub returns : goal.returns

@@ -1,5 +1,4 @@
 -- What is written is the redaction by these pieces, why it ends early is told, and the cover is then as before.
-use Rattle.acredact.proofs.Bounded.{cover_given}
 use Rattle.acredact.proofs.Redactions.{does_cover, some_cover}
 use Rattle.acredact.proofs.Suited.{covering_still}
 use Rattle.acredact.proofs.ways.CoveringWay.redact.Goals as goal
@@ -13,8 +12,7 @@ returns-clause-done g c = λ red by.
     let searched = g.A.Automaton.is_of c.args.self.now.start.automaton.now in
     does_cover g.R.Source g.W.Sink red by.covers searched by.of
     (some_cover g.A.Automaton _ red.patterns (g.met.A.Automaton.laws _ _ by.of).lengths_are by.unbegun) _ _ _ _ call.result _ _
-    (rw (by.chosen, by.is) call.ensures.leaves) (rw by.chosen call.ensures.counted.counted) call.ensures.errors call.ensures.only
-    (cover_given g.R.Source g.W.Sink searched red.patterns by.of _ _ _ _ _ _ _ _ call.result call.ensures.counted)
+    (rw (by.chosen, by.is) call.ensures.leaves) (rw (by.chosen, by.is) call.ensures.counted) call.ensures.errors call.ensures.only
 
 pub returns-clause-still : goal.returns-clause-still
 returns-clause-still g c = λ red by. covering_still g.A.Automaton _ _ _ _ _ _ red c.cover_with.ensures.same c.cover_with.ensures.rule c.cover_with.ensures.unbegun by
