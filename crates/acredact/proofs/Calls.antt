@@ -1,19 +1,23 @@
--- What comes of a call, by what comes of its files.
-use Rattle.acredact.proofs.Common.{All, All-append, All-cons, All-head, All-nil, All-tail, Errors, Failure, Folders, FromWrite, Memory, Other, PositionLimit, Read, Readers, SinkGhosts, StreamError, Streams, Tells, TellsBytes, TellsSome, Write, WriteZero, Writers, concat, failure_of_stream}
-use Rattle.std.proofs.Common.{◌≡◌, inl, inr, ℕ, List, [], ◌∷◌, Option, true, false, refl, sym, subst}
-use Rattle.std.specs.Prelude.{Err}
+-- What comes of a call, by what comes of its files; what may be told before these, and why it may end there.
+use Rattle.acredact.proofs.Common.{All, All-append, All-cons, All-head, All-nil, All-tail, Errors, Failure, Folders, FromWrite, IsMember, Memory, Other, PositionLimit, Read, Readers, SinkGhosts, StreamError, Streams, Strict, Tells, TellsBytes, TellsSome, Write, WriteZero, Writers, concat, failure_of_stream}
+use Rattle.std.proofs.Common.{List, Option, [], false, inl, inr, refl, subst, sym, true, ℕ, ◌∙◌, ◌∷◌, ◌≡◌}
+use Rattle.std.specs.Prelude.{Bool, Err, None, Some, is_some, ◌⊎◌}
 use Rattle.std.proofs.lemmas.List.Elements.{All-weaker}
 use Rattle.aho_core.specs.declared.error.stream.StreamError.TheVariants.{Match}
 use Rattle.tool_parts.proofs.Lines.{some-one, some-tells, tells-none}
-use Rattle.acredact.specs.Arguments.{Given, counts_asked}
-use Rattle.acredact.specs.Calls.{Call, CallOutcome, CannotLoadCall, IsCountsFailure, IsLineOf, IsRunFailure, IsUnreadLine, IsWordLine, LoadsCall, MayFail, OutputFails, call_of, reading_by, work_by}
+use Rattle.acredact.specs.Arguments.{Given, counts_asked, has}
+use Rattle.acredact.specs.Calls.{Call, CallOutcome, IsCountsFailure, IsLineOf, IsRunFailure, IsUnreadLine, IsWarningLine, IsWordLine, LoadsCall, MayFail, OutputFails, WarnsLoaded, call_of, reading_by, redactor_by_given, work_by}
 use Rattle.acredact.specs.Builds.{patterns_by_given}
 use Rattle.acredact.specs.Files.{AreCut, FilesOutcome, IsDone, Task, Work, are_none, redactor_of, unread_line, work_of}
-use Rattle.acredact.specs.Messages.{output_line}
+use Rattle.acredact.specs.Messages.{output_line, unclean_line}
 use Rattle.acredact.specs.Loading.{AreLoaded, Loaded}
-use Rattle.acredact.specs.Ready.{IsJobFor}
-use Rattle.acredact.specs.Tables.{patterns_in}
+use Rattle.acredact.specs.Ready.{CannotPrepare, IsJobFor}
+use Rattle.acredact.specs.Tables.{Secret, patterns_in}
 use Rattle.acredact.specs.declared.files.Job.{Job}
+use Rattle.secret_rules.proofs.Owners.{member-get_or}
+use Rattle.acredact.specs.Doubts.{TellsDoubts, all_doubt_lines}
+use Rattle.acredact.specs.Pieces.{TellsOfPieces}
+use Rattle.acredact.specs.Secrets.{AreCleanBy, Redactor}
 -- the error of a call that is passed on
 pub use Rattle.aho_cover.proofs.Going.{err_passed as passed_on}
 -- lines behind lines, and lines that may be told of more
@@ -25,9 +29,6 @@ none_are [] none = refl
 none_are (line ∷ lines) none = absurd (cc)
 
 -- the lines that are told of files tell each why one of them was not read to its end
-unread_more : (name : List ℕ) (names : List (List ℕ)) (lines : List (List ℕ)) → All (IsUnreadLine names) lines → All (IsUnreadLine (name ∷ names)) lines
-unread_more name names lines = All-weaker (IsUnreadLine names) (IsUnreadLine (name ∷ names)) (λ line is. (is.0, inr is.1, is.2)) lines
-
 module _ (task : Task) where
   unread_one : (name : List ℕ) (names lines : List (List ℕ)) (left left' held held' : Option (List ℕ)) → IsDone task name lines left left' held held' → All (IsUnreadLine (name ∷ names)) lines
   unread_one name names lines left left' held held' (inl is) = subst (All (IsUnreadLine (name ∷ names))) (sym is.0) (All-nil (IsUnreadLine (name ∷ names)))
@@ -41,7 +42,7 @@ module _ (task : Task) where
   unread_of (name ∷ names) lines left left' held held' (inl cut) = subst (All (IsUnreadLine (name ∷ names))) (sym cut.0) (All-nil (IsUnreadLine (name ∷ names)))
   unread_of (name ∷ names) lines left left' held held' (inr (first, rest, are, between, meanwhile, is, others)) =
       subst (All (IsUnreadLine (name ∷ names))) (sym are) (All-append (IsUnreadLine (name ∷ names)) first rest (unread_one name names first left between held meanwhile is)
-      (unread_more name names rest (unread_of names rest between left' meanwhile held' others)))
+      (All-weaker (IsUnreadLine names) (IsUnreadLine (name ∷ names)) (λ line is. (is.0, inr is.1, is.2)) rest (unread_of names rest between left' meanwhile held' others)))
 
 -- nothing was told, where nothing has changed
 pub tells_same : {E : Type 0} (K : SinkGhosts E) (IsLine : List ℕ → Type 0) (old new : Errors E) → new ≡ old → Tells K IsLine old new
@@ -79,15 +80,17 @@ run_failure Writes K work PositionLimit old new files = absurd files.fails.only
 
 -- what comes of a call that ends before its files
 pub call_ended : {W E : Type 0} (Writes : Writers W) (K : SinkGhosts E) (call : Call) (left left' : Option (List ℕ)) (failure : Failure) (output : FromWrite W) (errors errors' : Errors E) → MayFail call (OutputFails output output) failure
-    → Tells K (IsLineOf call (OutputFails output output)) errors errors' → Tells K (IsWordLine call) errors errors' → CallOutcome Writes K call left left' (Err failure) output output errors errors'
-call_ended Writes K call left left' failure output errors errors' fails told words =
-    record { comes = record { whole = tt; begun = inl refl; told = told; partly = tt; notes = tt; fails = fails }; numbers = inl words }
+    → Tells K (IsWordLine call) errors errors' → CallOutcome Writes K call left left' (Err failure) output output errors errors'
+call_ended Writes K call left left' failure output errors errors' fails words = record {
+  comes = record { whole = tt; begun = inl refl; told = tells_weaker K (IsWordLine call) (IsLineOf call (OutputFails output output)) errors errors' (λ line is. inl is) words; partly = tt; notes = tt; fails = fails };
+  numbers = inl words;
+}
 
 -- nothing was told
 pub call_refused : {W E : Type 0} (Writes : Writers W) (K : SinkGhosts E) (call : Call) (left left' : Option (List ℕ)) (failure : Failure) (output : FromWrite W) (errors : Errors E) → MayFail call (OutputFails output output) failure
     → CallOutcome Writes K call left left' (Err failure) output output errors errors
 call_refused Writes K call left left' failure output errors fails =
-    call_ended Writes K call left left' failure output errors errors fails (tells_same K (IsLineOf call (OutputFails output output)) errors errors refl) (tells_same K (IsWordLine call) errors errors refl)
+    call_ended Writes K call left left' failure output errors errors fails (tells_same K (IsWordLine call) errors errors refl)
 
 -- what may be told, and why
 pub may_fail : (call : Call) (fails : Type 0) (failure : Failure) → IsRunFailure fails failure → MayFail call fails failure
@@ -98,14 +101,47 @@ pub counts_fail : (call : Call) (fails : Type 0) (failure : Failure) → IsCount
 counts_fail call fails failure (asked, inl counts) = inr (inr (inl (counts, asked)))
 counts_fail call fails failure (asked, inr memory) = may_fail call fails failure (inl memory)
 
--- one of the options or the key cannot be loaded, or memory runs out
-pub load_fails : (call : Call) (fails : Type 0) (failure : Failure) → CannotLoadCall call failure → MayFail call fails failure
-load_fails call fails failure (inl (inl one)) = inr (inl (inl one))
-load_fails call fails failure (inl (inr memory)) = may_fail call fails failure (inl memory)
-load_fails call fails failure (inr key) = inr (inl (inr key))
-
 -- what holds of the work of a job holds of what a call asks for
 pub job_does : {F X : Type 0} (D : Folders F X) (folder : F) (given : List Given) (load : Loaded) (job : Job F) → IsJobFor folder given load job
     → (P : Work → Type 0) → P (work_of D job (redactor_of job (patterns_by_given given (patterns_in load.secrets)))) → P (work_by (call_of D folder given) load)
 job_does D folder given load job is P done =
     rw (is.names, is.redactor, is.opens) at done
+
+-- where they are to be refused, nothing is told and they are clean
+pub clean_pieces : {E : Type 0} (K : SinkGhosts E) (strict : Bool) (r : Redactor) (old new : Errors E) → strict ≡ true → TellsOfPieces K strict r old new → r.covers ≡ true → AreCleanBy (is_some r.key) r.patterns r.pieces
+clean_pieces K strict r old new is (None, judged, same) = judged
+clean_pieces K strict r old new is (Some unclean, judged, (lax, told)) = let clash : true ≡ false = sym is ∙ lax in absurd (cc)
+
+-- what is told of patterns of lists is one line after another
+pub doubts_tell : {E : Type 0} (K : SinkGhosts E) (IsLine : List ℕ → Type 0) (strict : Bool) (given : List Given) (secrets : List Secret) (old new : Errors E) → (strict ≡ false → (line : List ℕ) → IsMember (all_doubt_lines given secrets) line → IsLine line)
+    → TellsDoubts K strict given secrets old new → Tells K IsLine old new
+doubts_tell K IsLine true given secrets old new may doubts = tells_same K IsLine old new doubts.1
+doubts_tell K IsLine false given secrets old new may doubts = record { told = all_doubt_lines given secrets; are_lines = λ number d within. may refl _ (member-get_or (all_doubt_lines given secrets) number d within); written = doubts }
+
+-- it may be told, where such a line may be
+module _ {E : Type 0} (K : SinkGhosts E) (call : Call) (IsLine : List ℕ → Type 0) (may : (line : List ℕ) → IsWarningLine call line → IsLine line)
+    (load : Loaded) (left between : Option (List ℕ)) (loaded : AreLoaded (reading_by call) call.given load left between) where
+  doubts_may : (strict : Bool) → has Strict call.given ≡ strict → (old new : Errors E) → TellsDoubts K strict call.given load.secrets old new → Tells K IsLine old new
+  doubts_may strict is old new doubts = doubts_tell K IsLine strict call.given load.secrets old new (λ lax line member. may line (is ∙ lax, (load, left, between, loaded, inl member))) doubts
+
+  pub unready_may : (old new : Errors E) → (new ≡ old) ⊎ TellsDoubts K (has Strict call.given) call.given load.secrets old new → Tells K IsLine old new
+  unready_may old new (inl same) = tells_same K IsLine old new same
+  unready_may old new (inr doubts) = doubts_may (has Strict call.given) refl old new doubts
+
+  -- and so may what is told of pieces
+  pieces_may : (old new : Errors E) → TellsOfPieces K (has Strict call.given) (redactor_by_given call.given load) old new → Tells K IsLine old new
+  pieces_may old new (None, judged, same) = tells_same K IsLine old new same
+  pieces_may old new (Some unclean, judged, (lax, told)) =
+      tells_line K IsLine old new (unclean_line unclean) (may (unclean_line unclean) (lax, (load, left, between, loaded, inr (unclean, judged.0, judged.1, refl)))) told
+
+  -- one after the other
+  pub warnings_may : (old new : Errors E) → WarnsLoaded K call load old new → Tells K IsLine old new
+  warnings_may old new (mid, doubts, pieces) = tells_both K IsLine old mid new (doubts_may (has Strict call.given) refl old mid doubts) (pieces_may mid new pieces)
+
+-- why nothing is ready may end a call, and where it is a piece it is to be refused
+module _ (call : Call) (load : Loaded) (left between : Option (List ℕ)) (loaded : AreLoaded (reading_by call) call.given load left between) where
+  pub may_prepare : (fails : Type 0) (failure : Failure) → CannotPrepare call.given load failure → MayFail call fails failure
+  may_prepare fails failure (inl doubted) = inr (inr (inr (inr (inr (inr (load, left, between, loaded, doubted))))))
+  may_prepare fails failure (inr (inl strict)) = inr (inr (inr (inl (load, left, between, loaded, strict))))
+  may_prepare fails failure (inr (inr (inl refused))) = inr (inr (inr (inr (inl (load, left, between, loaded, refused)))))
+  may_prepare fails failure (inr (inr (inr memory))) = may_fail call fails failure (inl memory)

@@ -15,11 +15,8 @@ none_both [] ys first second both is_first is_second is = is ∙ ap (λ (b : Boo
 none_both (x ∷ xs) ys first second both is_first is_second is = is ∙ ap (λ (b : Bool). b && second) is_first
 
 -- both are so
-pub both_so : (first second both : Bool) → both ≡ first && second → both ≡ true → (first ≡ true) × (second ≡ true)
-both_so first second both is so = and_parts first second (sym is ∙ so)
-
 pub all_so : {X : Type 0} (whole all : Bool) (result : Result Bool X) → result ≡ Ok (whole && all) → result ≡ Ok true → (whole ≡ true) × (all ≡ true)
-all_so whole all result is so = both_so whole all (whole && all) refl (cc)
+all_so whole all result is so = and_parts whole all (cc)
 
 some_none : (line : List ℕ) (rest : List (List ℕ)) → (line ∷ []) ++ rest ≡ [] → ⊥
 some_none line rest is = cc

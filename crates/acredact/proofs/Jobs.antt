@@ -10,9 +10,8 @@ use Rattle.acredact.specs.Deeds.{WholeText}
 use Rattle.acredact.specs.Faults.{IsOutputEnd}
 use Rattle.acredact.specs.Files.{AreCut, BeginsWriting, ComesOfReading, ComesOfFile, Does, FailsByOutput, NearsText, Task, WritesText}
 use Rattle.acredact.specs.Volumes.{AddsBytes, files_with}
-use Rattle.acredact.proofs.Bounded.{grow_none, numbers_more}
+use Rattle.acredact.proofs.Totals.{grow_none, numbers_more, volume_more}
 use Rattle.acredact.proofs.Done.{all_so, concat_both, none_both}
-use Rattle.acredact.proofs.Metering.{volume_more}
 use Rattle.acredact.proofs.OneFile.{IsFileRead}
 use Rattle.acredact.proofs.Turns.{all_joined, also}
 

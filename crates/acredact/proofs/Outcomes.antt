@@ -1,44 +1,53 @@
 -- What comes of a call by what comes of its files, and what its exit status says.
-use Rattle.acredact.proofs.Common.{Errors, Failure, SinkGhosts, Tells}
-use Rattle.std.proofs.Common.{◌≡◌, ℕ, List, true, false, refl, sym, subst, arith}
+use Rattle.acredact.proofs.Common.{Errors, Failure, SinkGhosts, Tells, TellsSome}
+use Rattle.std.proofs.Common.{◌≡◌, ℕ, List, true, false, refl, sym, arith}
 use Rattle.std.specs.Prelude.{Bool, Result, Ok, Err, IfErr, IfOk, OnOk}
-use Rattle.acredact.specs.Calls.{IsUnreadLine, TellsOfFiles}
+use Rattle.acredact.specs.Calls.{TellsUnlessAll}
 use Rattle.acredact.specs.Failures.{EndsCall, IsFailureLine}
 use Rattle.acredact.specs.Outcomes.{ComesOf, EndSays}
-use Rattle.acredact.proofs.Calls.{some_behind, some_then, some_weaker, tells_both, tells_last}
-use Rattle.acredact.proofs.RuledFiles.{told_any, told_as}
+use Rattle.acredact.proofs.Calls.{some_behind, some_then, some_weaker, tells_both, tells_last, some_all, tells_same}
+use Rattle.acredact.proofs.Turns.{told_by}
 
--- files were redacted, behind what was told before, and then the counts were told, or they were not
-module _ {E : Type 0} (X : Type 0) (K : SinkGhosts E) (IsTold : List ℕ → Type 0) (names : List (List ℕ)) (all : Bool) (first old mid new : Errors E)
-    (before : Tells K IsTold first old) (may : (line : List ℕ) → IsUnreadLine names line → IsTold line) (told : TellsOfFiles {X = X} K names (Ok all) old mid) (later : Tells K IsTold mid new) where
+module _ {E : Type 0} {K : SinkGhosts E} {IsTold : List ℕ → Type 0} {V : Type 0} {all : V → Bool} {Whole : V → Type 0} {Partly Begun Notes : Type 0} {MayEnd : Failure → Type 0} where
+  -- a call ended early, as it may
+  pub comes_early : {failure : Failure} {old new : Errors E} → Begun → Tells K IsTold old new → MayEnd failure → ComesOf K IsTold all Whole Partly Begun Notes MayEnd (Err failure) old new
+  comes_early begun told may = record { whole = tt; begun = begun; told = told; partly = tt; notes = tt; fails = may }
+
+  -- and nothing was told
+  pub comes_untold : {failure : Failure} {errors : Errors E} → Begun → MayEnd failure → ComesOf K IsTold all Whole Partly Begun Notes MayEnd (Err failure) errors errors
+  comes_untold {errors = errors} begun may = comes_early begun (tells_same K IsTold errors errors refl) may
+
+-- files were come to, behind what was told before, and then the counts were told, or they were not
+module _ {E : Type 0} (X : Type 0) (K : SinkGhosts E) (IsTold IsLine : List ℕ → Type 0) (all : Bool) (first old mid new : Errors E)
+    (before : Tells K IsTold first old) (may : (line : List ℕ) → IsLine line → IsTold line) (told : TellsUnlessAll {X = X} K IsLine (Ok all) old mid) (later : Tells K IsTold mid new) where
   all_told : Tells K IsTold first new
-  all_told = tells_both K IsTold first old new before (tells_both K IsTold old mid new (told_any {X = X} K names IsTold (Ok all) old mid may told) later)
+  all_told = tells_both K IsTold first old new before (tells_both K IsTold old mid new (told_by {X = X} K IsLine IsTold (Ok all) old mid may told) later)
 
   pub files_then : {Whole : Bool → Type 0} {Begun Notes : Type 0} {MayEnd : Failure → Type 0} → Begun → (result : Result Bool Failure) → IfOk result (λ done. done ≡ all) → IfErr result MayEnd → (all ≡ true → OnOk result (Whole true × Notes))
-      → ComesOf K IsTold (λ all. all) Whole Begun Notes MayEnd result first new
+      → ComesOf K IsTold (λ all. all) Whole (TellsSome K IsTold first new) Begun Notes MayEnd result first new
   files_then begun (Ok true) same fails whole =
       record { whole = λ is. (whole (sym same)).0; begun = begun; told = all_told; partly = λ (is : true ≡ false). absurd (cc); notes = λ is. (whole (sym same)).1; fails = tt }
   files_then begun (Ok false) same fails whole = record {
     whole = λ (is : false ≡ true). absurd (cc);
     begun = begun;
     told = all_told;
-    partly = λ is. some_behind K IsTold first old new before
-        (some_then K IsTold old mid new (some_weaker K (IsUnreadLine names) IsTold old mid may (told_as X K names all false old mid (sym same) told)) later);
+    partly = λ is. some_behind K IsTold first old new before (some_then K IsTold old mid new (some_weaker K IsLine IsTold old mid may (rw (sym same) at told)) later);
     notes = λ (is : false ≡ true). absurd (cc);
     fails = tt;
   }
-  files_then begun (Err failure) same fails whole = record { whole = tt; begun = begun; told = all_told; partly = tt; notes = tt; fails = fails }
+  files_then begun (Err failure) same fails whole = comes_early begun all_told fails
 
 -- the status says what came of the call, where it was told why it ended early, if it did
 module _ {E : Type 0} (K : SinkGhosts E) (IsTold : List ℕ → Type 0) {Whole : Bool → Type 0} {Begun Notes : Type 0} {MayEnd : Failure → Type 0} (Done : Errors E → Type 0) (status : ℕ) (old mid new : Errors E)
     (may : (failure : Failure) (line : List ℕ) → MayEnd failure → IsFailureLine failure line → IsTold line) (done : Whole true → Notes → Done mid) where
-  pub status_says : (result : Result Bool Failure) → EndsCall K result status mid new → ComesOf K IsTold (λ all. all) Whole Begun Notes MayEnd result old mid → EndSays K IsTold (Done new) Begun status old new
+  pub status_says : (result : Result Bool Failure) → EndsCall K result status mid new → ComesOf K IsTold (λ all. all) Whole (TellsSome K IsTold old mid) Begun Notes MayEnd result old mid → EndSays K IsTold (Done new) Begun status old new
   status_says (Ok true) (is, same) of =
-      record { done = λ zero. subst Done (sym same) (done (of.whole refl) (of.notes refl)); begun = of.begun; tells = λ two. absurd (omega (arith, is, two)) }
+      rw same (record { done = λ zero. done (of.whole refl) (of.notes refl); begun = of.begun; told = of.told; tells = λ two. absurd (omega (arith, is, two)) })
   status_says (Ok false) (is, same) of =
-      rw same (record { done = λ zero. absurd (omega (arith, is, zero)); begun = of.begun; tells = λ two. of.partly refl })
+      rw same (record { done = λ zero. absurd (omega (arith, is, zero)); begun = of.begun; told = of.told; tells = λ two. of.partly refl })
   status_says (Err failure) (is, (line, is_line, told)) of =
-      record { done = λ zero. absurd (omega (arith, is, zero)); begun = of.begun; tells = λ two. tells_last K IsTold old mid new line of.told (may failure line of.fails is_line) told }
+      let some = tells_last K IsTold old mid new line of.told (may failure line of.fails is_line) told in
+      record { done = λ zero. absurd (omega (arith, is, zero)); begun = of.begun; told = some_all K IsTold IsTold old new (λ line is. is) some; tells = λ two. some }
 
 -- a call that ends with status 0 came to its end
 pub ended_well : {E : Type 0} (K : SinkGhosts E) {P : Type 0} (result : Result Bool Failure) (status : ℕ) (mid new : Errors E) → EndsCall K result status mid new → OnOk result P → status ≡ 0 → P

@@ -14,7 +14,7 @@ use Rattle.acredact.specs.Failures.{IsFailureLine}
 use Rattle.acredact.specs.Forms.{forms_asked}
 use Rattle.acredact.specs.Files.{AreCut, AreFree, AreRedacted, Work, task_of, unread_line}
 use Rattle.acredact.specs.Hidden.{AreHidden}
-use Rattle.acredact.specs.Loading.{AreGiven, AreLoaded, CannotLoadAll, CannotLoadKey, CannotLoadOne, IsKeyGiven, Loaded, Reading, Rules, loaded_in, loaded_of, secrets_by}
+use Rattle.acredact.specs.Loading.{AreGiven, AreLoaded, CannotLoadAll, CannotLoadKey, IsKeyGiven, Loaded, Reading, Rules, loaded_in, loaded_of, secrets_by}
 use Rattle.acredact.specs.Messages.{output_line, unclean_line}
 use Rattle.acredact.specs.Outcomes.{ComesOf}
 use Rattle.acredact.specs.Pieces.{IsUncleanBy}
@@ -156,7 +156,7 @@ module _ {F X : Type 0} (D : Folders F X) (folder : F) (items : List Item) where
 abbrev pub MayFail : Call → (fails : Type 0) → Failure → Type 0
 MayFail call fails failure =
     ((failure ≡ Arguments NoRoom) ⊎ ((failure ≡ Arguments NoPattern) × GivesNoPattern call.given))
-    ⊎ ((CannotLoadOne (reading_by call) call.given failure ⊎ CannotLoadKey (reading_by call) call.given failure)
+    ⊎ (CannotLoadCall call failure
     ⊎ (((failure ≡ Counts) × (counts_asked call.given ≡ true))
     ⊎ (IsOfLoaded call (λ load. IsStrictFailure (has Strict call.given) (redactor_by_given call.given load) failure)
     ⊎ (IsOfLoaded call (λ load. IsBuildRefusal (patterns_by_given call.given (patterns_in load.secrets)) failure)
@@ -211,14 +211,13 @@ pub record AreBounded (holds : List ℕ → Option (List ℕ)) (names : List (Li
   pub bytes : volume.bytes ≤ size
   pub files : volume.files ≤ length names
 
--- what may be told of a call: a piece that is not clean, a file that is not read to its end, why it ends early, and the counts where
+-- what may be told of a call: a file that is not read to its end, a piece that is not clean, why it ends early, and the counts where
 -- they are asked for
 abbrev pub IsLineOf : Call → (fails : Type 0) → List ℕ → Type 0
 IsLineOf call fails line =
-    IsUnreadLine (names_asked call.given) line
+    IsWordLine call line
     ⊎ (((failure : Failure) × MayFail call fails failure × IsFailureLine failure line)
-    ⊎ (IsOfLoaded call (λ load. IsCountsLine call.given load.secrets line)
-    ⊎ IsWarningLine call line))
+    ⊎ IsOfLoaded call (λ load. IsCountsLine call.given load.secrets line))
 
 -- what is told of wrong arguments
 abbrev pub IsWrongFailure : List (List ℕ) → Failure → Type 0
@@ -341,7 +340,7 @@ module _ {W : Type 0} (Writes : Writers W) where
     -- what comes of a call
     pub record CallOutcome (result : Result Bool Failure) (output output' : FromWrite W) (errors errors' : Errors E) : Type 0 where
       pub comes : ComesOf K (IsLineOf call (OutputFails output output')) (λ all. all) (λ all. RedactsEach output output' errors errors')
-          (BeginsCall call left left' output output') (Unit {0}) (MayFail call (OutputFails output output')) result errors errors'
+          (TellsSome K (IsLineOf call (OutputFails output output')) errors errors') (BeginsCall call left left' output output') (Unit {0}) (MayFail call (OutputFails output output')) result errors errors'
       pub numbers : TellsAnyNumbers K call left left' errors errors'
 
 -- what holds of a call from one state of the streams to another

@@ -1,16 +1,16 @@
 -- What a check sees of files, one after another, and what it tells.
-use Rattle.acredact.specs.Common.{All, Errors, FromRead, Ghosts, IsMember, Keeps, OutOfMemory, Patterns, Readers, Reason, SinkGhosts, Tells, TellsBytes, bytes_left, concat, name_bytes}
-use Rattle.std.specs.Prelude.{◌≡◌, ◌⊎◌, ℕ, ◌<◌, ◌≤◌, ◌||◌, Bool, true, false, List, [], ◌∷◌, ◌++◌, Option, None, Result, Ok, Err, IfErr, IfOk, OnErr}
+use Rattle.acredact.specs.Common.{All, Errors, FromRead, Ghosts, IsMember, Keeps, OutOfMemory, Patterns, Readers, Reason, SinkGhosts, TellsBytes, bytes_left, concat, name_bytes}
+use Rattle.std.specs.Prelude.{◌≡◌, ◌⊎◌, ℕ, ◌<◌, ◌≤◌, ◌||◌, Bool, true, false, List, [], ◌∷◌, ◌++◌, Option, None, Result, Ok, Err, IfOk}
 use mathlib.Core.Logic.{inl}
 use Rattle.acredact.specs.Arguments.{AsksToCheck, Given, GivesNoPattern, has, words_asked, gives_pattern}
 use Rattle.acredact.specs.Builds.{patterns_by_given}
 use Rattle.acredact.specs.Calls.{Call, IsBuildRefusal, IsUnreadLine, TellsOfFiles, call_of, names_asked, reading_by}
 use Rattle.acredact.specs.Doubts.{IsDoubtFailure, TellsDoubts, all_doubt_lines}
 use Rattle.acredact.specs.Failures.{IsFailureLine}
-use Rattle.acredact.specs.Faults.{IsReadReason}
 use Rattle.acredact.specs.Files.{BeginsWriting, are_none}
-use Rattle.acredact.specs.Loading.{AreGiven, CannotLoadOne}
-use Rattle.acredact.specs.Looks.{CanLook, BeginsToTell, IsLook, Sought, all_seen, look_lines, sought, verdict_of}
+use Rattle.acredact.specs.Loading.{AreGiven, CannotLoadAll}
+use Rattle.acredact.specs.Looks.{CanLook, BeginsToTell, IsLook, IsReadLook, Sought, all_seen, look_lines, sought, verdict_of}
+use Rattle.acredact.specs.Outcomes.{ComesOf}
 use Rattle.acredact.specs.Reads.{EachName, OfName}
 use Rattle.acredact.specs.Tables.{Secret, patterns_in}
 use Rattle.acredact.specs.declared.mistakes.Mistake.TheVariants.{NoPattern, OutOfMemory as NoRoom}
@@ -19,7 +19,7 @@ use Rattle.acredact.specs.declared.failure.Failure.{Failure}
 use Rattle.acredact.specs.declared.failure.Failure.TheVariants.{Arguments, Other}
 use Rattle.acredact.specs.declared.folder.Folder.{Ghosts as Folders}
 use Rattle.acredact.specs.declared.look.Look.{Look}
-use Rattle.acredact.specs.declared.look.Look.TheVariants.{Clean, Found, Output, Unread}
+use Rattle.acredact.specs.declared.look.Look.TheVariants.{Output, Unread}
 use Rattle.acredact.specs.declared.looker.Looker.{Ghosts as Lookers}
 use Rattle.acredact.specs.declared.look.Searched.{Searched}
 use Rattle.acredact.specs.declared.look.Verdict.{Verdict}
@@ -46,12 +46,15 @@ texts_looked_for given secrets = inl (sought (patterns_by_given given (patterns_
 abbrev pub quest_by : Call → List Secret → Quest
 quest_by call secrets = quest_for call false (texts_looked_for call.given secrets)
 
--- what may be told of the file of a name: that a read fails, that the folder refuses it, or that the output goes to it
+-- a file is not opened: the folder refuses it, or the output goes to it
+abbrev pub IsNotOpened : Quest → List ℕ → Look → Type 0
+IsNotOpened quest name (Unread reason) = quest.refuses name reason
+IsNotOpened quest name Output = quest.tells ≡ true
+IsNotOpened quest name other = ⊥
+
+-- what may be found of the file of a name: what may be found of one that is opened, or that it is not opened
 abbrev pub MayBeTold : Quest → List ℕ → Look → Type 0
-MayBeTold quest name Clean = Unit {0}
-MayBeTold quest name Found = Unit {0}
-MayBeTold quest name (Unread reason) = IsReadReason reason ⊎ quest.refuses name reason
-MayBeTold quest name Output = quest.tells ≡ true
+MayBeTold quest name look = IsReadLook look ⊎ IsNotOpened quest name look
 
 -- it was found to be this
 abbrev pub IsLookOf : Quest → List ℕ → Look → (left left' held held' : Option (List ℕ)) → Type 0
@@ -100,12 +103,12 @@ IsRefusedCheck call failure = (secrets : List Secret) × (left : Option (List �
     × AreGiven (reading_by call) call.given secrets left between
     × IsBuildRefusal (patterns_by_given call.given (patterns_in secrets)) failure
 
--- why a check ends early: there is no pattern, one of the options cannot be loaded, the patterns are refused, memory runs out, or a
--- pattern of a list is refused
+-- why a check ends early: there is no pattern, one of the options cannot be loaded, memory runs out, the patterns are refused, or a
+-- pattern of a list is
 abbrev pub CheckFails : Call → Failure → Type 0
 CheckFails call failure =
     ((failure ≡ Arguments NoRoom) ⊎ ((failure ≡ Arguments NoPattern) × GivesNoPattern call.given))
-    ⊎ (CannotLoadOne (reading_by call) call.given failure ⊎ (IsRefusedCheck call failure ⊎ ((failure ≡ Other OutOfMemory) ⊎ IsDoubtedCheck call failure)))
+    ⊎ (CannotLoadAll (reading_by call) call.given failure ⊎ (IsRefusedCheck call failure ⊎ IsDoubtedCheck call failure))
 
 -- a line that warns of a pattern of a list that was loaded, where such a one is not refused
 abbrev pub WarnsOfList : Call → List ℕ → Type 0
@@ -145,19 +148,18 @@ module _ {E : Type 0} (K : SinkGhosts E) where
     pub begun : EachName (BeginsLook quest) names left left' held held'
     pub told : TellsOfFiles K names (all_seen result) errors errors'
 
-  -- what comes of a check
-  pub record CheckOutcome (call : Call) (result : Result Verdict Failure) (left left' : Option (List ℕ)) (errors errors' : Errors E) : Type 0 where
-    pub seen : IfOk result (λ verdict. (lines : List (List ℕ)) × (verdict.all ≡ are_none lines) × LooksBehind call verdict.found lines left left' errors errors')
-    pub quiet : IfOk result (λ verdict. verdict.all ≡ true → TellsListsAlone call left errors errors')
-    pub told : OnErr result (Tells K (IsCheckLine call) errors errors')
-    pub fails : IfErr result (CheckFails call)
-
   -- each file was looked at, and each that cannot be read is told: there is one
   pub record TellsUnread (call : Call) (left left' : Option (List ℕ)) (errors errors' : Errors E) : Type 0 where
     pub found : Bool
     pub lines : List (List ℕ)
     pub some : are_none lines ≡ false
     pub seen : LooksBehind call found lines left left' errors errors'
+
+  -- what comes of a check
+  abbrev pub CheckOutcome : Call → Result Verdict Failure → (left left' : Option (List ℕ)) → (errors errors' : Errors E) → Type 0
+  CheckOutcome call result left left' errors errors' =
+      ComesOf K (IsCheckLine call) (λ verdict. verdict.all) (λ verdict. SeesCall call verdict.found [] left left') (TellsUnread call left left' errors errors')
+      (Unit {0}) (TellsListsAlone call left errors errors') (CheckFails call) result errors errors'
 
   -- it is told why the check ends early, behind what was told of patterns of lists and of files
   pub record TellsCheckEnd (call : Call) (errors errors' : Errors E) : Type 0 where

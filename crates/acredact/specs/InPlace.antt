@@ -2,13 +2,14 @@
 -- its place where all was done.
 use Rattle.acredact.specs.Common.{Errors, FromWrite, OutOfMemory, Patterns, Readers, Reason, SinkGhosts, StreamError, Tells, TellsBytes, TellsSome, Writers, bytes_left, is_input, output_bytes}
 use Rattle.std.specs.declared.alloc.AllocError.{AllocError}
-use Rattle.std.specs.Prelude.{◌≡◌, ◌⊎◌, ℕ, Bool, true, false, List, [], ◌∷◌, IfSome, Option, Result, Ok, Err, OnOk}
+use Rattle.std.specs.Prelude.{◌≡◌, ◌⊎◌, ℕ, Bool, true, false, List, [], ◌∷◌, IfSome, Option, Result, Ok, OnOk}
 use Rattle.tool_parts.specs.Names.{IsOneOf}
 use Rattle.acredact.specs.Arguments.{Given}
 use Rattle.acredact.specs.Calls.{Call, DoneCall, IsLineOf, LoadsCall, MayFail, OutputFails, RedactsWhole, TellsUnlessAll, WarnsAndCounts, call_of, names_asked, work_by}
 use Rattle.acredact.specs.Failures.{IsFailureLine}
 use Rattle.acredact.specs.Files.{AreFree, AreRedacted, Work, redactor_of, unread_line, work_of}
 use Rattle.acredact.specs.Messages.{no_file_line, no_output_line, output_line}
+use Rattle.acredact.specs.Outcomes.{ComesOf, EndSays}
 use Rattle.acredact.specs.Ruled.{IsRuledTold, NotesAsked, RuledAsked}
 use Rattle.acredact.specs.Totals.{CountsOfName, CountsOfNames}
 use Rattle.acredact.specs.Volumes.{ReadsVolume}
@@ -172,18 +173,12 @@ module _ {O Z E : Type 0} (Writes : Writers Z) (K : SinkGhosts E) (U : Places O 
       (LoadsCall call left (λ load between. (after : Option (List ℕ)) × WarnsAndCounts K call load between after errors errors'))
       errors errors'
 
-  -- what comes of a call: that, or each file was replaced or spared, or a failure ended it
-  abbrev pub ComesOfCall : Result Bool Failure → (outputs outputs' : O) → (errors errors' : Errors E) → Type 0
-  ComesOfCall (Ok true) outputs outputs' errors errors' = PlacesEach outputs outputs' errors errors'
-  ComesOfCall (Ok false) outputs outputs' errors errors' =
-      ReachesCall Writes U call left outputs outputs' × TellsSome K (IsPlaceLine call) errors errors'
-  ComesOfCall (Err failure) outputs outputs' errors errors' =
-      EndsPlaces Writes U call left outputs outputs' failure × Tells K (IsPlaceLine call) errors errors'
-
-  -- each file was replaced by its whole redaction, or is as it was
+  -- what comes of a call: that, or it is told which files were spared, or a failure ended it; whatever it is, each file was replaced by its
+  -- whole redaction, or is as it was
   pub record CalledPlaces (result : Result Bool Failure) (outputs outputs' : O) (errors errors' : Errors E) : Type 0 where
-    pub comes : ComesOfCall result outputs outputs' errors errors'
-    pub keeps : KeepsCall Writes U call left outputs outputs'
+    pub comes : ComesOf K (IsPlaceLine call) (λ all. all) (λ all. PlacesEach outputs outputs' errors errors') (TellsSome K (IsPlaceLine call) errors errors')
+        (KeepsCall Writes U call left outputs outputs') (Unit {0}) (EndsPlaces Writes U call left outputs outputs') result errors errors'
+    pub reaches : OnOk result (ReachesCall Writes U call left outputs outputs')
 
   -- a failure ended it, which is told last
   pub record TellsEnd (outputs outputs' : O) (errors errors' : Errors E) : Type 0 where
@@ -197,13 +192,12 @@ module _ {O Z E : Type 0} (Writes : Writers Z) (K : SinkGhosts E) (U : Places O 
 
   -- what its exit status says
   pub record PlacesStatus (status : ℕ) (outputs outputs' : O) (errors errors' : Errors E) : Type 0 where
-    -- where it is 0, each file was replaced, and nothing is told but of pieces, and counts
-    pub replaces : status ≡ 0 → PlacesEach outputs outputs' errors errors'
-    -- whatever it is, each file was replaced by its whole redaction, or is as it was
-    pub keeps : KeepsCall Writes U call left outputs outputs'
-    -- else lines say why, and each file was come to, but where the call ended
-    pub tells : (status ≡ 0 → ⊥) → TellsSome K (IsPlaceLine call) errors errors'
-    pub reaches : (status ≡ 0 → ⊥) → ReachesCall Writes U call left outputs outputs' ⊎ TellsEnd outputs outputs' errors errors'
+    pub bound : (status ≡ 0) ⊎ (status ≡ 2)
+    -- where it is 0, each file was replaced, and nothing is told but of pieces, and counts; else lines say why. Whatever it is, each file
+    -- was replaced by its whole redaction, or is as it was
+    pub says : EndSays K (IsPlaceLine call) (PlacesEach outputs outputs' errors errors') (KeepsCall Writes U call left outputs outputs') status errors errors'
+    -- and each file was come to, but where the call ended
+    pub reaches : ReachesCall Writes U call left outputs outputs' ⊎ TellsEnd outputs outputs' errors errors'
 
 module _ {F X O Z E R : Type 0} {Reads : Readers R} (Writes : Writers Z) (K : SinkGhosts E) (D : Folders F X) (U : Places O Z) (folder : F) where
   -- what the status says of the call that asks for this

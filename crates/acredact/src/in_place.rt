@@ -13,7 +13,7 @@ ghost use Rattle.acredact.specs.InPlace.{CalledPlaces, IsSettled, PlaceOutcome, 
 
 use crate::arguments::items;
 use crate::counts::counts_of;
-use crate::failure::{FAILED, Failure, report, tell_no_file, tell_unread};
+use crate::failure::{Failure, report, report_end, tell_no_file, tell_unread};
 use crate::files::{Job, both, is_input};
 use crate::folder::Folder;
 use crate::mistakes::Mistake;
@@ -57,11 +57,8 @@ pub fn replace_in_place<F: Folder, O: Outputs, I: Read, E: Sink>(
         Ok(given) => given,
         Err(mistake) => return report(&Failure::Arguments(mistake), &mut streams.errors),
     };
-    match load_places(alloc, given.as_slice(), folder, outputs, streams) {
-        Ok(true) => 0,
-        Ok(false) => FAILED,
-        Err(failure) => report(&failure, &mut streams.errors),
-    }
+    let done = load_places(alloc, given.as_slice(), folder, outputs, streams);
+    report_end(done, &mut streams.errors)
 }
 
 /// Loads all patterns, replaces each file by them, tells the counts where they are asked for, and answers whether all were replaced.

@@ -9,7 +9,7 @@ use crate::files::is_input;
 use crate::folder::Folder;
 use crate::in_place::settle;
 use crate::outputs::Outputs;
-use crate::run::run;
+use crate::run::answer_to;
 use crate::streams::Streams;
 use chromesquid::{FromWrite, Sink};
 use std::alloc::Global;
@@ -45,7 +45,7 @@ pub fn make_and_run<F: Folder, O: Outputs, I: Read, E: Sink>(
     match outputs.make(name) {
         Ok(file) => {
             streams.output = FromWrite::new(file);
-            let status = run(alloc, arguments, folder, streams);
+            let status = answer_to(alloc, arguments, folder, streams);
             if settle(outputs, name, Ok(status == 0), streams) {
                 0
             } else {

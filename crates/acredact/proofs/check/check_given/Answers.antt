@@ -7,7 +7,7 @@ use Rattle.acredact.specs.Calls.{call_of}
 use Rattle.acredact.specs.Checks.{texts_looked_for}
 use Rattle.acredact.specs.Tables.{secrets_of}
 use Rattle.acredact.proofs.Calls.{tells_same}
-use Rattle.acredact.proofs.Checks.{check_load_fails, check_refused, check_seen, check_unseen}
+use Rattle.acredact.proofs.Checks.{check_refused, check_seen, check_unseen}
 use Rattle.acredact.proofs.Ready.{given_some, ready_looks}
 use Rattle.acredact.proofs.check.check_given.Goals as goal
 
@@ -18,15 +18,14 @@ returns-then-not-gives_pattern-clause-outcome g c =
 
 pub returns-in-Err-clause-outcome : goal.returns-in-Err-clause-outcome
 returns-in-Err-clause-outcome g c =
-    check_refused g.E.Sink (call_of g.F.Folder c.args.folder.now (all_given c.args.given.now)) _ _ c.args.errors.now c.in-Err.failure
-    (check_load_fails (call_of g.F.Folder c.args.folder.now (all_given c.args.given.now)) c.in-Err.failure c.in-Err.ensures.fails)
+    check_refused g.E.Sink (call_of g.F.Folder c.args.folder.now (all_given c.args.given.now)) _ _ c.args.errors.now c.in-Err.failure (inr (inl c.in-Err.ensures.fails))
 
 pub returns-in-Err-warn_of_lists-clause-outcome : goal.returns-in-Err-warn_of_lists-clause-outcome
 returns-in-Err-warn_of_lists-clause-outcome g c =
     let given = all_given c.args.given.now in
     let doubted = rw (c.as_slice-rules.ensures.value, c.has-strict.ensures.has) at c.in-Err-warn_of_lists.ensures.refused in
     rw c.in-Err-warn_of_lists.ensures.untold
-    (check_refused g.E.Sink (call_of g.F.Folder c.args.folder.now given) _ _ c.args.errors.now c.in-Err-warn_of_lists.failure (inr (inr (inr (inr (secrets_of c.in-Ok.rules.items, _, _, c.in-Ok.ensures.given, doubted))))))
+    (check_refused g.E.Sink (call_of g.F.Folder c.args.folder.now given) _ _ c.args.errors.now c.in-Err-warn_of_lists.failure (inr (inr (inr (secrets_of c.in-Ok.rules.items, _, _, c.in-Ok.ensures.given, doubted)))))
 
 pub returns-in-Err-ready_of-clause-outcome : goal.returns-in-Err-ready_of-clause-outcome
 returns-in-Err-ready_of-clause-outcome g c =

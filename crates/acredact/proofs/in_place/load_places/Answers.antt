@@ -3,21 +3,20 @@ use Rattle.acredact.proofs.Common.{Other, OutOfMemory}
 use Rattle.std.proofs.Common.{rules, ◌≡◌, ◌∙◌, ap, inl, inr, refl}
 use Rattle.std.specs.Prelude.{Bool, Err, Ok}
 use Rattle.acredact.specs.Arguments.{all_given, counts_asked}
-use Rattle.acredact.specs.Calls.{call_of}
 use Rattle.acredact.specs.Counts.{zeros}
 use Rattle.acredact.specs.Files.{Work}
 use Rattle.acredact.specs.InPlace.{PlacesOutcome}
 use Rattle.acredact.specs.Loading.{key_in, loaded_in}
 use Rattle.acredact.specs.Summaries.{no_volume}
-use Rattle.acredact.proofs.Calls.{job_does, load_fails, passed_on, tells_weaker}
-use Rattle.acredact.proofs.PlacedCalls.{places_cut, places_refused, places_told, places_uncounted, places_unready}
+use Rattle.acredact.proofs.Calls.{job_does, passed_on}
+use Rattle.acredact.proofs.RedactedCalls.{places_cut, places_refused, places_told, places_uncounted, places_unready}
 use Rattle.acredact.proofs.in_place.load_places.Goals as goal
 
 pub returns-then-not-gives_pattern : goal.returns-then-not-gives_pattern
 returns-then-not-gives_pattern g c = record { outcome = places_refused (inl (inr (refl, search rules))) }
 
 pub returns-in-Err : goal.returns-in-Err
-returns-in-Err g c = record { outcome = places_refused (load_fails (call_of g.F.Folder c.args.folder.now (all_given c.args.given.now)) ⊥ c.in-Err.failure c.in-Err.ensures.fails) }
+returns-in-Err g c = record { outcome = places_refused (inr (inl c.in-Err.ensures.fails)) }
 
 pub returns-in-Err-prepare : goal.returns-in-Err-prepare
 returns-in-Err-prepare g c = record { outcome = places_unready c.in-Ok.ensures.loaded c.in-Err-prepare.ensures.fails c.in-Err-prepare.ensures.untold }
@@ -50,6 +49,5 @@ returns g c =
     record {
       outcome =
           places_told items (key_in c.in-Ok.secrets.key) _ _ c.in-Ok.ensures.loaded c.in-Ok-prepare.ensures.told (rw none at run) c.tell_counted.result
-          c.tell_counted.ensures.all (rw value at c.tell_counted.ensures.told) c.tell_counted.ensures.fails
-          (tells_weaker g.E.Sink _ _ _ _ (λ line is. (is.0, _, _, is.1)) (rw value at c.tell_counted.ensures.lines));
+          c.tell_counted.ensures.all (rw value at c.tell_counted.ensures.told) c.tell_counted.ensures.fails (rw value at c.tell_counted.ensures.lines);
     }

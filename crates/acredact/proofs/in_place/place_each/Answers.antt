@@ -3,7 +3,7 @@ use Rattle.acredact.proofs.Common.{name_bytes}
 use Rattle.std.proofs.Common.{arith, rules, ◌≡◌}
 use Rattle.std.specs.Prelude.{Err}
 use Rattle.std.proofs.lemmas.List.{at_drop_all, at_drop_more}
-use Rattle.acredact.proofs.PlacedCalls.{place_ends, places_more, places_none}
+use Rattle.acredact.proofs.RedactedCalls.{place_ends, places_more, places_none}
 use Rattle.acredact.proofs.Turns.{turn_end, turn_fails, turn_next}
 use Rattle.acredact.proofs.in_place.place_each.Goals as goal
 

@@ -1,21 +1,18 @@
 -- A new file is made, filled, and takes the place; or the file stays as it was.
-use Rattle.acredact.proofs.Common.{bytes_left, is_input}
-use Rattle.std.proofs.Common.{rules, ◌≡◌, [], ◌∷◌, inl, inr, refl, true, false}
+use Rattle.acredact.proofs.Common.{bytes_left}
+use Rattle.std.proofs.Common.{rules, [], ◌∷◌, inl, inr, refl}
 use Rattle.acredact.specs.InPlace.{IsSparedLine, work_for}
-use Rattle.acredact.proofs.PlacedCalls.{place_cut, place_settled, place_spared, spared_one}
-use Rattle.acredact.proofs.RedactedCalls.{all_redacted, files_told}
-use Rattle.acredact.proofs.RuledFiles.{told_any}
+use Rattle.acredact.proofs.RedactedCalls.{all_redacted, files_told, place_cut, place_settled, place_spared, spared_one}
+use Rattle.acredact.proofs.Turns.{told_any}
 use Rattle.acredact.proofs.Statuses.{tells_one}
 use Rattle.acredact.proofs.Totals.{one_counts}
 use Rattle.acredact.proofs.in_place.place_one.Goals as goal
 
 pub returns-then-is_input : goal.returns-then-is_input
-returns-then-is_input g c =
-    let named : is_input c.args.name.now ≡ true = search rules in
-    record {
-      outcome = λ p of.
-          place_spared (inl (named, refl)) (tells_one g.E.Sink (IsSparedLine c.args.name.now) _ _ _ (inr (inr (named, refl))) c.tell_no_file.ensures.told);
-    }
+returns-then-is_input g c = record {
+  outcome = λ p of.
+      place_spared (inl (search rules, refl)) (tells_one g.E.Sink (IsSparedLine c.args.name.now) _ _ _ (inr (inr (search rules, refl))) c.tell_no_file.ensures.told);
+}
 
 pub returns-in-Err : goal.returns-in-Err
 returns-in-Err g c = record {
@@ -32,7 +29,6 @@ returns-then-matches g c = record {
 
 pub returns-else-matches : goal.returns-else-matches
 returns-else-matches g c =
-    let named : is_input c.args.name.now ≡ false = search rules in
     let run = c.redact_by-done in
     record {
       outcome = λ p of.
@@ -43,7 +39,7 @@ returns-else-matches g c =
             (
               run.new.streams.output,
               record {
-                named = named;
+                named = search rules;
                 file = c.new.result;
                 meanwhile = c.make.new.self;
                 made = rw c.new.ensures.writer c.in-Ok.ensures.made;

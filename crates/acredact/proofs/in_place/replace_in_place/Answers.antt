@@ -1,12 +1,12 @@
 -- The arguments are right or wrong, and then the status is that of the call.
 use Rattle.acredact.proofs.Common.{texts}
-use Rattle.std.proofs.Common.{rules, ◌≡◌, inl, ap, refl, ◌∙◌, arith, false, true}
-use Rattle.std.specs.Prelude.{Ok}
+use Rattle.std.proofs.Common.{inl, inr, ap, refl, ◌∙◌, arith}
+use Rattle.std.specs.Prelude.{Err}
 use Rattle.acredact.specs.Arguments.{all_given}
 use Rattle.acredact.specs.Calls.{IsWrongLine}
 use Rattle.acredact.specs.declared.failure.Failure.TheVariants.{Arguments}
 use Rattle.acredact.proofs.Given.{memory_alone, same_given}
-use Rattle.acredact.proofs.PlacedCalls.{places_failed, places_partly, places_refused, places_zero}
+use Rattle.acredact.proofs.RedactedCalls.{places_status, places_refused}
 use Rattle.acredact.proofs.Statuses.{tells_one}
 use Rattle.acredact.proofs.in_place.replace_in_place.Goals as goal
 
@@ -21,26 +21,11 @@ returns-in-Err g c =
       says = λ given right asks.
           let memory = ap Arguments (memory_alone (texts c.args.arguments.now) given c.in-Err.mistake right c.in-Err.ensures.wrong) in
           rw c.report.ensures.failed
-          (places_failed (places_refused {failure = failure} (inl (inl memory))) _ told.0 told.1 told.2);
+          (places_status (Err failure) 2 (refl, told) (inr refl) (places_refused {failure = failure} (inl (inl memory))));
       bound = omega (arith, c.report.ensures.failed);
     }
-
-pub returns-in-Ok-true-clause-says : goal.returns-in-Ok-true-clause-says
-returns-in-Ok-true-clause-says g c = λ given right asks.
-    let same = ap all_given c.as_slice.ensures.value ∙ same_given _ given _ right c.in-Ok.ensures.given in
-    let whole : c.load_places.result ≡ Ok true = search rules in
-    rw same at (places_zero (rw whole at c.load_places.ensures.outcome))
-
-pub returns-in-Ok-false-clause-says : goal.returns-in-Ok-false-clause-says
-returns-in-Ok-false-clause-says g c = λ given right asks.
-    let same = ap all_given c.as_slice.ensures.value ∙ same_given _ given _ right c.in-Ok.ensures.given in
-    let partly : c.load_places.result ≡ Ok false = search rules in
-    rw same at (places_partly (rw partly at c.load_places.ensures.outcome))
 
 pub returns-clause-says : goal.returns-clause-says
 returns-clause-says g c = λ given right asks.
     let same = ap all_given c.as_slice.ensures.value ∙ same_given _ given _ right c.in-Ok.ensures.given in
-    let told = c.report-in-Err-load_places.ensures.told in
-    rw c.report-in-Err-load_places.ensures.failed
-    (rw same at
-    (places_failed c.in-Err-load_places.ensures.outcome _ told.0 told.1 told.2))
+    rw same at (places_status c.load_places-done.result c.report_end.result c.report_end.ensures.ends c.report_end.ensures.bound c.load_places-done.ensures.outcome)

@@ -3,18 +3,14 @@ use Rattle.acredact.proofs.Common.{Other, OutOfMemory, bytes_left, failure_of_st
 use Rattle.std.proofs.Common.{rules, ◌≡◌, ◌∙◌, ap, false, inl, inr, refl}
 use Rattle.std.specs.Prelude.{Bool, Err, Ok}
 use Rattle.acredact.specs.Arguments.{all_given, counts_asked, gives_pattern}
-use Rattle.acredact.specs.Bounds.{NumbersOfAll}
-use Rattle.acredact.specs.Calls.{call_of, names_asked}
+use Rattle.acredact.specs.Back.{DoesJob}
+use Rattle.acredact.specs.Calls.{call_of}
 use Rattle.acredact.specs.Counts.{zeros}
-use Rattle.acredact.specs.Files.{FilesOutcome, Work}
+use Rattle.acredact.specs.Files.{FilesOutcome, Work, task_of}
 use Rattle.acredact.specs.Loading.{key_in, loaded_in}
 use Rattle.acredact.specs.Summaries.{no_volume}
-use Rattle.acredact.specs.Totals.{CountsOfNames}
-use Rattle.acredact.specs.Volumes.{ReadsVolume}
-use Rattle.acredact.proofs.Calls.{call_ended, call_refused, job_does, load_fails, may_fail, passed_on}
-use Rattle.acredact.proofs.Limits.{bounded_from}
+use Rattle.acredact.proofs.Calls.{call_ended, call_refused, job_does, may_fail, passed_on, may_prepare, unready_may}
 use Rattle.acredact.proofs.RedactedCalls.{call_cut, call_told}
-use Rattle.acredact.proofs.Warned.{may_prepare, unready_may}
 use Rattle.acredact.proofs.run.redact_asked.Goals as goal
 
 pub returns-then-not-gives_pattern-clause-outcome : goal.returns-then-not-gives_pattern-clause-outcome
@@ -25,7 +21,7 @@ returns-then-not-gives_pattern-clause-outcome g c = λ asks.
 pub returns-in-Err-clause-outcome : goal.returns-in-Err-clause-outcome
 returns-in-Err-clause-outcome g c = λ asks.
     let call = call_of g.F.Folder c.args.folder.now (all_given c.args.given.now) in
-    call_refused g.W.Write g.E.Sink call _ _ c.in-Err.failure _ _ (load_fails call _ c.in-Err.failure c.in-Err.ensures.fails)
+    call_refused g.W.Write g.E.Sink call _ _ c.in-Err.failure _ _ (inr (inl c.in-Err.ensures.fails))
 
 pub returns-in-Err-prepare-clause-outcome : goal.returns-in-Err-prepare-clause-outcome
 returns-in-Err-prepare-clause-outcome g c = λ asks.
@@ -33,10 +29,7 @@ returns-in-Err-prepare-clause-outcome g c = λ asks.
     let loaded = c.in-Ok.ensures.loaded in
     let untold = c.in-Err-prepare.ensures.untold in
     call_ended g.W.Write g.E.Sink call _ _ c.in-Err-prepare.failure _ _ _ (may_prepare call (loaded_in c.in-Ok.secrets) _ _ loaded _ c.in-Err-prepare.failure c.in-Err-prepare.ensures.fails)
-    (unready_may g.E.Sink call _ (λ line is. inr (inr (inr is))) (loaded_in c.in-Ok.secrets) _ _ loaded _ _ untold) (unready_may g.E.Sink call _ (λ line is. inr is) (loaded_in c.in-Ok.secrets) _ _ loaded _ _ untold)
-
-pub redact_by-requires : goal.redact_by-requires
-redact_by-requires g c = record { ready = c.job_of-job.ensures.can c.in-Ok.ensures.some c.in-Ok-prepare.ensures.ready }
+    (unready_may g.E.Sink call _ (λ line is. inr is) (loaded_in c.in-Ok.secrets) _ _ loaded _ _ untold)
 
 pub returns-in_err-counted-clause-outcome : goal.returns-in_err-counted-clause-outcome
 returns-in_err-counted-clause-outcome g c = λ asks.
@@ -61,24 +54,12 @@ returns-clause-outcome g c = λ asks.
     let items = c.in-Ok.secrets.rules.items in
     let begun = record c.args.streams.now { input = c.load.new.input; errors = c.prepare.new.errors } in
     let value = c.as_slice-rules.ensures.value in
-    let as_asked = λ (P : Work → Type 0) (done : P _). job_does g.F.Folder c.args.folder.now call.given (loaded_in c.in-Ok.secrets) c.job_of-job.result (c.job_of-job.ensures.job c.in-Ok-prepare.ensures.ready) P done in
-    let old = bytes_left c.load.new.input in
-    let new = bytes_left c.redact_by.new.streams.input in
-    let counts = c.redact_by.new.counts in
-    let volume = c.redact_by.new.volume in
     let none : c.as_mut_slice-tally.result.now ≡ zeros (counts_asked call.given) items =
     c.as_mut_slice-tally.ensures.value ∙ c.in_ok-counted.ensures.counts ∙ ap (λ (b : Bool). zeros b c.as_slice-rules.result.now) c.counts.ensures.counts ∙ ap (zeros (counts_asked call.given)) value in
-    let does = c.in_ok-all.ensures.done _ c.in-Ok-prepare.ensures.ready.of in
-    let files = as_asked (λ w. FilesOutcome g.W.Write g.E.Sink w (Ok c.in_ok-all.all) begun c.redact_by.new.streams) does.outcome in
-    let numbers = as_asked (λ w. NumbersOfAll w.holds w.names c.as_mut_slice-tally.result.now counts no_volume volume old new) (does.most refl) in
-    call_told g.W.Write g.E.Sink call (bytes_left c.args.streams.now.input) items (key_in c.in-Ok.secrets.key) begun c.redact_by.new.streams c.in-Ok.ensures.loaded c.args.streams.now.errors c.in-Ok-prepare.ensures.told counts volume
-    c.tell_counted.new.errors c.in_ok-all.all c.tell_counted.result files
-    (λ whole. (
-      rw none at (as_asked (λ w. CountsOfNames old new c.as_mut_slice-tally.result.now counts w w.names) (does.counted (ap Ok whole))),
-      as_asked (λ w. ReadsVolume w.holds w.names no_volume volume old new) (does.read (ap Ok whole)),
-    ))
-    c.tell_counted.ensures.all (rw value at c.tell_counted.ensures.told) c.tell_counted.ensures.fails (rw value at c.tell_counted.ensures.lines)
-    (bounded_from call.holds (names_asked call.given) (counts_asked call.given) items counts volume _ _ (rw none at numbers))
+    let does = job_does g.F.Folder c.args.folder.now call.given (loaded_in c.in-Ok.secrets) c.job_of-job.result (c.job_of-job.ensures.job c.in-Ok-prepare.ensures.ready)
+    (λ (w : Work). DoesJob g.W.Write g.E.Sink (task_of w) w.names (Ok c.in_ok-all.all) begun c.redact_by.new.streams c.as_mut_slice-tally.result.now c.redact_by.new.counts no_volume c.redact_by.new.volume) (c.in_ok-all.ensures.done _ c.in-Ok-prepare.ensures.ready.of) in
+    call_told g.W.Write g.E.Sink call (bytes_left c.args.streams.now.input) items (key_in c.in-Ok.secrets.key) begun c.redact_by.new.streams c.in-Ok.ensures.loaded c.args.streams.now.errors c.in-Ok-prepare.ensures.told c.redact_by.new.counts c.redact_by.new.volume
+    c.tell_counted.new.errors c.in_ok-all.all c.tell_counted.result (rw none at does) c.tell_counted.ensures.all (rw value at c.tell_counted.ensures.told) c.tell_counted.ensures.fails (rw value at c.tell_counted.ensures.lines)
 
 pub returns-clause-flushed : goal.returns-clause-flushed
 returns-clause-flushed g c = on_ok_weaker c.tell_counted.result (λ told. (c.in_ok-all.ensures.done _ c.in-Ok-prepare.ensures.ready.of).flushed) c.tell_counted.ensures.told

@@ -1,7 +1,7 @@
 -- What the status says.
 use Rattle.acredact.proofs.Common.{texts}
 use Rattle.acredact.specs.Calls.{call_of}
-use Rattle.acredact.proofs.Given.{forms_cover, forms_unworded}
+use Rattle.acredact.proofs.Given.{forms_fit}
 use Rattle.acredact.proofs.Hiding.{call_hides}
 use Rattle.acredact.proofs.RuledCalls.{counts_by_rules}
 use Rattle.acredact.proofs.run.run.Goals as goal
@@ -19,7 +19,9 @@ returns g c =
       check_patternless = λ given right asks. ((call.says given right).checked asks).patternless;
       check_idle = λ given right asks none. record { unread = ((call.says given right).checked asks).unread none; unwritten = ((call.says given right).checked asks).unwritten };
       redacts = λ given right asks zero. (((call.says given right).redacted asks).says.done zero).all;
-      hides = λ given right asks forms zero. call_hides g.W.Write (call_of g.F.Folder c.args.folder.now given) _ _ _ _ (forms_cover (texts c.args.arguments.now) given right forms) (forms_unworded (texts c.args.arguments.now) given right forms) (((call.says given right).redacted asks).says.done zero).all;
+      hides = λ given right asks forms zero.
+          let (covers, unworded) = forms_fit (texts c.args.arguments.now) given right forms in
+          call_hides g.W.Write (call_of g.F.Folder c.args.folder.now given) _ _ _ _ covers unworded (((call.says given right).redacted asks).says.done zero).all;
       begins = λ given right asks. ((call.says given right).redacted asks).says.begun;
       strict = λ given right asks refuses zero. (((call.says given right).redacted asks).says.done zero).strict refuses;
       quiet = λ given right asks none zero. (((call.says given right).redacted asks).says.done zero).quiet none;
