@@ -1,12 +1,12 @@
 -- What comes of one file, by what comes of its stream.
-use Rattle.acredact.proofs.Common.{Appends, Consumes, Consumes-nil, FromWrite, IsAtEnd, Keeps, Keeps-refl, PositionLimit, Read, SinkGhosts, SourceGave, SourceGhosts, StreamError, counted, is_input, is_write_fault, is_write_of_nothing}
-use Rattle.std.proofs.Common.{◌≡◌, ◌≢◌, inl, ℕ, List, [], ◌∷◌, Option, true, false, refl, sym, ap, subst, ◌∙◌, append-nil, arith}
-use Rattle.std.specs.Prelude.{Bool, MatchBool, None, Some, Result, Ok, Err, IfErr, OnOk}
+use Rattle.acredact.proofs.Common.{Appends-nil, Consumes, Consumes-nil, FromWrite, IsAtEnd, Keeps, Keeps-refl, PositionLimit, Read, SinkGhosts, SourceGhosts, StreamError, counted, is_input, is_write_fault, is_write_of_nothing}
+use Rattle.std.proofs.Common.{◌≡◌, ◌≢◌, inl, ℕ, List, [], ◌∷◌, Option, true, false, refl, sym, ap, subst, ◌∙◌, arith}
+use Rattle.std.specs.Prelude.{Bool, None, Some, Result, Ok, Err, IfErr, OnOk}
 use Rattle.aho_core.specs.declared.error.stream.StreamError.TheVariants.{Match}
 use Rattle.acredact.specs.Deeds.{Deed, SomeStream, SomeText, WholeStream, WholeText}
 use Rattle.acredact.specs.Faults.{IsStreamEnd, reading_of}
-use Rattle.acredact.specs.Files.{BeginsNamed, BeginsWriting, ComesOfReading, FailsByOutput, Task}
-use Rattle.acredact.specs.Reads.{EachName, OfName, ReadsText}
+use Rattle.acredact.specs.Files.{AreCut, BeginsWriting, ComesOfReading, FailsByOutput, Task}
+use Rattle.acredact.specs.Reads.{EachName, OfName}
 use Rattle.acredact.specs.Streams.{StreamOutcome}
 
 -- what is so of a source or a sink is so of it where it was left
@@ -49,16 +49,9 @@ module _ {R : Type 0} (S : SourceGhosts R) (source source' : R) (before : Option
   reads_before : (text : List ℕ) → Consumes (S.remaining source) (S.remaining source') text → Consumes before (S.remaining source') text
   reads_before text read = subst (λ bytes. Consumes bytes (S.remaining source') text) left read
 
-  -- it is all that was left
-  pub ended_text : (text : List ℕ) → SourceGave S source source' text true → ReadsText text before (S.remaining source')
-  ended_text text gives =
-      record { read = reads_before text gives.bytes; ended = ends_by (S.empty_reads source) (S.empty_reads source') true none ends gives.end refl }
-
-  -- or some of it
-  pub begun_writing : {Begins : List ℕ → Bool → List ℕ → Type 0} (held held' : Option (List ℕ)) (given : List ℕ) (ended : Bool) (part : List ℕ) → SourceGave S source source' given ended → Begins given ended part
-      → Appends held held' part → BeginsWriting Begins before (S.remaining source') held held'
-  begun_writing held held' given ended part gives begins written =
-      some_text S source source' before (S.remaining source') reads_before none ends (record { given = given; ended = ended; gives = gives; is = (part, begins, written) })
+  -- what is so of what it gave is so of what was read
+  pub begun_writing : {Is : List ℕ → Bool → Type 0} → SomeStream S Is source source' → SomeText Is before (S.remaining source')
+  begun_writing = some_text S source source' before (S.remaining source') reads_before none ends
 
 -- what an end of a stream means
 pub reading_whole : {P : Type 0} (done : Result (Unit {0}) StreamError) → reading_of done ≡ Ok None → OnOk done P → P
@@ -84,28 +77,9 @@ known_begun told left left' held held' kept begun =
     record { given = begun.given; ended = begun.ended; read = known_read told left left' begun.given kept begun.read; at_end = begun.at_end; is = begun.is }
 
 -- before anything was read or written
-appends_none : (held held' : Option (List ℕ)) → Keeps held held' → Appends held held' []
-appends_none None held' kept = tt
-appends_none (Some xs) None kept = absurd kept
-appends_none (Some xs) (Some ys) kept = kept ∙ sym (append-nil xs)
-
-begun_kept : (Begins : List ℕ → Bool → List ℕ → Type 0) → Begins [] false [] → (left held held' : Option (List ℕ)) → Keeps held held' → BeginsWriting Begins left left held held'
-begun_kept Begins none left held held' kept =
-    record { given = []; ended = false; read = Consumes-nil left; at_end = λ (is : false ≡ true). absurd (cc); is = ([], none, appends_none held held' kept) }
-
 pub begun_nothing : (Begins : List ℕ → Bool → List ℕ → Type 0) → Begins [] false [] → (left held : Option (List ℕ)) → BeginsWriting Begins left left held held
-begun_nothing Begins none left held = begun_kept Begins none left held held (Keeps-refl held)
-
--- the file of a name is that of the input, or of the folder
-pub of_input : (holds : List ℕ → Option (List ℕ)) (name : List ℕ) (Reads : Option (List ℕ) → Option (List ℕ) → Type 0) (left left' : Option (List ℕ)) → is_input name ≡ true
-    → Reads left left' → OfName holds name Reads left left'
-of_input holds name Reads left left' is reads =
-    subst (λ (b : Bool). MatchBool b (Reads left left') ((left' ≡ left) × (rest : Option (List ℕ)) × Reads (holds name) rest)) (sym is) reads
-
-pub of_folder : (holds : List ℕ → Option (List ℕ)) (name : List ℕ) (Reads : Option (List ℕ) → Option (List ℕ) → Type 0) (left left' : Option (List ℕ)) → is_input name ≡ false
-    → left' ≡ left → (rest : Option (List ℕ)) → Reads (holds name) rest → OfName holds name Reads left left'
-of_folder holds name Reads left left' is same rest reads =
-    subst (λ (b : Bool). MatchBool b (Reads left left') ((left' ≡ left) × (rest : Option (List ℕ)) × Reads (holds name) rest)) (sym is) (same, rest, reads)
+begun_nothing Begins none left held =
+    record { given = []; ended = false; read = Consumes-nil left; at_end = λ (is : false ≡ true). absurd (cc); is = ([], none, Appends-nil held) }
 
 -- the file of a name was read from what was given of it to a rest: that of the input, or one of the folder, which may have told it
 pub record IsFileRead (holds : List ℕ → Option (List ℕ)) (name : List ℕ) (given rest left left' : Option (List ℕ)) : Type 1 where
@@ -114,25 +88,26 @@ pub record IsFileRead (holds : List ℕ → Option (List ℕ)) (name : List ℕ)
   pub of : (Reads : Option (List ℕ) → Option (List ℕ) → Type 0) → Reads known rest → OfName holds name Reads left left'
 
 pub read_input : {holds : List ℕ → Option (List ℕ)} {name : List ℕ} {left left' : Option (List ℕ)} → is_input name ≡ true → IsFileRead holds name left left' left left'
-read_input {holds} {name} {left} {left'} is = record { known = left; kept = Keeps-refl left; of = λ Reads reads. of_input holds name Reads left left' is reads }
+read_input {holds} {name} {left} {left'} is = record { known = left; kept = Keeps-refl left; of = λ Reads reads. rw is reads }
 
 pub read_opened : {holds : List ℕ → Option (List ℕ)} {name : List ℕ} {given rest left : Option (List ℕ)} → is_input name ≡ false → Keeps (holds name) given → IsFileRead holds name given rest left left
-read_opened {holds} {name} {given} {rest} {left} is kept = record { known = holds name; kept = kept; of = λ Reads reads. of_folder holds name Reads left left is refl rest reads }
+read_opened {holds} {name} {given} {rest} {left} is kept = record { known = holds name; kept = kept; of = λ Reads reads. rw is (refl, rest, reads) }
 
 -- what is so of whatever was not read
 pub name_unread : (holds : List ℕ → Option (List ℕ)) (name : List ℕ) (Reads : Option (List ℕ) → Option (List ℕ) → Type 0) (left : Option (List ℕ)) → ((l : Option (List ℕ)) → Reads l l) → OfName holds name Reads left left
 name_unread holds name Reads left none = by (is_input name) refl
   where
     by : (b : Bool) → is_input name ≡ b → OfName holds name Reads left left
-    by true is = of_input holds name Reads left left is (none left)
-    by false is = of_folder holds name Reads left left is refl (holds name) (none (holds name))
+    by true is = rw is (none left)
+    by false is = rw is (refl, holds name, none (holds name))
 
 -- and of all names
 pub each_none : (Does : List ℕ → (left left' held held' : Option (List ℕ)) → Type 0) → ((name : List ℕ) (left held : Option (List ℕ)) → Does name left left held held) → (names : List (List ℕ)) (left held : Option (List ℕ)) → EachName Does names left left held held
 each_none Does none [] left held = (refl, Keeps-refl held)
 each_none Does none (name ∷ names) left held = (left, held, none name left held, each_none Does none names left held)
 
--- nothing was read and written of the file of a name
-pub named_none : (task : Task) → task.deed.begins [] false [] → (name : List ℕ) (left left' held held' : Option (List ℕ)) → left' ≡ left → Keeps held held' → BeginsNamed task name left left' held held'
-named_none task none name left left' held held' same kept =
-    rw same (name_unread task.holds name (λ l l'. BeginsWriting task.deed.begins l l' held held') left (λ l. begun_kept task.deed.begins none l held held' kept))
+-- nothing was read and written of any file
+pub cut_none : (task : Task) → task.deed.begins [] false [] → (names : List (List ℕ)) (left held : Option (List ℕ)) → AreCut task names [] left left held held
+cut_none task none [] left held = (refl, refl, Keeps-refl held)
+cut_none task none (name ∷ names) left held =
+    inl (refl, name_unread task.holds name (λ l l'. BeginsWriting task.deed.begins l l' held held) left (λ l. begun_nothing task.deed.begins none l held))

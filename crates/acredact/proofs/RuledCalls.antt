@@ -1,31 +1,40 @@
--- What comes of a call with rules, and its status.
-use Rattle.acredact.proofs.Common.{All-nil, AsWord, Bor, Errors, IfOk-weaker, Occurrence, PieceRule, Readers, SinkGhosts, StreamError, Streams, Tells, TellsBytes, Volume, Writers, bytes_left, length-map, output_bytes, runs_named, Failure, on_ok_weaker}
-use Rattle.std.proofs.Common.{◌≡◌, inl, inr, ℕ, ◌-◌, List, [], ◌∷◌, Option, true, false, refl, sym, ap, subst, ◌+◌, ◌++◌, ◌∙◌, length, length-append, map, arith}
-use Rattle.std.specs.Prelude.{Bool, MatchBool, Result, Ok, Err, IfOk, IsErr, OnOk, min, replicate, slice_index, ◌^◌, ◌==◌, if◌then◌else◌, IfErr}
-use Rattle.secret_rules.specs.declared.rule.Rule.{Rule}
+-- What comes of a call with rules, and its status: of a redaction, and of a check.
+use Rattle.acredact.proofs.Common.{All-nil, AreSearchedFor, AsWord, Automata, CanCoverLines, Errors, Failure, IfOk-weaker, Keeps, LineError, Occurrence, Readers, SinkGhosts, StreamError, Streams, Tells, TellsBytes, Verdict, Volume, Writers, bytes_left, length-map, most_of, on_ok_weaker, output_bytes, rules_of, runs_named, searched_automaton, words_of}
+use Rattle.std.proofs.Common.{List, Option, [], ap, arith, false, inl, inr, length, length-append, map, refl, subst, sym, true, ℕ, ◌++◌, ◌+◌, ◌-◌, ◌∙◌, ◌∷◌, ◌≡◌}
+use Rattle.std.specs.Prelude.{Bool, Err, IfErr, IfOk, IsErr, MatchBool, Ok, OnOk, Result, if◌then◌else◌, min, replicate, slice_index, ◌==◌, ◌^◌}
 use Rattle.acredact.specs.Arguments.{Given, counts_asked, has}
 use Rattle.acredact.specs.Back.{DoesJob}
-use Rattle.acredact.specs.Calls.{Call, TellsOfFiles, names_asked, pieces_asked, reading_by, text_asked, TellsWhole}
+use Rattle.acredact.specs.Calls.{Call, IsUnreadLine, TellsOfFiles, TellsWhole, names_asked, pieces_asked, reading_by, text_asked}
 use Rattle.acredact.specs.Doubts.{TellsDoubts, last_of}
 use Rattle.acredact.specs.Failures.{EndsCall}
 use Rattle.acredact.specs.LineRules.{most_asked}
-use Rattle.acredact.specs.Loading.{key_lent}
-use Rattle.acredact.specs.LongLines.{long_told, whole_number, too_long_line}
-use Rattle.acredact.specs.RunCounts.{TellsAnyTotals, TellsRunTotals, run_totals_text}
-use Rattle.acredact.specs.Ruled.{AreBegun, AreRuledLoaded, CountsByRules, IsRuledTold, NotesByRules, NumbersOf, OutcomeOf, RuledCall, RuledLoad, RuledOutcome, RuledStatus, Ruling, own_text, patterns_by_case, rule_asked, ruled_by, ruled_load, ruling_as, ruling_by, task_by, texts_asked, RedactsByRules}
+use Rattle.acredact.specs.LongLines.{long_told, too_long_line, whole_number}
+use Rattle.acredact.specs.RunCounts.{TellsRunTotals, run_totals_text}
+use Rattle.acredact.specs.Ruled.{AreBegun, AreRuledLoaded, AreRulesGiven, CountsByRules, IsRuledTold, NotesByRules, NumbersOf, OutcomeOf, RedactsByRules, RuledCall, RuledLoad, RuledOutcome, RuledStatus, own_text, patterns_by_case, ruled_by, ruling_by, texts_asked}
 use Rattle.acredact.specs.Summaries.{no_volume}
-use Rattle.acredact.specs.Tables.{Secret, patterns_in, piece_by, secret_of, secrets_of}
+use Rattle.acredact.specs.Tables.{Secret, patterns_in, piece_by}
 use Rattle.acredact.specs.Totals.{AreTotals, CountsFiles}
 use Rattle.acredact.specs.Volumes.{ReadsVolume}
-use Rattle.acredact.specs.declared.patterns.Rule.{Rule as PatternRule}
-use Rattle.acredact.proofs.Calls.{some_behind, tells_both, tells_line, tells_same}
+use Rattle.acredact.proofs.Calls.{doubts_tell, none_are, some_behind, some_weaker, tells_both, tells_line, tells_same}
 use Rattle.acredact.proofs.Done.{cut_of}
-use Rattle.acredact.proofs.LongLines.{long_of_runs}
+use Rattle.acredact.proofs.OneFile.{cut_none}
 use Rattle.acredact.proofs.RedactedCalls.{all_redacted, files_told}
-use Rattle.acredact.proofs.RuledFiles.{begun_of, told_any}
-use Rattle.acredact.proofs.Outcomes.{files_then, status_says}
+use Rattle.acredact.proofs.RuledText.{long_of_runs}
+use Rattle.acredact.proofs.Turns.{told_any, told_as}
+use Rattle.acredact.proofs.Outcomes.{files_then, status_says, comes_early}
 use Rattle.acredact.proofs.Totals.{totals_of}
-use Rattle.acredact.proofs.Warned.{doubts_tell}
+use Rattle.std.proofs.KnownBytes.{Keeps-trans}
+use Rattle.secret_rules.specs.Ready.{CoversTheSame}
+use Rattle.secret_rules.specs.declared.line_cover.LineCover.{LineCover}
+use Rattle.acredact.specs.Checks.{BeginsLook, SeesFiles}
+use Rattle.acredact.specs.Findings.{labels_of}
+use Rattle.acredact.specs.Looks.{Sought}
+use Rattle.acredact.specs.Reads.{EachName}
+use Rattle.acredact.specs.RuledChecks.{BeginsLoadedCheck, CheckLoad, CheckedLines, IsByLines, RuledCheck, RuledCheckStatus, SeesByRules, line_quest_by, lines_looked_for}
+use Rattle.acredact.specs.Statuses.{check_status}
+use Rattle.acredact.specs.declared.legend.Legend.{Legend}
+use Rattle.acredact.specs.declared.options.Word.TheVariants.{Summary}
+use Rattle.acredact.proofs.Checks.{seen_says}
 
 -- the last of them is that of lines that are too long
 last_total : (last : ℕ) (runs : List Occurrence) (counts' : List ℕ) → AreTotals (last + 1) runs counts' → last_of counts' ≡ min (runs_named last runs) (2 ^ 64 - 1)
@@ -54,17 +63,10 @@ any_totals : {E : Type 0} (K : SinkGhosts E) (given : List Given) (load : RuledL
 any_totals K given load runs counts volume errors errors' totals true whole = record { counts = counts; totals = totals; told = whole }
 any_totals K given load runs counts volume errors errors' totals false same = same
 
--- what is done by such parts is what was asked for
-pub ruling_same : (given : List Given) (secrets : List PatternRule) (rules : List Rule) (key : Option (Bor (List ℕ))) (words : Bool) (most : ℕ) (texts : List (List ℕ)) (rule : PieceRule)
-    → words ≡ has AsWord given → most ≡ most_asked given → texts ≡ texts_asked given (ruled_load secrets rules key) → rule ≡ rule_asked given texts (key_lent key) (length secrets)
-    → ruling_as words rules most rule (patterns_by_case given (patterns_in (secrets_of secrets))) ≡ ruling_by given (ruled_load secrets rules key)
-ruling_same given secrets rules key words most texts rule is_words is_most are is_rule =
-    rw (is_words, is_most, is_rule, are, length-map secrets secret_of) refl
-
 module _ {E : Type 0} (K : SinkGhosts E) (call : Call) {V : Type 0} {all : V → Bool} {Whole : V → Type 0} {Begun Notes : Type 0} where
   -- a call ended early, and what was told may be
   pub outcome_early : {failure : Failure} {errors errors' : Errors E} → Begun → Tells K (IsRuledTold call) errors errors' → OutcomeOf K call all Whole Begun Notes (Err failure) errors errors'
-  outcome_early begun told = record { whole = tt; begun = begun; told = told; partly = tt; notes = tt; fails = tt }
+  outcome_early begun told = comes_early begun told tt
 
   -- or nothing was
   pub outcome_none : {errors : Errors E} (result : Result V Failure) → IsErr result → Begun → OutcomeOf K call all Whole Begun Notes result errors errors
@@ -84,6 +86,10 @@ module _ {E : Type 0} (K : SinkGhosts E) (call : Call) {V : Type 0} {all : V →
   }
 
 module _ {E : Type 0} (K : SinkGhosts E) (call : Call) where
+  -- no file was come to
+  pub unbegun : (load : RuledLoad) (left held : Option (List ℕ)) (errors : Errors E) (result : Result Bool Failure) → IsErr result → RuledOutcome K call load result left left held held errors errors
+  unbegun load left held errors result is = outcome_none K call result is ([], cut_none (ruled_by call load) (λ text redaction may is. refl) (names_asked call.given) left held)
+
   -- doubtful patterns of lists may be told
   pub all_doubts_told : (secrets : List Secret) (errors errors' : Errors E) → TellsDoubts K false call.given secrets errors errors' → Tells K (IsRuledTold call) errors errors'
   all_doubts_told secrets errors errors' told = doubts_tell K (IsRuledTold call) false call.given secrets errors errors' (λ lax line member. inr (inr (inl (secrets, member)))) told
@@ -106,25 +112,7 @@ module _ {E : Type 0} (K : SinkGhosts E) (call : Call) where
       by true none = record { told = []; are_lines = All-nil (IsRuledTold call); written = none }
       by false line = tells_line K (IsRuledTold call) errors errors' (too_long_line (most_asked call.given) count) (inr (inr (inr (inl (count, refl))))) line
 
-  -- and so may the counts
-  totals_lines : (secrets : List Secret) (rules : List Rule) (runs : List Occurrence) (volume : Volume) (errors errors' : Errors E) → TellsAnyTotals K call.given secrets rules runs volume errors errors' → Tells K (IsRuledTold call) errors errors'
-  totals_lines secrets rules runs volume errors errors' told = by (counts_asked call.given) refl told
-    where
-      by : (b : Bool) → counts_asked call.given ≡ b → MatchBool b (TellsRunTotals K call.given secrets rules runs volume errors errors') (errors' ≡ errors) → Tells K (IsRuledTold call) errors errors'
-      by true is totals = tells_line K (IsRuledTold call) errors errors' _ (inr (inr (inr (inr (is, secrets, rules, totals.counts, volume, refl))))) totals.told.told
-      by false is same = tells_same K (IsRuledTold call) errors errors' same
-
-  -- what is told where all was redacted
-  pub notes_told : (left left' : Option (List ℕ)) (errors errors' : Errors E) → NotesByRules K call left left' errors errors' → Tells K (IsRuledTold call) errors errors'
-  notes_told left left' errors errors' of =
-      let notes = of.is in
-      let numbers = notes.numbers in
-      let doubts = all_doubts_told of.load.secrets errors notes.meanwhile notes.doubted in
-      let long = long_lines (min numbers.long.count (2 ^ 64 - 1)) notes.meanwhile numbers.meanwhile numbers.long.told in
-      let counts = totals_lines of.load.secrets of.load.rules numbers.runs numbers.volume numbers.meanwhile errors' numbers.counted in
-      tells_both K (IsRuledTold call) errors notes.meanwhile errors' doubts (tells_both K (IsRuledTold call) notes.meanwhile numbers.meanwhile errors' long counts)
-
-  -- and the counts, where they are asked for
+  -- the counts are, where they are asked for
   pub counts_by_rules : (left left' : Option (List ℕ)) (errors errors' : Errors E) → counts_asked call.given ≡ true → NotesByRules K call left left' errors errors' → CountsByRules K call left left' errors'
   counts_by_rules left left' errors errors' is of =
       let numbers = of.is.numbers in
@@ -174,17 +162,12 @@ module _ {R W E : Type 0} {Reads : Readers R} (Writes : Writers W) (K : SinkGhos
   abbrev IsJob : Result Bool StreamError → Type 0
   IsJob result = DoesJob Writes K (ruled_by call load) (names_asked call.given) result old new zeros counts' no_volume volume
 
-  pub job_asked : {result : Result Bool StreamError} {ruling : Ruling} → ruling ≡ ruling_by call.given load → DoesJob Writes K (task_by call ruling) (names_asked call.given) result old new zeros counts' no_volume volume → IsJob result
-  job_asked {result} same does = subst (λ (r : Ruling). DoesJob Writes K (task_by call r) (names_asked call.given) result old new zeros counts' no_volume volume) same does
-
   abbrev ComesOfRules : Result Bool Failure → Errors E → Type 0
   ComesOfRules result errors' = RuledOutcome K call load result (bytes_left old.input) (bytes_left new.input) (output_bytes Writes old.output) (output_bytes Writes new.output) old.errors errors'
 
   job_begun : (result : Result Bool StreamError) → IsJob result → AreBegun (ruled_by call load) (names_asked call.given) (bytes_left old.input) (bytes_left new.input) (output_bytes Writes old.output) (output_bytes Writes new.output)
-  job_begun (Ok all) does =
-      let (lines, is_all, (done, told)) = does.outcome.done in
-      begun_of (ruled_by call load) (λ text redaction may is. refl) (names_asked call.given) lines _ _ _ _ (cut_of (ruled_by call load) (names_asked call.given) lines _ _ _ _ done)
-  job_begun (Err error) does = let (lines, (cut, told)) = does.outcome.cut in begun_of (ruled_by call load) (λ text redaction may is. refl) (names_asked call.given) lines _ _ _ _ cut
+  job_begun (Ok all) does = let (lines, is_all, (done, told)) = does.outcome.done in (lines, cut_of (ruled_by call load) (names_asked call.given) lines _ _ _ _ done)
+  job_begun (Err error) does = let (lines, (cut, told)) = does.outcome.cut in (lines, cut)
 
   job_told : (result : Result Bool StreamError) → IsJob result → TellsOfFiles K (names_asked call.given) result old.errors new.errors
   job_told result does = files_told Writes K (ruled_by call load) (names_asked call.given) old new result does.outcome
@@ -195,7 +178,7 @@ module _ {R W E : Type 0} {Reads : Readers R} (Writes : Writers W) (K : SinkGhos
       → TellsBytes K new.errors second (long_told (most_asked call.given) (last_of counts')) → IfOk result (λ done. done ≡ all) → IfErr result (λ failure. Unit {0})
       → OnOk result (TellsCountsAny K call.given load counts' volume second errors') → Tells K (IsRuledTold call) second errors' → ComesOfRules result errors'
   files_done all result size second errors' does are sized long same fails told lines =
-      files_then StreamError K (IsRuledTold call) (names_asked call.given) all old.errors old.errors new.errors errors' (tells_same K (IsRuledTold call) old.errors old.errors refl) (λ line is. inl is) (job_told (Ok all) does)
+      files_then StreamError K (IsRuledTold call) (IsUnreadLine (names_asked call.given)) all old.errors old.errors new.errors errors' (tells_same K (IsRuledTold call) old.errors old.errors refl) (λ line is. inl is) (job_told (Ok all) does)
       (tells_both K (IsRuledTold call) new.errors second errors' (long_lines K call (last_of counts') new.errors second long) lines) (job_begun (Ok all) does) result same fails
       (λ whole. on_ok_weaker result
       (λ (counted : TellsCountsAny K call.given load counts' volume second errors'). (
@@ -208,3 +191,77 @@ module _ {R W E : Type 0} {Reads : Readers R} (Writes : Writers W) (K : SinkGhos
   pub files_failed : (error : StreamError) (failure : Failure) → IsJob (Err error) → ComesOfRules (Err failure) new.errors
   files_failed error failure does =
       outcome_early K call (job_begun (Err error) does) (told_any K (names_asked call.given) (IsRuledTold call) (Err error) old.errors new.errors (λ line is. inl is) (job_told (Err error) does))
+
+-- what a check by rules looks for
+module _ {A : Type 0} (G : Automata A) (cover : LineCover A) (legend : Legend) where
+  -- what covers lines looks for the same afterwards
+  pub still_lines : (cover' : LineCover A) → CanCoverLines G cover' → CoversTheSame cover cover' → (s : Sought) → IsByLines G cover legend s → IsByLines G cover' legend s
+  still_lines cover' can same s by =
+      record { lines = by.lines; is = by.is; can = can; searched = rw same.automaton by.searched; covers = rw (same.words, same.rules, same.most) by.covers; labels = by.labels }
+
+  -- made of such parts it looks for what was loaded
+  pub by_loaded : (given : List Given) (load : CheckLoad) (words : Bool) (most : ℕ) → CanCoverLines G cover → AreSearchedFor G (searched_automaton cover) (patterns_by_case given (patterns_in load.secrets))
+      → words_of cover ≡ words → rules_of cover ≡ load.rules → most_of cover ≡ most → words ≡ has AsWord given → most ≡ most_asked given → labels_of legend ≡ record { secrets = load.secrets; rules = load.rules; most = most }
+      → IsByLines G cover legend (inr (lines_looked_for given load))
+  by_loaded given load words most can searched is_words is_rules is_most by_word by_most labels = record {
+    lines = lines_looked_for given load;
+    is = refl;
+    can = can;
+    searched = searched;
+    covers = rw (is_words, is_rules, is_most, by_word, by_most) refl;
+    labels = rw (labels, by_most) refl;
+  }
+
+-- what holds of an output holds of it where it is flushed
+each_kept : (Does : List ℕ → (left left' held held' : Option (List ℕ)) → Type 0) (names : List (List ℕ)) (left left' held meanwhile held' : Option (List ℕ)) → EachName Does names left left' held meanwhile → Keeps meanwhile held' → EachName Does names left left' held held'
+each_kept Does [] left left' held meanwhile held' (same, kept) more = (same, Keeps-trans held meanwhile held' kept more)
+each_kept Does (name ∷ names) left left' held meanwhile held' (between, mid, one, rest) more = (between, mid, one, each_kept Does names between left' mid meanwhile held' rest more)
+
+module _ {E : Type 0} (K : SinkGhosts E) (call : Call) where
+  module _ (load : CheckLoad) (left left' held held' seen seen' : Option (List ℕ)) (errors errors' : Errors E)
+      (told : has Summary call.given ≡ true → (seen ≡ held) × Keeps seen' held') (untold : has Summary call.given ≡ false → Keeps held held') where
+    -- where that is asked for it was told what was found
+    begun_told : EachName (BeginsLook (line_quest_by call load)) (names_asked call.given) left left' seen seen' → BeginsLoadedCheck call left left' held held' load
+    begun_told begun = by (has Summary call.given) refl
+      where
+        by : (b : Bool) → has Summary call.given ≡ b → BeginsLoadedCheck call left left' held held' load
+        by true is = let same = told is in inr (each_kept (BeginsLook (line_quest_by call load)) (names_asked call.given) left left' held seen' held' (rw same.0 at begun) same.1)
+        by false is = inl (untold is)
+
+    -- the files were looked at
+    pub files_looked : (verdict : Verdict) → SeesFiles K {X = LineError} (line_quest_by call load) (names_asked call.given) (Ok verdict) left left' seen seen' errors errors' → CheckedLines K call load (Ok verdict) left left' held held' errors errors'
+    files_looked verdict files =
+        let (lines, is_all, are, lines_told) = files.seen in
+        record {
+          whole = λ all. record { old = seen; new = seen'; told = told; are = rw (none_are lines (sym is_all ∙ all)) at are };
+          begun = begun_told files.begun;
+          told = told_any {X = LineError} K (names_asked call.given) (IsRuledTold call) (Ok verdict.all) errors errors' (λ line is. inl is) files.told;
+          partly = λ none. some_weaker K (IsUnreadLine (names_asked call.given)) (IsRuledTold call) errors errors' (λ line is. inl is)
+              (told_as LineError K (names_asked call.given) verdict.all false errors errors' none files.told);
+          notes = λ all. told_as LineError K (names_asked call.given) verdict.all true errors errors' all files.told;
+          fails = tt;
+        }
+
+    -- or not all of them
+    pub files_unlooked : (error : LineError) (failure : Failure) → SeesFiles K (line_quest_by call load) (names_asked call.given) (Err error) left left' seen seen' errors errors'
+        → CheckedLines K call load (Err failure) left left' held held' errors errors'
+    files_unlooked error failure files =
+        outcome_early K call (begun_told files.begun) (told_any {X = LineError} K (names_asked call.given) (IsRuledTold call) (Err error) errors errors' (λ line is. inl is) files.told)
+
+  -- behind what is told of doubtful patterns what was loaded decides what comes of the call
+  pub check_behind : (load : CheckLoad) (result : Result Verdict Failure) (left between left' held held' : Option (List ℕ)) (errors meanwhile errors' : Errors E)
+      → AreRulesGiven (reading_by call) call.given load.secrets load.rules left between → TellsDoubts K false call.given load.secrets errors meanwhile
+      → CheckedLines K call load result between left' held held' meanwhile errors' → RuledCheck K call result left left' held held' errors errors'
+  check_behind load result left between left' held held' errors meanwhile errors' loaded doubted =
+      outcome_behind K call result errors meanwhile errors' (all_doubts_told K call load.secrets errors meanwhile doubted)
+      (λ verdict whole. record { load = load; between = between; loaded = loaded; is = whole })
+      (λ begun. elim begun [
+        | inl none ↦ inl none
+        | inr some ↦ inr (record { load = load; between = between; loaded = loaded; is = some })
+      ])
+      (λ same. record { load = load; between = between; loaded = loaded; is = subst (TellsDoubts K false call.given load.secrets errors) (sym same) doubted })
+
+  -- the status tells what was seen
+  pub check_done : (verdict : Verdict) (left left' held held' : Option (List ℕ)) (errors errors' : Errors E) → RuledCheck K call (Ok verdict) left left' held held' errors errors'
+      → RuledCheckStatus K call (check_status verdict) left left' held held' errors errors'
+  check_done verdict left left' held held' errors errors' of = seen_says (λ found. SeesByRules call found left left' held held') verdict (λ some. some) of

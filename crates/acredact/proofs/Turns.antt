@@ -1,9 +1,9 @@
 -- What comes of files that are done one after another, whatever is done with each.
 use Rattle.acredact.proofs.Common.{Errors, SinkGhosts, Tells, TellsSome, and-true}
-use Rattle.std.proofs.Common.{◌≡◌, ◌∙◌, ℕ, List, [], ◌∷◌, ap, false, refl, subst, sym, true}
+use Rattle.std.proofs.Common.{◌≡◌, ◌∙◌, inl, inr, ℕ, List, [], ◌∷◌, ap, false, refl, subst, sym, true}
 use Rattle.std.specs.Prelude.{Bool, ◌&&◌, Result, Ok, Err}
 use Rattle.std.proofs.Math.Bool.{and_assoc}
-use Rattle.acredact.specs.Calls.{TellsUnlessAll}
+use Rattle.acredact.specs.Calls.{IsUnreadLine, TellsOfFiles, TellsUnlessAll}
 use Rattle.acredact.proofs.Calls.{some_all, some_then, some_weaker, tells_both, tells_same, tells_weaker}
 
 -- what is answered of two parts together, and of no file
@@ -70,3 +70,19 @@ module _ {E X : Type 0} (K : SinkGhosts E) (First Rest All : List ℕ → Type 0
   told_then true (Err error) old mid new same more = subst (λ (e : Errors E). Tells K All e new) same (tells_weaker K Rest All mid new rest more)
   told_then false (Ok all) old mid new some more = some_then K All old mid new (some_weaker K First All old mid first some) (told_by {X = X} K Rest All (Ok all) mid new rest more)
   told_then false (Err error) old mid new some more = tells_both K All old mid new (some_all K First All old mid first some) (tells_weaker K Rest All mid new rest more)
+
+-- the same of lines that tell why files are not read
+pub told_any : {E X : Type 0} (K : SinkGhosts E) (names : List (List ℕ)) (IsLine : List ℕ → Type 0) (result : Result Bool X) (errors errors' : Errors E) → ((line : List ℕ) → IsUnreadLine names line → IsLine line)
+    → TellsOfFiles K names result errors errors' → Tells K IsLine errors errors'
+told_any K names = told_by K (IsUnreadLine names)
+
+pub told_as : {E : Type 0} (X : Type 0) (K : SinkGhosts E) (names : List (List ℕ)) (all whole : Bool) (errors errors' : Errors E) → all ≡ whole → TellsOfFiles {X = X} K names (Ok all) errors errors' → TellsOfFiles {X = X} K names (Ok whole) errors errors'
+told_as X K names all whole errors errors' is told = subst (λ (b : Bool). TellsOfFiles {X = X} K names (Ok b) errors errors') is told
+
+module _ {E : Type 0} (K : SinkGhosts E) (name : List ℕ) (names : List (List ℕ)) where
+  unread_first : (line : List ℕ) → IsUnreadLine (name ∷ []) line → IsUnreadLine (name ∷ names) line
+  unread_first line (other, inl is, told) = (other, inl is, told)
+  unread_first line (other, inr none, told) = absurd none
+
+  pub told_more : {X : Type 0} (whole : Bool) (result : Result Bool X) (old mid new : Errors E) → TellsOfFiles {X = X} K (name ∷ []) (Ok whole) old mid → TellsOfFiles K names result mid new → TellsOfFiles K (name ∷ names) (also all_joined whole result) old new
+  told_more {X = X} = told_then {X = X} K (IsUnreadLine (name ∷ [])) (IsUnreadLine names) (IsUnreadLine (name ∷ names)) unread_first (λ line is. (is.0, inr is.1, is.2))

@@ -1,6 +1,6 @@
 -- Arguments that are not UTF-8: which of them name files, and what is told of these.
 use Rattle.acredact.specs.Common.{Form, OtherFailure, OutOfMemory, argument_form, concat, joined_letters, long_name, long_with, no_more, no_option}
-use Rattle.std.specs.Prelude.{◌≡◌, ◌⊎◌, ℕ, ◌==◌, ◌++◌, ◌||◌, not, Bool, MatchBool, true, false, List, [], ◌∷◌, Option, Some, None, Result, Ok, Err, IfOk, codes, length, map, if◌then◌else◌}
+use Rattle.std.specs.Prelude.{◌≡◌, ◌⊎◌, ℕ, ◌==◌, ◌++◌, ◌||◌, not, Bool, MatchBool, MatchOption, true, false, List, [], ◌∷◌, Option, Some, None, Result, Ok, Err, IfOk, codes, length, map, if◌then◌else◌}
 use Rattle.std.specs.Str.{IsUtf8}
 use Rattle.tool_parts.specs.Arguments.{texts}
 use Rattle.tool_parts.specs.declared.failure.Failure.TheVariants.{Usage}
@@ -53,33 +53,12 @@ IsSetApart expects given apart =
 abbrev pub IsNotApart : List (List ℕ) → OtherFailure → Type 0
 IsNotApart given failure = (failure ≡ OutOfMemory) ⊎ ((failure ≡ Usage) × SetsApart Any given [] [] None)
 
-module _ (expects : Expects) (argument : List ℕ) (next : Option Expects) (apart apart' : Apart) where
-  -- one argument more was put to those that are UTF-8
-  pub record PutsArgument : Type 0 where
-    pub text : IsUtf8 argument
-    pub next_is : next ≡ Some (next_behind expects argument)
-    pub put : texts apart'.arguments.items ≡ texts apart.arguments.items ++ (argument ∷ [])
-    pub names : apart'.names ≡ apart.names
-
-  -- or to the names
-  pub record PutsName : Type 0 where
-    pub no_text : IsUtf8 argument → ⊥
-    pub is_name : names_file expects argument ≡ true
-    pub next_is : next ≡ Some expects
-    pub put : bytes_of_names apart'.names.items ≡ bytes_of_names apart.names.items ++ (argument ∷ [])
-    pub arguments : apart'.arguments ≡ apart.arguments
-
-  -- or it is wrong
-  pub record IsWrong : Type 0 where
-    pub no_text : IsUtf8 argument → ⊥
-    pub no_name : names_file expects argument ≡ false
-    pub next_is : next ≡ None
-
-  abbrev pub PutsOne : Type 0
-  PutsOne = PutsArgument ⊎ (PutsName ⊎ IsWrong)
-
+-- an argument was put to those that are UTF-8, or to the names, or is wrong: what comes of it and of those behind it is what comes of
+-- these behind what was put
 abbrev pub Puts : {X : Type 0} → Expects → List ℕ → Result (Option Expects) X → (apart apart' : Apart) → Type 0
-Puts expects argument result apart apart' = IfOk result (λ next. PutsOne expects argument next apart apart')
+Puts expects argument result apart apart' = IfOk result (λ next. (rest : List (List ℕ)) (all : Option (List (List ℕ) × List (List ℕ)))
+    → MatchOption next (all ≡ None) (λ after. SetsApart after rest (texts apart'.arguments.items) (bytes_of_names apart'.names.items) all)
+    → SetsApart expects (argument ∷ rest) (texts apart.arguments.items) (bytes_of_names apart.names.items) all)
 
 -- the line that tells that such a file cannot be opened
 abbrev pub unnamed_line : List ℕ → List ℕ

@@ -2,7 +2,8 @@
 use Rattle.acredact.specs.Common.{Covering, Errors, SinkGhosts, TellsBytes, stream_lines}
 use Rattle.std.specs.Prelude.{◌≡◌, ℕ, ◌+◌, ◌-◌, ◌^◌, ◌==◌, min, nat_lt, List, [], ◌∷◌, ◌++◌, Option, codes, decimal, filter, if◌then◌else◌, length}
 use Rattle.secret_rules.specs.Lines.{Line}
-use Rattle.acredact.specs.Reads.{OfName, ReadsText}
+use Rattle.acredact.specs.Deeds.{WholeText}
+use Rattle.acredact.specs.Reads.{OfName}
 use Rattle.acredact.specs.Messages.{numbered_line}
 
 -- the number of such a line, behind those of patterns and rules
@@ -14,10 +15,8 @@ abbrev pub long_among : ℕ → List Line → ℕ
 long_among most lines = length (filter (λ (line : Line). nat_lt most (length line.bytes)) lines)
 
 -- a text was read to its end, and has so many lines with more bytes
-pub record HasLong (most count : ℕ) (left left' : Option (List ℕ)) : Type 0 where
-  pub text : List ℕ
-  pub reads : ReadsText text left left'
-  pub are : count ≡ long_among most (stream_lines text)
+abbrev pub HasLong : (most count : ℕ) → (left left' : Option (List ℕ)) → Type 0
+HasLong most count left left' = WholeText (λ text. count ≡ long_among most (stream_lines text)) left left'
 
 -- all files together, one after another, have so many
 abbrev pub HaveLong : (holds : List ℕ → Option (List ℕ)) → (most : ℕ) → List (List ℕ) → ℕ → (left left' : Option (List ℕ)) → Type 0

@@ -13,12 +13,11 @@ use Rattle.acredact.specs.Arguments.{Given, all_given, counts_asked, has, last_v
 use Rattle.acredact.specs.Calls.{Call, IsUnreadLine, call_of, keyed_as, names_asked, pieces_asked, reading_by, text_asked}
 use Rattle.acredact.specs.Doubts.{TellsDoubts, all_doubt_lines}
 use Rattle.acredact.specs.Deeds.{Deed}
-use Rattle.acredact.specs.Files.{EachIsWritten, BeginsNamed, RedactsName, Task}
+use Rattle.acredact.specs.Files.{AreCut, EachIsWritten, Task}
 use Rattle.acredact.specs.Failures.{IsFailureLine}
 use Rattle.acredact.specs.LineRules.{AreRulesRead, most_asked}
 use Rattle.acredact.specs.LongLines.{TellsLong, too_long_line}
 use Rattle.acredact.specs.Loading.{AreGiven, IsKeyGiven, Reading, key_lent, secrets_by}
-use Rattle.acredact.specs.Reads.{EachName}
 use Rattle.acredact.specs.RunCounts.{AreAllRuns, HaveRuns, IsRunsLine, TellsAnyTotals, TellsRunTotals}
 use Rattle.acredact.specs.Outcomes.{ComesOf, EndSays}
 use Rattle.acredact.specs.RunPieces.{mixed_rule, pseudonyms_by}
@@ -62,10 +61,9 @@ deed_by ruling = record {
   measured = false;
 }
 
--- of each file its redaction was written or a beginning of it, of some perhaps nothing
+-- of some first files the redaction was written, and a beginning of that of the next, whatever was told
 abbrev pub AreBegun : Task → List (List ℕ) → (left left' held held' : Option (List ℕ)) → Type 0
-AreBegun task names left left' held held' =
-    EachName (λ name l l' h h'. RedactsName task name l l' h h' ⊎ BeginsNamed task name l l' h h') names left left' held held'
+AreBegun task names left left' held held' = (lines : List (List ℕ)) × AreCut task names lines left left' held held'
 
 -- by these words, rules, lengths and patterns, with these pieces
 abbrev pub ruling_as : Bool → List Rule → ℕ → PieceRule → Patterns → Ruling
@@ -173,7 +171,7 @@ module _ (call : Call) (left left' held held' : Option (List ℕ)) where
   abbrev pub RedactsByRules : Type 0
   RedactsByRules = LoadsRules call left (λ load between. EachIsWritten (ruled_by call load) (names_asked call.given) between left' held held')
 
-  -- of each file the redaction or a beginning of it was written, or nothing was
+  -- of some first files the redaction or a beginning of it was written, or nothing
   abbrev pub BeginsByRules : Type 0
   BeginsByRules = Keeps held held' ⊎ LoadsRules call left (λ load between. AreBegun (ruled_by call load) (names_asked call.given) between left' held held')
 
@@ -182,7 +180,7 @@ module _ {E : Type 0} (K : SinkGhosts E) where
   abbrev pub OutcomeOf : {V : Type 0} → Call → (all : V → Bool) → (Whole : V → Type 0) → (Begun Notes : Type 0)
       → Result V Failure → (errors errors' : Errors E) → Type 0
   OutcomeOf call all Whole Begun Notes result errors errors' =
-      ComesOf K (IsRuledTold call) all Whole Begun Notes (λ (failure : Failure). Unit {0}) result errors errors'
+      ComesOf K (IsRuledTold call) all Whole (TellsSome K (IsRuledTold call) errors errors') Begun Notes (λ (failure : Failure). Unit {0}) result errors errors'
 
   -- where all was redacted it is told how many lines were too long, and then, where that is asked for, how many runs have each number and
   -- how much was read

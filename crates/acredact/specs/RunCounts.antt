@@ -5,7 +5,7 @@ use Rattle.secret_rules.specs.LineCovers.{all_of}
 use Rattle.acredact.specs.Arguments.{Given, all_given, counts_asked, counts_given}
 use Rattle.acredact.specs.Counts.{secret_lines}
 use Rattle.acredact.specs.Deeds.{WholeText}
-use Rattle.acredact.specs.Reads.{EachGives, OfName, ReadsText}
+use Rattle.acredact.specs.Reads.{EachGives, OfName}
 use Rattle.acredact.specs.Calls.{TellsWhole}
 use Rattle.acredact.specs.Summaries.{numbers_text, rules_lent}
 use Rattle.acredact.specs.Sums.{sums_of}
@@ -15,13 +15,7 @@ use Rattle.acredact.specs.declared.options.Item.{Item}
 use Rattle.acredact.specs.declared.patterns.Rule.{Rule as PatternRule}
 use Rattle.acredact.specs.declared.summary.Volume.{Volume}
 
--- a text was read to its end, and these are the runs of its lines
-pub record HasLineRuns (covering : Covering) (runs : List (List Occurrence)) (left left' : Option (List ℕ)) : Type 0 where
-  pub text : List ℕ
-  pub reads : ReadsText text left left'
-  pub are : AreLineRuns covering [] (stream_lines text) runs
-
--- these are all of them
+-- these are all runs of the lines of a text
 abbrev pub AreAllRuns : Covering → (text : List ℕ) → List Occurrence → Type 0
 AreAllRuns covering text runs =
     (by_line : List (List Occurrence)) × AreLineRuns covering [] (stream_lines text) by_line × (runs ≡ all_of by_line)

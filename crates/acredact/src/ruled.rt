@@ -9,8 +9,7 @@ ghost use Rattle.tool_parts.specs.Telling.{TellsBytes};
 ghost use Rattle.acredact.specs.LongLines.{long_told};
 ghost use Rattle.acredact.specs.Arguments.{all_given};
 ghost use Rattle.acredact.specs.Calls.{call_of, names_asked};
-ghost use Rattle.acredact.specs.Loading.{key_lent};
-ghost use Rattle.acredact.specs.Ruled.{Between, LoadedRuled, RuledCall, named_count, own_text, patterns_by_case, rule_asked, ruled_load, texts_asked};
+ghost use Rattle.acredact.specs.Ruled.{Between, IsLined, LoadedRuled, RuledCall, named_count, own_text, patterns_by_case, ruled_load, ruling_by, texts_asked};
 ghost use Rattle.acredact.specs.Tables.{patterns_in, secrets_of};
 
 use crate::failure::{Failure, tell_with_other};
@@ -29,7 +28,7 @@ use crate::secrets::{key_bytes, load_key};
 use crate::streams::Streams;
 use crate::summary::{Volume, last_of};
 use chromesquid::any::Pieces;
-use chromesquid::{AhoCorasick, Automaton, Sink};
+use chromesquid::{AhoCorasick, Automaton, BuildError, Sink};
 use secret_rules::{Rule as LineRule, Rules};
 use std::alloc::{AllocError, Global};
 use std::io::{Read, Write};
@@ -78,6 +77,7 @@ pub fn redact_by_rules<'a, F: Folder, I: Read, W: Write, E: Sink>(
 }
 
 /// Redacts all files by the automaton that the searcher of these patterns holds.
+#[tactic(auto, using(crate::proofs::Standing::search_as))]
 fn redact_by<'a, F: Folder, I: Read, W: Write, E: Sink>(
     alloc: Global,
     given: &[Item<'_>],
@@ -139,24 +139,15 @@ fn redact_lines<'a, A: Automaton, F: Folder, I: Read, W: Write, E: Sink>(
         result streams.old streams.new }
     ensures flushed { OnOk result (streams.new.output.device.flushed ≡ true) }
 {
-    let texts = texts_of(alloc, given, secrets, rules.as_slice())?;
-    let most = most_of(given);
+    let texts = texts_of(alloc, given, secrets, rules)?;
     let texts = texts.as_slice();
     let mut counts: Vec<u64> = vec![in alloc; 0; texts.len()]?;
-    let words = has(given, Word::AsWord);
-    let pieces = pieces_by(given, texts, key, secrets.len());
-    let cover = line_cover(alloc, automaton, rules, words, most)?;
-    let mut lined = Lined {
-        cover,
-        pieces,
-        done: Ok(()),
-    };
+    let mut lined = lined_by(alloc, given, secrets, rules, key, automaton, texts)?;
     let tally = counts.as_mut_slice();
     let mut volume = Volume { files: 0, bytes: 0 };
     match redact_flushed(&mut lined, folder, names, tally, &mut volume, streams) {
         Ok(all) => {
-            let count = last_of(tally);
-            tell_count(&mut streams.errors, most, count);
+            tell_count(&mut streams.errors, most_of(given), last_of(tally));
             let rules = Some(rules.as_slice());
             let errors = &mut streams.errors;
             tell_counted(alloc, all, given, secrets, rules, tally, volume, errors)
@@ -170,13 +161,14 @@ fn texts_of<'r>(
     alloc: Global,
     given: &[Item<'r>],
     secrets: &'r [Rule],
-    line_rules: &'r [LineRule],
+    rules: &'r Rules,
 ) -> Result<Vec<&'r [u8]>, AllocError>
     ensures texts { IfOk result (λ texts. pieces_of texts.items
-        ≡ texts_asked (all_given given.now) (ruled_load secrets.entry.now line_rules.entry.now None)) }
+        ≡ texts_asked (all_given given.now) (ruled_load secrets.entry.now rules.entry.now None)) }
 {
     let usual = text_of(given);
     let mut texts = replacements_of(alloc, secrets, usual)?;
+    let line_rules = rules.as_slice();
     for rule in line_rules {
         texts.push(own_text(rule, usual))?;
     }
@@ -194,18 +186,32 @@ fn own_text<'r>(rule: &'r LineRule, usual: &'r [u8]) -> &'r [u8]
     }
 }
 
-/// What makes the piece of each run: its text; or, where there is a key, its pseudonym, but for patterns that it has named.
-fn pieces_by<'p, 'q>(
+/// What redacts lines by what was loaded: the piece of each run is its text; or, where there is a key, its pseudonym, but for patterns
+/// that it has named.
+fn lined_by<'r, 'a, 'p, 'q, A: Automaton>(
+    alloc: Global,
     given: &[Item<'_>],
-    texts: &'p [&'q [u8]],
+    secrets: &[Rule],
+    rules: &'r Rules,
     key: Option<&[u8]>,
-    patterns: usize,
-) -> RunPieces<'p, 'q>
-    ensures rule { ⟦<RunPieces<'p, 'q> as Pieces>⟧.rule result ≡ rule_asked (all_given given.now)
-        (pieces_of texts.entry.now) (key_lent key.entry) patterns }
+    automaton: &'a A,
+    texts: &'p [&'q [u8]],
+) -> Result<Lined<'r, 'a, A, RunPieces<'p, 'q>>, BuildError>
+    requires can { CanSearch A.Automaton automaton.now }
+    requires of { A.is_of automaton.now (patterns_by_case (all_given given.now) (patterns_in (secrets_of secrets.now))) }
+    requires texts { pieces_of texts.now ≡ texts_asked (all_given given.now) (ruled_load secrets.now rules.now None) }
+    ensures lined { IfOk result (λ lined. IsLined A.Automaton ⟦<RunPieces<'p, 'q> as Pieces>⟧ lined
+        (ruling_by (all_given given.now) (ruled_load secrets.now rules.entry.now key.entry))) }
 {
+    let words = has(given, Word::AsWord);
+    let cover = line_cover(alloc, automaton, rules, words, most_of(given))?;
     let key = key_by(key, has(given, Word::IgnoreCase));
-    RunPieces::new(texts, key, named_count(given, patterns))
+    let pieces = RunPieces::new(texts, key, named_count(given, secrets.len()));
+    Ok(Lined {
+        cover,
+        pieces,
+        done: Ok(()),
+    })
 }
 
 /// How many numbers are those of patterns that a key has named: so it does where forms are asked for.

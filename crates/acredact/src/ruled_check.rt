@@ -83,6 +83,7 @@ fn check_given<'a, F: Folder, I: Read, W: Write, E: Sink>(
 }
 
 /// Looks at all files by the automaton that the searcher of these patterns holds.
+#[tactic(auto, using(crate::proofs::Standing::search_as))]
 fn check_by<'a, F: Folder, I: Read, W: Write, E: Sink>(
     alloc: Global,
     given: &[Item<'_>],

@@ -1,17 +1,17 @@
 -- What was loaded is redacted by, behind what is told of doubtful patterns.
-use Rattle.acredact.proofs.Common.{Folders, Keeps-refl, bytes_left, name_bytes}
-use Rattle.std.proofs.Common.{◌∙◌, ℕ, List, Option, ap, inl, refl, subst, sym}
+use Rattle.acredact.proofs.Common.{Folders, Keeps-refl, bytes_left}
+use Rattle.std.proofs.Common.{ℕ, List, Option, inl, refl, subst, sym}
 use Rattle.acredact.specs.Arguments.{all_given}
 use Rattle.acredact.specs.Calls.{AreKeyedBy, call_of, reading_by}
 use Rattle.acredact.specs.Loading.{Loaded, key_in}
-use Rattle.acredact.specs.Ruled.{AreRuledLoaded, AreRulesGivenBy, IsRuledTold, load_as, ruled_load}
+use Rattle.acredact.specs.Ruled.{AreRuledLoaded, AreRulesGivenBy, load_as, ruled_load}
 use Rattle.acredact.specs.Tables.{secrets_of}
 use Rattle.acredact.specs.declared.options.Item.{Item}
 use Rattle.acredact.specs.declared.ruled_load.GivenRules.{GivenRules}
 use Rattle.acredact.specs.declared.secrets.Secrets.{Secrets}
-use Rattle.acredact.proofs.Calls.{tells_same}
 use Rattle.acredact.proofs.Naming.{ruled_some}
-use Rattle.acredact.proofs.RuledCalls.{all_doubts_told, outcome_early, ruled_behind}
+use Rattle.acredact.proofs.Outcomes.{comes_early, comes_untold}
+use Rattle.acredact.proofs.RuledCalls.{all_doubts_told, ruled_behind}
 use Rattle.acredact.proofs.ruled.redact_by_rules.Goals as goal
 
 -- the key was loaded beside them
@@ -23,14 +23,10 @@ ruled_loaded D folder items made keyed {left} {between} {left'} given are =
     (record { secrets = secrets_of made.secrets.items; between = between; rules_given = given; key_given = are.key_given; named = refl })
 
 pub returns-in-Err-clause-outcome : goal.returns-in-Err-clause-outcome
-returns-in-Err-clause-outcome g c =
-    let call = call_of g.F.Folder c.args.folder.now (all_given c.args.given.now) in
-    outcome_early g.E.Sink call (inl (Keeps-refl _)) (tells_same g.E.Sink (IsRuledTold call) _ _ refl)
+returns-in-Err-clause-outcome g c = comes_untold (inl (Keeps-refl _)) tt
 
 pub returns-in-Err-load_key-clause-outcome : goal.returns-in-Err-load_key-clause-outcome
-returns-in-Err-load_key-clause-outcome g c =
-    let call = call_of g.F.Folder c.args.folder.now (all_given c.args.given.now) in
-    outcome_early g.E.Sink call (inl (Keeps-refl _)) (tells_same g.E.Sink (IsRuledTold call) _ _ refl)
+returns-in-Err-load_key-clause-outcome g c = comes_untold (inl (Keeps-refl _)) tt
 
 pub ready_for_lines-requires : goal.ready_for_lines-requires
 ready_for_lines-requires g c =
@@ -46,8 +42,4 @@ returns-in-Ok-ready_for_lines-clause-outcome g c =
 
 pub returns-clause-outcome : goal.returns-clause-outcome
 returns-clause-outcome g c =
-    let call = call_of g.F.Folder c.args.folder.now (all_given c.args.given.now) in
-    outcome_early g.E.Sink call (inl (Keeps-refl _)) (all_doubts_told g.E.Sink call (secrets_of c.as_slice-secrets.result.now) _ _ c.ready_for_lines.ensures.told)
-
-pub redact_by-requires : goal.redact_by-requires
-redact_by-requires g c = record { can = c.in-Ok-ready_for_lines.ensures.can; of = c.in-Ok-ready_for_lines.ensures.ready.of; names = ap name_bytes c.as_slice.ensures.value ∙ c.in-Ok-ready_for_lines.ensures.ready.names }
+    comes_early (inl (Keeps-refl _)) (all_doubts_told g.E.Sink (call_of g.F.Folder c.args.folder.now (all_given c.args.given.now)) (secrets_of c.as_slice-secrets.result.now) _ _ c.ready_for_lines.ensures.told) tt

@@ -6,7 +6,7 @@ use Rattle.acredact.specs.Calls.{call_of}
 use Rattle.acredact.specs.Ruled.{IsRuledTold}
 use Rattle.acredact.proofs.Calls.{tells_last}
 use Rattle.acredact.proofs.Checks.{says_failed}
-use Rattle.acredact.proofs.RuledCheckCalls.{check_done}
+use Rattle.acredact.proofs.RuledCalls.{check_done}
 use Rattle.acredact.proofs.ruled_check.check_by_rules.Goals as goal
 
 pub returns-in-Ok-clause-says : goal.returns-in-Ok-clause-says
@@ -19,9 +19,6 @@ returns-in-Ok-clause-says g c = λ asks.
       unwritten = c.check_given.ensures.unwritten;
       flushed = λ summary less. c.in-Ok.ensures.flushed summary;
     }
-
-pub returns-in-Ok-clause-bound : goal.returns-in-Ok-clause-bound
-returns-in-Ok-clause-bound g c = rw c.status_of.ensures.status (check_done g.E.Sink (call_of g.F.Folder c.args.folder.now (all_given c.args.given.now)) c.in-Ok.verdict _ _ _ _ _ _ c.in-Ok.ensures.outcome).bound
 
 pub returns-in-Err-clause-says : goal.returns-in-Err-clause-says
 returns-in-Err-clause-says g c = λ asks.

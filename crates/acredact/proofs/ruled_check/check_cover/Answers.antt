@@ -4,8 +4,7 @@ use Rattle.std.proofs.Common.{◌∙◌, inl, refl}
 use Rattle.acredact.specs.Arguments.{all_given}
 use Rattle.acredact.specs.Calls.{call_of}
 use Rattle.acredact.specs.RuledChecks.{check_load}
-use Rattle.acredact.proofs.RuledCalls.{outcome_none}
-use Rattle.acredact.proofs.RuledCheckCalls.{files_looked, files_unlooked, by_loaded, same_kept}
+use Rattle.acredact.proofs.RuledCalls.{by_loaded, files_looked, files_unlooked, outcome_none}
 use Rattle.acredact.proofs.ruled_check.check_cover.Goals as goal
 
 pub returns-in_err-cover-clause-outcome : goal.returns-in_err-cover-clause-outcome
@@ -31,7 +30,7 @@ returns-in-Ok-clause-outcome g c =
     let sees = c.in-Ok.ensures.sees _
     (by_loaded g.A.Automaton _ _ (all_given c.args.given.now) load c.has-words.result c.most_of-most.result cover.ready (cover.searched _ c.requires.of) cover.words cover.rules cover.most c.has-words.ensures.has c.most_of-most.ensures.most (rw c.as_slice-rules.ensures.same refl)) in
     files_looked g.E.Sink call load _ _ _ _ sees.0 sees.1 _ _ (λ summary. sees.2 (c.has-tells.ensures.has ∙ summary))
-    (λ silent. same_kept g.W.Write _ _ (c.check_to.ensures.unwritten (c.has-tells.ensures.has ∙ silent)))
+    (λ silent. rw (c.check_to.ensures.unwritten (c.has-tells.ensures.has ∙ silent)) (Keeps-refl _))
     c.in-Ok.verdict (rw (c.has-tells.ensures.has, c.requires.names) at sees.3)
 
 pub returns-clause-outcome : goal.returns-clause-outcome
@@ -42,5 +41,5 @@ returns-clause-outcome g c =
     let sees = c.in-Err.ensures.sees _
     (by_loaded g.A.Automaton _ _ (all_given c.args.given.now) load c.has-words.result c.most_of-most.result cover.ready (cover.searched _ c.requires.of) cover.words cover.rules cover.most c.has-words.ensures.has c.most_of-most.ensures.most (rw c.as_slice-rules.ensures.same refl)) in
     files_unlooked g.E.Sink call load _ _ _ _ sees.0 sees.1 _ _ (λ summary. sees.2 (c.has-tells.ensures.has ∙ summary))
-    (λ silent. same_kept g.W.Write _ _ (c.check_to.ensures.unwritten (c.has-tells.ensures.has ∙ silent)))
+    (λ silent. rw (c.check_to.ensures.unwritten (c.has-tells.ensures.has ∙ silent)) (Keeps-refl _))
     c.in-Err.error c.failure_in.result (rw (c.has-tells.ensures.has, c.requires.names) at sees.3)

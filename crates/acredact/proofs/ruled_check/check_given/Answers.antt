@@ -1,15 +1,13 @@
 -- What was loaded is looked for, behind what is told of doubtful patterns.
-use Rattle.acredact.proofs.Common.{Keeps-refl, name_bytes}
-use Rattle.std.proofs.Common.{◌∙◌, ap, inl, refl}
+use Rattle.acredact.proofs.Common.{Keeps-refl}
+use Rattle.std.proofs.Common.{inl}
 use Rattle.acredact.specs.Arguments.{all_given}
 use Rattle.acredact.specs.Calls.{call_of}
-use Rattle.acredact.specs.Ruled.{IsRuledTold}
 use Rattle.acredact.specs.RuledChecks.{check_load}
 use Rattle.acredact.specs.Tables.{secrets_of}
-use Rattle.acredact.proofs.Calls.{tells_same}
+use Rattle.acredact.proofs.Outcomes.{comes_early, comes_untold}
 use Rattle.acredact.proofs.Ready.{given_some}
-use Rattle.acredact.proofs.RuledCalls.{all_doubts_told, outcome_early}
-use Rattle.acredact.proofs.RuledCheckCalls.{check_behind}
+use Rattle.acredact.proofs.RuledCalls.{all_doubts_told, check_behind}
 use Rattle.acredact.proofs.ruled_check.check_given.Goals as goal
 
 pub ready_for_lines-requires : goal.ready_for_lines-requires
@@ -24,13 +22,7 @@ returns-in-Ok-ready_for_lines-clause-outcome g c =
 
 pub returns-clause-outcome : goal.returns-clause-outcome
 returns-clause-outcome g c =
-    let call = call_of g.F.Folder c.args.folder.now (all_given c.args.given.now) in
-    outcome_early g.E.Sink call (inl (Keeps-refl _)) (all_doubts_told g.E.Sink call (secrets_of c.as_slice-secrets.result.now) _ _ c.ready_for_lines.ensures.told)
-
-pub check_by-requires : goal.check_by-requires
-check_by-requires g c = record { can = c.in-Ok-ready_for_lines.ensures.can; of = c.in-Ok-ready_for_lines.ensures.ready.of; names = ap name_bytes c.as_slice.ensures.value ∙ c.in-Ok-ready_for_lines.ensures.ready.names }
+    comes_early (inl (Keeps-refl _)) (all_doubts_told g.E.Sink (call_of g.F.Folder c.args.folder.now (all_given c.args.given.now)) (secrets_of c.as_slice-secrets.result.now) _ _ c.ready_for_lines.ensures.told) tt
 
 pub returns-in-Err-clause-outcome : goal.returns-in-Err-clause-outcome
-returns-in-Err-clause-outcome g c =
-    let call = call_of g.F.Folder c.args.folder.now (all_given c.args.given.now) in
-    outcome_early g.E.Sink call (inl (Keeps-refl _)) (tells_same g.E.Sink (IsRuledTold call) _ _ refl)
+returns-in-Err-clause-outcome g c = comes_untold (inl (Keeps-refl _)) tt
