@@ -5,21 +5,19 @@ use Rattle.std.specs.Prelude.{Bool, ◌||◌, ◌&&◌, Result, Ok, Err, IfOk}
 use Rattle.std.specs.Io.{StartsWith}
 use Rattle.std.proofs.Math.Bool.{and_assoc}
 use Rattle.acredact.specs.Calls.{IsUnreadLine, TellsOfFiles}
-use Rattle.acredact.specs.Checks.{BeginsLook, IsLookOf, LookedNamed, MayBeTold, Quest, SeesFiles}
+use Rattle.acredact.specs.Checks.{BeginsLook, IsLookOf, LookedNamed, Quest, SeesFiles}
 use Rattle.acredact.specs.Files.{BeginsWriting, are_none, unread_line}
 use Rattle.acredact.specs.Findings.{lines_findings}
 use Rattle.acredact.specs.Looks.{BeginsToTell, IsLook, IsReadLook, IsSeen, LookedText, Sought, both_seen, look_lines, verdict_as, verdict_of}
 use Rattle.acredact.specs.Messages.{output_line}
-use Rattle.acredact.specs.Reads.{OfName}
 use Rattle.acredact.specs.declared.look.Look.TheVariants.{Clean, Found, Output, Unread}
 use Rattle.acredact.proofs.Calls.{tells_same}
 use Rattle.acredact.proofs.Done.{concat_both, none_both}
 use Rattle.acredact.proofs.Free.{named_as}
 use Rattle.acredact.proofs.OneFile.{IsFileRead, begun_nothing, each_none, known_begun, name_unread}
 use Rattle.acredact.proofs.Redactions.{all_of}
-use Rattle.acredact.proofs.RuledFiles.{told_any, told_more}
 use Rattle.acredact.proofs.Statuses.{tells_one}
-use Rattle.acredact.proofs.Turns.{Joins, also}
+use Rattle.acredact.proofs.Turns.{Joins, also, told_any, told_more}
 
 -- what was seen of a text begins what tells of it
 seen_begins : (s : Sought) (name : List ℕ) (found : Bool) (given : List ℕ) (ended : Bool) (part : List ℕ) → IsSeen s name found given ended part → BeginsToTell s name given ended part
@@ -31,6 +29,13 @@ seen_begins (inr s) name found given ended part seen = record {
   first = λ bytes may. ([], ap stream_lines (all_of given bytes (rw seen.whole at may)) ∙ sym (append-nil (stream_lines given)));
   begins = subst (StartsWith (lines_findings s.labels name 1 seen.runs)) (sym seen.told) (take-length (lines_findings s.labels name 1 seen.runs));
 }
+
+-- and so does what it was found to be
+look_begun : (s : Sought) (name : List ℕ) (look : Look) (given : List ℕ) (ended : Bool) (part : List ℕ) → IsLook s name look given ended part → BeginsToTell s name given ended part
+look_begun s name Clean given ended part is = seen_begins s name false given ended part is
+look_begun s name Found given ended part is = seen_begins s name true given ended part is
+look_begun s name (Unread reason) given ended part is = is
+look_begun s name Output given ended part is = is
 
 none_begins : (s : Sought) (name : List ℕ) → BeginsToTell s name [] false []
 none_begins (inl r) name = tt
@@ -47,40 +52,19 @@ module _ (quest : Quest) (name : List ℕ) where
   -- the file is that of the input, or of the folder
   pub looked_file : {X : Type 0} (result : Result Look X) (held held' : Option (List ℕ)) {given rest left left' : Option (List ℕ)} → IsFileRead quest.holds name given rest left left' → IfOk result IsReadLook
       → LookedText quest.sought name result given rest held held' → LookedNamed quest name result left left' held held'
-  looked_file (Ok look) held held' {given} {rest} {left} {left'} file why text = (
-    told look why,
-    file.of (λ l l'. BeginsWriting (λ given ended part. IsLook quest.sought name look given ended part) l l' held held') (known_begun file.known given rest held held' file.kept text),
-  )
-    where
-      told : (look : Look) → IsReadLook look → MayBeTold quest name look
-      told (Unread reason) why = inl why
-      told Output why = absurd why
-      told look why = tt
+  looked_file (Ok look) held held' {given} {rest} {left} {left'} file why text =
+      (inl why, file.of (λ l l'. BeginsWriting (λ given ended part. IsLook quest.sought name look given ended part) l l' held held') (known_begun file.known given rest held held' file.kept text))
   looked_file (Err error) held held' {given} {rest} {left} {left'} file why text =
       file.of (λ l l'. BeginsWriting Begins l l' held held') (known_begun file.known given rest held held' file.kept text)
 
   -- and what was seen of it begins what tells of it
   look_begins : (look : Look) (left left' held held' : Option (List ℕ)) → IsLookOf quest name look left left' held held' → BeginsLook quest name left left' held held'
-  look_begins look left left' held held' is = by look is.1
-    where
-      whole : (found : Bool) → OfName quest.holds name (λ l l'. BeginsWriting (λ given ended part. IsSeen quest.sought name found given ended part) l l' held held') left left' → BeginsLook quest name left left' held held'
-      whole found seen = named_as quest.holds name (λ l l'. BeginsWriting (λ given ended part. IsSeen quest.sought name found given ended part) l l' held held') (λ l l'. BeginsWriting Begins l l' held held')
-          (λ l l' text. record {
-            given = text.given;
-            ended = text.ended;
-            read = text.read;
-            at_end = text.at_end;
-            is = (text.is.0, seen_begins quest.sought name found text.given text.ended text.is.0 text.is.1, text.is.2);
-          }) left left' seen
-
-      by : (look : Look) → OfName quest.holds name (λ l l'. BeginsWriting (λ given ended part. IsLook quest.sought name look given ended part) l l' held held') left left' → BeginsLook quest name left left' held held'
-      by Clean seen = whole false seen
-      by Found seen = whole true seen
-      by (Unread reason) seen = seen
-      by Output seen = seen
+  look_begins look left left' held held' is =
+      named_as quest.holds name (λ l l'. BeginsWriting (λ given ended part. IsLook quest.sought name look given ended part) l l' held held') (λ l l'. BeginsWriting Begins l l' held held')
+      (λ l l' text. record { given = text.given; ended = text.ended; read = text.read; at_end = text.at_end; is = (text.is.0, look_begun quest.sought name look text.given text.ended text.is.0 text.is.1, text.is.2) }) left left' is.1
 
 -- what a look tells of its file
-pub look_told : {E : Type 0} (X : Type 0) (K : SinkGhosts E) (name : List ℕ) (look : Look) (errors errors' : Errors E) → TellsBytes K errors errors' (concat (look_lines name look)) → ((verdict_of look).all ≡ true → errors' ≡ errors)
+look_told : {E : Type 0} (X : Type 0) (K : SinkGhosts E) (name : List ℕ) (look : Look) (errors errors' : Errors E) → TellsBytes K errors errors' (concat (look_lines name look)) → ((verdict_of look).all ≡ true → errors' ≡ errors)
     → TellsOfFiles {X = X} K (name ∷ []) (Ok (verdict_of look).all) errors errors'
 look_told X K name (Unread reason) errors errors' told quiet = tells_one K (IsUnreadLine (name ∷ [])) errors errors' (unread_line name reason) (name, inl refl, inl (reason, refl)) (subst (TellsBytes K errors errors') (append-nil (unread_line name reason)) told)
 look_told X K name Output errors errors' told quiet = tells_one K (IsUnreadLine (name ∷ [])) errors errors' (output_line name) (name, inl refl, inr refl) (subst (TellsBytes K errors errors') (append-nil (output_line name)) told)
@@ -112,7 +96,7 @@ module _ {E X : Type 0} (K : SinkGhosts E) (quest : Quest) where
   ComesOfLooks names result old new = SeesFiles K quest names result old.0 new.0 old.1 new.1 old.2 new.2
 
   module _ {name : List ℕ} {names : List (List ℕ)} (look : Look) {old mid : SeenState E} (looks : IsLookOf quest name look old.0 mid.0 old.1 mid.1) (lines_told : TellsBytes K old.2 mid.2 (concat (look_lines name look)))
-      (told : TellsOfFiles {X = X} K (name ∷ []) (Ok (verdict_of look).all) old.2 mid.2) where
+      (quiet : (verdict_of look).all ≡ true → mid.2 ≡ old.2) where
     -- what comes of a file, and then of others
     pub looks_more : (result : Result Verdict X) (end : SeenState E) → ComesOfLooks names result mid end → ComesOfLooks (name ∷ names) (also verdicts_joined (verdict_of look) result) old end
     looks_more (Ok verdict) end more =
@@ -125,12 +109,12 @@ module _ {E X : Type 0} (K : SinkGhosts E) (quest : Quest) where
             subst (TellsBytes K old.2 end.2) (sym (concat_both (look_lines name look) lines)) (tells-later K lines_told later),
           );
           begun = (mid.0, mid.1, look_begins quest name look old.0 mid.0 old.1 mid.1 looks, more.begun);
-          told = told_more K name names {X = X} (verdict_of look).all (Ok verdict.all) old.2 mid.2 end.2 told more.told;
+          told = told_more K name names {X = X} (verdict_of look).all (Ok verdict.all) old.2 mid.2 end.2 (look_told X K name look old.2 mid.2 lines_told quiet) more.told;
         }
     looks_more (Err error) end more = record {
       seen = tt;
       begun = (mid.0, mid.1, look_begins quest name look old.0 mid.0 old.1 mid.1 looks, more.begun);
-      told = told_more K name names (verdict_of look).all (Err error) old.2 mid.2 end.2 told more.told;
+      told = told_more K name names (verdict_of look).all (Err error) old.2 mid.2 end.2 (look_told X K name look old.2 mid.2 lines_told quiet) more.told;
     }
 
   -- of none

@@ -1,12 +1,16 @@
--- What a look at a stream says, by what the first call of an iterator over its matches answers, or by what a cover of its words counts.
-use Rattle.acredact.proofs.Common.{Appends-nil, Consumes-nil, CountsRunsWith, CountsThese, Ghosts, IsAtEnd, IsMember, Memory, Occurrence, Patterns, PieceRule, Read, Refused, SinkGhosts, SourceGhosts, StreamError, Write, WriteZero, all-covers, all-made, all_runs, common_steps, counted, is_write_fault, is_write_of_nothing, plain_search, runs_named, shortest}
-use Rattle.std.proofs.Common.{◌≡◌, ◌≢◌, inl, inr, ℕ, ◌<◌, ◌≤◌, List, [], ◌∷◌, Option, true, false, length, map, refl, sym, ap, subst, ◌∙◌, arith, le_refl}
-use Rattle.std.specs.Prelude.{Bool, MatchBool, None, Some, Result, Ok, Err, IfOk, slice_index}
+-- What a look at a text says: for patterns by what the first call of an iterator over its matches answers, or by what a cover of its words counts; for
+-- lines by what a visitor of them leaves.
+use Rattle.acredact.proofs.Common.{Appends, Appends-nil, Appends-trans, AreSearchedFor, Automata, Consumes-nil, CountsRunsWith, CountsThese, Covering, Ghosts, IsMember, Line, LineError, Look, Memory, MutBor, Occurrence, Patterns, PieceRule, Refused, SinkGhosts, SourceGhosts, StartsWith, StreamError, Write, WriteZero, all-covers, all-made, all_runs, common_steps, counted, covering_by, get_or-replicate, is_write_fault, is_write_of_nothing, length-replicate, most_of, or-false, or_assoc, plain_search, rules_of, runs_named, searched_automaton, shortest, stream_lines, words_of}
+use Rattle.std.proofs.Common.{◌≡◌, inl, inr, ℕ, ◌<◌, ◌≤◌, ◌++◌, List, [], ◌∷◌, Option, true, false, drop, length, map, refl, sym, ap, subst, take, ◌∙◌, append-nil, append_assoc, arith, le_refl}
+use Rattle.std.specs.Prelude.{Bool, MatchBool, None, Some, Result, Ok, Err, IfOk, OnErr, OnOk, ◌||◌, replicate, slice_index}
+use Rattle.std.proofs.lemmas.List.{take-append-drop}
 use Rattle.aho_core.specs.Answer.{IsAnswer}
 use Rattle.aho_core.specs.Iteration.{IsNextFind}
+use Rattle.aho_cover.proofs.Copied.{begins_with}
 use Rattle.aho_cover.specs.Covers.{CountsWrittenWith}
 use Rattle.aho_cover.specs.Words.{AreRunsWith}
 use Rattle.aho_devices.specs.Errors.{CountsErrors}
+use Rattle.aho_devices.specs.contracts.write.NowhereSink.TheImpl.{ghosts as of_nowhere}
 use Rattle.aho_stream.specs.FindRuns.{FindsAll, FindsAlong, FindsSoFar}
 use Rattle.aho_stream.specs.Finds.{FindsError, FindsNextInStream}
 use Rattle.aho_stream.specs.Iterators.{CanGoOn}
@@ -14,11 +18,18 @@ use Rattle.aho_stream.specs.Replacing.{IsStreamFault}
 use Rattle.aho_stream.specs.declared.finds.StreamFindIter.{StreamFindIter}
 use Rattle.aho_stream.specs.declared.progress.StreamProgress.{StreamProgress}
 use Rattle.aho_stream.proofs.FindRuns.{find_steps}
-use Rattle.acredact.specs.Looks.{CountsInGiven, IsLookEnd, IsReadLook, LookedText, LooksAt, LooksSo, SomeCounts, look_of, occurs_of, sought}
-use Rattle.acredact.specs.Secrets.{Redactor}
-use Rattle.acredact.proofs.Covered.{occurs_some}
-use Rattle.acredact.proofs.OneFile.{begun_writing}
-use Rattle.acredact.proofs.Redactions.{all_of}
+use Rattle.acredact.specs.Looks.{CountsInGiven, IsLookEnd, LooksAt, LooksSo, SomeCounts, occurs_of, sought, Sought}
+use Rattle.acredact.specs.Secrets.{Redactor, CountsFor}
+use Rattle.acredact.proofs.Redactions.{all_of, occurs_some}
+use Rattle.secret_rules.specs.Covering.{AreLineRuns}
+use Rattle.secret_rules.specs.Visits.{LeavesVisited, StopsWithin, VisitsEach, taken_line}
+use Rattle.secret_rules.specs.declared.line_cover.LineCover.{LineCover}
+use Rattle.secret_rules.specs.declared.visitor.LineVisitor.{Ghosts as VisitorGhosts}
+use Rattle.acredact.specs.Deeds.{BegunAs, SomeStream}
+use Rattle.acredact.specs.Findings.{BeginsFindings, StopsTelling, TellsLine, TellsText, findings_of, is_some_line, is_some_run, labels_of, lines_findings}
+use Rattle.acredact.specs.RuledChecks.{IsByLines}
+use Rattle.acredact.specs.declared.legend.Findings.{Findings}
+use Rattle.acredact.specs.declared.teller.Teller.{Teller}
 
 -- the first find is the answer of the search
 first_answer : (p : Patterns) (bytes : List ℕ) (found : Option Occurrence) → IsNextFind p (plain_search bytes) None found → IsAnswer p (plain_search bytes) found
@@ -60,53 +71,47 @@ looks_memory S r source = record {
   only = tt;
 }
 
--- a count of runs tells of one
-run_of : (number : ℕ) (runs : List Occurrence) → 1 ≤ runs_named number runs → (run : Occurrence) × IsMember runs run
-run_of number [] some = let none : runs_named number [] ≡ 0 = refl in absurd (omega (arith, some, none))
-run_of number (run ∷ runs) some = (run, inl refl)
+-- a look for words says what the counts do, which began at zero
+module _ {R : Type 0} (S : SourceGhosts R) (p : Patterns) (AreSearched : Patterns → Type 0) (of : AreSearched p) (some : 1 ≤ shortest (map length p.words)) (source source' : R) (size : ℕ) (counts : List ℕ)
+    (sized : size ≡ length p.words) (whole : CountsRunsWith S AreSearched true source source' (replicate size 0) counts) where
+  abbrev SomeCounted : Bool → Type 0
+  SomeCounted found = MatchBool found ((number : ℕ) × (number < length counts) × (1 ≤ slice_index counts number)) ((number : ℕ) → number < length counts → slice_index counts number ≡ 0)
 
--- and one is counted
-named_some : (run : Occurrence) (runs : List Occurrence) → IsMember runs run → 1 ≤ runs_named run.pattern runs
-named_some run [] member = absurd member
-named_some run (other ∷ runs) (inl same) = grind (arith, common_steps, ap (λ (o : Occurrence). o.pattern) same)
-named_some run (other ∷ runs) (inr there) = grind (arith, common_steps, named_some run runs there)
-
-module _ {R : Type 0} (S : SourceGhosts R) (p : Patterns) (AreSearched : Patterns → Type 0) (of : AreSearched p) (some : 1 ≤ shortest (map length p.words)) (source source' : R) (zeros counts : List ℕ)
-    (sized : length zeros ≡ length p.words) (zero : (number : ℕ) → number < length zeros → slice_index zeros number ≡ 0) (whole : CountsRunsWith S AreSearched true source source' zeros counts) where
-  abbrev Runs : List Occurrence
-  Runs = all_runs true p whole.given
-
-  runs_are : AreRunsWith true p whole.given Runs
-  runs_are = all-made p whole.given true
-
-  counted_so : CountsThese Runs zeros counts
-  counted_so = whole.counted p Runs of runs_are
-
-  -- a run has a count
-  run_numbered : (run : Occurrence) → IsMember Runs run → run.pattern < length zeros
-  run_numbered run member = let is_run = (runs_are.members run).0 member in omega (arith, is_run.named, is_run.longest_is.0.0.occurs.numbered, sized)
-
-  -- so a look for words says what the counts do
-  pub looks_counted : (found : Bool) → MatchBool found ((number : ℕ) × (number < length counts) × (1 ≤ slice_index counts number)) ((number : ℕ) → number < length counts → slice_index counts number ≡ 0)
-      → LooksAt S (sought p true) (Ok found) source source'
-  looks_counted found counted = record { given = whole.given; ended = true; gives = whole.gives; seen = by found counted; only = tt }
+  pub looks_counted : (found : Bool) → SomeCounted found → LooksAt S (sought p true) (Ok found) source source'
+  looks_counted found tells = record {
+    given = whole.given;
+    ended = true;
+    gives = whole.gives;
+    seen = by found (all_runs true p whole.given) runs_are (whole.counted p (all_runs true p whole.given) of runs_are) covered tells;
+    only = tt;
+  }
     where
-      by : (found : Bool) → MatchBool found ((number : ℕ) × (number < length counts) × (1 ≤ slice_index counts number)) ((number : ℕ) → number < length counts → slice_index counts number ≡ 0)
-          → CountsInGiven (sought p true) found whole.given true
-      by true (number, within, one) = λ bytes may.
-          let below : number < length zeros = omega (arith, within, counted_so.as_many) in
-          let (run, member) = run_of number Runs (omega (arith, one, counted_so.grown number below, zero number below)) in
-          let is_run = (runs_are.members run).0 member in
+      runs_are : AreRunsWith true p whole.given (all_runs true p whole.given)
+      runs_are = all-made p whole.given true
+
+      -- what counts lies in a run
+      covered : (m : Occurrence) → CountsFor (sought p true) whole.given m → (run : Occurrence) × IsMember (all_runs true p whole.given) run
+      covered m word =
+          let full = occurs_some p some whole.given 0 m word.occurs in
+          let run = (all-covers p whole.given true).has m.start (record { found = m; member = word; after_start = le_refl m.start; before_end = full }) in
+          (run.found, run.member)
+
+      by : (found : Bool) (runs : List Occurrence) → AreRunsWith true p whole.given runs → CountsThese runs (replicate size 0) counts → ((m : Occurrence) → CountsFor (sought p true) whole.given m → (run : Occurrence) × IsMember runs run)
+          → SomeCounted found → CountsInGiven (sought p true) found whole.given true
+      by true [] are these has (number, within, one) =
+          let many : length counts ≡ size = these.as_many ∙ length-replicate {A = ℕ} size 0 in
+          let none : runs_named number [] ≡ 0 = refl in
+          absurd (omega (arith, one, none, these.grown number (omega (arith, within, these.as_many)), get_or-replicate {A = ℕ} size number 0 0 (omega (arith, within, many))))
+      by true (run ∷ runs) are these has some_counted = λ bytes may.
+          let is_run = (are.members run).0 (inl refl) in
           subst (λ (l : List ℕ). SomeCounts (sought p true) l) (sym (all_of whole.given bytes may)) (is_run.longest, is_run.longest_is.0.0)
-      by false none = (
-        refl,
-        λ m word.
-            let full = occurs_some p some whole.given 0 m word.occurs in
-            let covered = (all-covers p whole.given true).has m.start (record { found = m; member = word; after_start = le_refl m.start; before_end = full }) in
-            let run = covered.found in
-            let within = run_numbered run covered.member in
-            omega (arith, named_some run Runs covered.member, counted_so.grown run.pattern within, zero run.pattern within, none run.pattern (omega (arith, within, counted_so.as_many))),
-      )
+      by false [] are these has none = (refl, λ m word. (has m word).1)
+      by false (run ∷ runs) are these has none =
+          let is_run = (are.members run).0 (inl refl) in
+          let within : run.pattern < size = omega (arith, is_run.named, is_run.longest_is.0.0.occurs.numbered, sized) in
+          let many : length counts ≡ size = these.as_many ∙ length-replicate {A = ℕ} size 0 in
+          let one : 1 ≤ runs_named run.pattern (run ∷ runs) = grind (arith, common_steps) in
+          absurd (omega (arith, one, these.grown run.pattern (omega (arith, within, many, these.as_many)), get_or-replicate {A = ℕ} size run.pattern 0 0 within, none run.pattern (omega (arith, within, many))))
 
 -- why a cover that writes to nowhere ends early
 fault_looks : (error : StreamError) → IsStreamFault error → 0 ≡ counted (is_write_fault {A = Unit {0}} (Err error)) 0 → 0 ≡ counted (is_write_of_nothing {A = Unit {0}} (Err error)) 0 → IsLookEnd error
@@ -115,34 +120,104 @@ fault_looks (Write fault) is failed nothing = absurd (omega (arith, failed))
 fault_looks WriteZero is failed nothing = absurd (omega (arith, nothing))
 fault_looks error is failed nothing = tt
 
-pub looks_cut : {R W : Type 0} (S : SourceGhosts R) (K : SinkGhosts W) (p : Patterns) (AreSearched : Patterns → Type 0) (rule : PieceRule) (source source' : R) (sink sink' : W) (counts counts' : List ℕ) (error : StreamError)
-    → CountsWrittenWith S K AreSearched true rule source source' sink sink' counts counts' → CountsErrors {A = Unit {0}} S K source source' sink sink' (Err error) → IsStreamFault error
-    → ((sink : W) → K.failures sink ≡ 0) → ((sink : W) → K.empty_writes sink ≡ 0) → LooksAt S (sought p true) (Err error) source source'
-looks_cut S K p AreSearched rule source source' sink sink' counts counts' error written errors is unfailed takes = record {
-  given = written.given;
-  ended = written.ended;
-  gives = written.gives;
-  seen = tt;
-  only = fault_looks error is
-      (sym (unfailed sink') ∙ errors.write_failed ∙ ap (counted (is_write_fault {A = Unit {0}} (Err error))) (unfailed sink))
-      (sym (takes sink') ∙ errors.took_nothing ∙ ap (counted (is_write_of_nothing {A = Unit {0}} (Err error))) (takes sink));
-}
+pub looks_cut : {R : Type 0} (S : SourceGhosts R) (p : Patterns) {AreSearched : Patterns → Type 0} {rule : PieceRule} {source source' : R} {sink sink' : _} {counts counts' : List ℕ} (error : StreamError)
+    → CountsWrittenWith S of_nowhere AreSearched true rule source source' sink sink' counts counts' → CountsErrors {A = Unit {0}} S of_nowhere source source' sink sink' (Err error) → IsStreamFault error → LooksAt S (sought p true) (Err error) source source'
+looks_cut S p error written errors is =
+    record { given = written.given; ended = written.ended; gives = written.gives; seen = tt; only = fault_looks error is errors.write_failed errors.took_nothing }
 
 -- what a look at a stream means for its file
-module _ {R : Type 0} (S : SourceGhosts R) (r : Redactor) (source source' : R) (before : Option (List ℕ)) (left : S.remaining source ≡ before) (none : S.empty_reads source ≡ 0)
-    (ends : S.empty_reads source' ≢ 0 → IsAtEnd (S.remaining source')) where
-  pub look_is : (name : List ℕ) (held : Option (List ℕ)) (occurs : Result Bool StreamError) → LooksAt S r occurs source source' → LookedText (inl r) name (look_of occurs) before (S.remaining source') held held
-  look_is name held occurs looks = begun_writing S source source' before left none ends held held looks.given looks.ended [] looks.gives (by occurs looks.seen) (Appends-nil held)
-    where
-      by : (occurs : Result Bool StreamError) → IfOk occurs (λ found. CountsInGiven r found looks.given looks.ended) → LooksSo (inl r) name (look_of occurs) looks.given looks.ended []
-      by (Ok true) seen = seen
-      by (Ok false) seen = seen
-      by (Err (Read fault)) seen = tt
-      by (Err error) seen = tt
+pub looked_stream : {R X : Type 0} (S : SourceGhosts R) {r : Redactor} (name : List ℕ) (held : Option (List ℕ)) {source source' : R} (occurs : Result Bool StreamError) (result : Result Look X)
+    → ((given : List ℕ) (ended : Bool) → IfOk occurs (λ found. CountsInGiven r found given ended) → LooksSo (inl r) name result given ended []) → LooksAt S r occurs source source'
+    → SomeStream S (BegunAs (λ given ended part. LooksSo (inl r) name result given ended part) held held) source source'
+looked_stream S name held occurs result so looks = record { given = looks.given; ended = looks.ended; gives = looks.gives; is = ([], so looks.given looks.ended looks.seen, Appends-nil held) }
 
--- it is told that one cannot be read just where a read fails or there is too much
-pub look_reads : (occurs : Result Bool StreamError) → IfOk (look_of occurs) IsReadLook
-look_reads (Ok true) = tt
-look_reads (Ok false) = tt
-look_reads (Err (Read fault)) = tt
-look_reads (Err error) = tt
+-- what there is to tell of some lines, from what was found before them
+abbrev all_findings : Findings → List (List Occurrence) → List ℕ
+all_findings findings runs = lines_findings (labels_of findings.legend) findings.name.now findings.line runs
+
+module _ {A W : Type 0} (K : SinkGhosts W) (L : VisitorGhosts (Teller W)) (cover : LineCover A)
+    (tells : (visitor visitor' : Teller W) (line : Line) (runs : List Occurrence) → L.visits visitor visitor' line runs → TellsLine K visitor.output visitor'.output visitor.findings visitor'.findings runs)
+    (stops : (visitor visitor' : Teller W) (line : Line) (runs : List Occurrence) (error : StreamError) → L.stops visitor visitor' line runs error → StopsTelling K visitor.output visitor'.output visitor.findings runs) where
+  -- a part of it was told, which leaves this rest, and whether something was found by then
+  record HasTold (findings : Findings) (output output' : MutBor W) (runs : List (List Occurrence)) (rest : List ℕ) (found : Bool) : Type 0 where
+    same : output'.ghost_name ≡ output.ghost_name
+    part : List ℕ
+    are : all_findings findings runs ≡ part ++ rest
+    told : Appends (K.taken output.now) (K.taken output'.now) part
+    found_is : found ≡ (findings.found || is_some_line runs)
+
+  -- all was told of some lines, and then so much of others
+  told_then : (visitor visitor' : Teller W) (lines : List Line) (runs more : List (List Occurrence)) {output : MutBor W} {rest : List ℕ} {found : Bool} → VisitsEach L (most_of cover) visitor visitor' lines runs
+      → HasTold visitor'.findings visitor'.output output more rest found → HasTold visitor.findings visitor.output output (runs ++ more) rest found
+  told_then visitor visitor' [] [] more {output} {rest} {found} is later = subst (λ (v : Teller W). HasTold v.findings v.output output more rest found) is later
+  told_then visitor visitor' (line ∷ lines) (own ∷ runs) more {output} {rest} {found} (next, visits, others) later =
+      let one = tells visitor next (taken_line (most_of cover) line) own visits in
+      let behind = told_then next visitor' lines runs more others later in
+      let mine = findings_of visitor.findings own in
+      record {
+        same = behind.same ∙ one.same;
+        part = mine ++ behind.part;
+        are = ap (λ (l : List ℕ). mine ++ l) (ap (λ (f : Findings). all_findings f (runs ++ more)) (sym one.behind) ∙ behind.are) ∙ sym (append_assoc mine behind.part rest);
+        told = Appends-trans (K.taken visitor.output.now) (K.taken next.output.now) (K.taken output.now) mine behind.part one.told behind.told;
+        found_is = behind.found_is ∙ ap (λ (f : Findings). f.found || is_some_line (runs ++ more)) one.behind ∙ or_assoc visitor.findings.found (is_some_run own) (is_some_line (runs ++ more));
+      }
+  told_then visitor visitor' _ _ more is later = absurd is
+
+  told_all : (visitor visitor' : Teller W) (lines : List Line) (runs : List (List Occurrence)) → VisitsEach L (most_of cover) visitor visitor' lines runs
+      → HasTold visitor.findings visitor.output visitor'.output runs [] visitor'.findings.found
+  told_all visitor visitor' lines runs visits =
+      subst (λ (l : List (List Occurrence)). HasTold visitor.findings visitor.output visitor'.output l [] visitor'.findings.found) (append-nil runs)
+      (told_then visitor visitor' lines runs [] visits (record { same = refl; part = []; are = refl; told = Appends-nil (K.taken visitor'.output.now); found_is = sym (or-false visitor'.findings.found) }))
+
+  -- of the last line it may be a beginning
+  told_some : (visitor visitor' : Teller W) (lines : List Line) (runs : List (List Occurrence)) (error : LineError) → StopsWithin L (most_of cover) visitor visitor' lines runs error
+      → (rest : List ℕ) × (found : Bool) × HasTold visitor.findings visitor.output visitor'.output runs rest found
+  told_some visitor visitor' lines runs error (inl all) = ([], visitor'.findings.found, told_all visitor visitor' lines runs all.0)
+  told_some visitor visitor' lines runs error (inr last) =
+      let stop = stops last.between visitor' (taken_line (most_of cover) last.line) last.own last.cause last.stops in
+      let mine = findings_of last.between.findings last.own in
+      let count = stop.begun.0 in
+      let found = last.between.findings.found || is_some_line (last.own ∷ []) in (
+        drop count mine,
+        found,
+        subst (λ (l : List (List Occurrence)). HasTold visitor.findings visitor.output visitor'.output l (drop count mine) found) (sym last.runs_are)
+            (told_then visitor last.between last.first last.more (last.own ∷ []) last.visits
+            (record { same = stop.same; part = take count mine; are = append-nil mine ∙ sym (take-append-drop count mine); told = stop.begun.2; found_is = refl })),
+      )
+
+  module _ {R : Type 0} (G : Automata A) (S : SourceGhosts R) (visitor visitor' : Teller W) {s : Sought} (by : IsByLines G cover visitor.findings.legend s) (source source' : R) (line : visitor.findings.line ≡ 1) (unfound : visitor.findings.found ≡ false) where
+    -- from the first line on
+    from_first : (runs : List (List Occurrence)) → all_findings visitor.findings runs ≡ lines_findings by.lines.labels visitor.findings.name.now 1 runs
+    from_first runs = rw (by.labels, line) refl
+
+    are_by : (lines : List Line) (runs : List (List Occurrence)) → AreLineRuns (covering_by (words_of cover) (rules_of cover) (most_of cover) by.lines.covering.patterns) [] lines runs → AreLineRuns by.lines.covering [] lines runs
+    are_by lines runs are = subst (λ (c : Covering). AreLineRuns c [] lines runs) (sym by.covers) are
+
+    -- what comes of a text, by what the visits of its lines leave
+    pub looked_lines : {X : Type 0} (done : Result (Unit {0}) LineError) (result : Result Look X)
+        → ((given part : List ℕ) (ended : Bool) → OnOk done (TellsText by.lines visitor.findings.name.now visitor'.findings.found given ended part) → OnErr done (BeginsFindings by.lines visitor.findings.name.now given ended part)
+        → LooksSo (inr by.lines) visitor.findings.name.now result given ended part) → LeavesVisited S L (AreSearchedFor G (searched_automaton cover)) (words_of cover) (rules_of cover) (most_of cover) source source' visitor visitor' done
+        → (visitor'.output.ghost_name ≡ visitor.output.ghost_name)
+        × SomeStream S (BegunAs (λ given ended part. LooksSo (inr by.lines) visitor.findings.name.now result given ended part) (K.taken visitor.output.now) (K.taken visitor'.output.now)) source source'
+    looked_lines (Ok tt) result so leaves =
+        let whole = leaves.visited in
+        let all = told_all visitor visitor' (stream_lines whole.given) whole.runs whole.visits in
+        let is : TellsText by.lines visitor.findings.name.now visitor'.findings.found whole.given true all.part = record {
+          whole = refl;
+          runs = whole.runs;
+          are = are_by (stream_lines whole.given) whole.runs (whole.runs_are by.lines.covering.patterns by.searched);
+          found_is = all.found_is ∙ ap (λ (b : Bool). b || is_some_line whole.runs) unfound;
+          told = sym (append-nil all.part) ∙ sym all.are ∙ from_first whole.runs;
+        } in
+        (all.same, record { given = whole.given; ended = true; gives = whole.gives; is = (all.part, so whole.given all.part true is tt, all.told) })
+    looked_lines (Err error) result so leaves =
+        let begun = leaves.begun in
+        let (rest, found, some) = told_some visitor visitor' begun.lines begun.runs error begun.stops in
+        let is : BeginsFindings by.lines visitor.findings.name.now begun.given begun.ended some.part = record {
+          lines = begun.lines;
+          runs = begun.runs;
+          are = are_by begun.lines begun.runs (begun.runs_are by.lines.covering.patterns by.searched);
+          first = begun.first;
+          begins = subst (λ (l : List ℕ). StartsWith l some.part) (sym some.are ∙ from_first begun.runs) (begins_with some.part rest);
+        } in
+        (some.same, record { given = begun.given; ended = begun.ended; gives = begun.gives; is = (some.part, so begun.given some.part begun.ended tt is, some.told) })

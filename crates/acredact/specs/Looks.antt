@@ -1,27 +1,23 @@
 -- What a check looks for in texts, and what it sees of one and tells of it.
-use Rattle.acredact.specs.Common.{Ghosts, MayBe, Memory, Occurrence, Patterns, PositionLimit, Read, ReadFault, SourceGave, SourceGhosts, Standard, StreamError, TooLong}
+use Rattle.acredact.specs.Common.{Ghosts, MayBe, Memory, Occurrence, Patterns, PositionLimit, Read, ReadFault, SourceGave, SourceGhosts, StreamError, TooLong}
 use Rattle.std.specs.Prelude.{◌≡◌, ◌⊎◌, ℕ, ◌||◌, ◌&&◌, Bool, MatchBool, true, false, List, [], ◌∷◌, Option, None, Some, Result, Ok, Err, IfErr, IfOk, alloc_error}
 use mathlib.Core.Logic.{inl, inr}
 use Rattle.std.specs.declared.alloc.AllocError.{AllocError}
 use Rattle.aho_core.specs.declared.error.stream.StreamError.TheVariants.{Match, Write, WriteZero}
-use Rattle.aho_stream.specs.StreamRun.{CanBegin}
 use Rattle.secret_rules.specs.declared.error.LineError.{LineError}
 use Rattle.secret_rules.specs.declared.error.LineError.TheVariants.{Stream}
 use Rattle.acredact.specs.Faults.{IsReadReason}
 use Rattle.acredact.specs.Files.{BeginsWriting, unread_line}
 use Rattle.acredact.specs.Findings.{BeginsFindings, LineSought, TellsText}
 use Rattle.acredact.specs.Messages.{output_line}
-use Rattle.acredact.specs.Secrets.{CountsFor, Redactor, redactor_by}
+use Rattle.acredact.specs.Secrets.{CanDoStreams, CountsFor, Redactor, redactor_by}
 use Rattle.acredact.specs.declared.look.Look.{Look}
 use Rattle.acredact.specs.declared.look.Look.TheVariants.{Clean, Found, Output, Unread}
 use Rattle.acredact.specs.declared.look.Verdict.{Verdict}
 
 -- an automaton of some patterns can search streams, for all that occurs or for words
-pub record CanLook {A : Type 0} (G : Ghosts A) (automaton : A) (words : Bool) : Type 0 where
-  pub patterns : Patterns
-  pub of : G.is_of automaton patterns
-  pub begins : CanBegin G automaton
-  pub standard : words ≡ true → G.kind automaton ≡ Standard
+abbrev pub CanLook : {A : Type 0} → Ghosts A → A → (words : Bool) → Type 0
+CanLook G automaton words = CanDoStreams G automaton words (Unit {0})
 
 -- what counts for a check counts for a cover: all that occurs, or words alone
 abbrev pub sought : Patterns → (words : Bool) → Redactor

@@ -117,10 +117,14 @@ IsWrittenUpTo r given ended place held held' = (text : List ℕ) (ranges : List 
     → MayBe given ended text → AreReplaced r text ranges
     → Appends held held' (covered_up_to text place 0 ranges (piece_in (rule_of r) text))
 
--- an automaton of some patterns can search streams, or cover them, and there are as many replacements
-pub record CanRedact {A : Type 0} (G : Ghosts A) (automaton : A) (covers : Bool) (replacements : List (Bor (List ℕ))) : Type 0 where
+-- an automaton of some patterns can search streams, or cover them, and this is so besides
+pub record CanDoStreams {A : Type 0} (G : Ghosts A) (automaton : A) (covers : Bool) (Besides : Type 0) : Type 0 where
   pub patterns : Patterns
   pub of : G.is_of automaton patterns
   pub begins : CanBegin G automaton
   pub standard : covers ≡ true → G.kind automaton ≡ Standard
-  pub one_each : length replacements ≡ length (G.lengths automaton)
+  pub besides : Besides
+
+-- for a redaction there are as many replacements
+abbrev pub CanRedact : {A : Type 0} → Ghosts A → A → (covers : Bool) → List (Bor (List ℕ)) → Type 0
+CanRedact G automaton covers replacements = CanDoStreams G automaton covers (length replacements ≡ length (G.lengths automaton))

@@ -1,10 +1,11 @@
 //! What is looked for in texts: patterns, or what counts of them.
 
-ghost use Rattle.std.specs.Prelude.{◌≡◌, ◌<◌, ◌≤◌, ℕ, IfErr, IfOk, MatchBool, length, slice_index, true, false};
+ghost use Rattle.std.specs.Prelude.{◌≡◌, ◌<◌, ◌≤◌, ℕ, Bool, List, [], IfErr, IfOk, MatchBool, length, slice_index, true, false};
+ghost use mathlib.Core.Logic.{inl};
 ghost use Rattle.chromesquid.specs.Searcher.{ForItsPatterns};
 ghost use Rattle.tool_parts.specs.Streams.{bytes_left};
-ghost use Rattle.acredact.specs.Looks.{CanLook, IsLookEnd, IsReadLook, LookedText, LooksAt, Sought, look_of, occurs_of, sought};
-ghost use Rattle.acredact.specs.Secrets.{IfOf};
+ghost use Rattle.acredact.specs.Looks.{CanLook, CountsInGiven, IsLookEnd, IsReadLook, LookedText, LooksAt, LooksSo, Sought, look_of, occurs_of, sought};
+ghost use Rattle.acredact.specs.Secrets.{IfOf, Redactor};
 
 use crate::look::Look;
 use chromesquid::any::{PatternPieces, StreamCoverStart, StreamStart, cover_with};
@@ -69,6 +70,9 @@ impl Looker for ByPatterns<'_> {
 fn look_of(occurs: Result<bool, StreamError>) -> Result<Look, AllocError>
     requires ends { IfErr occurs IsLookEnd }
     ensures look { result ≡ look_of occurs }
+    ensures only { IfOk result IsReadLook }
+    ensures so { (r : Redactor) (name given : List ℕ) (ended : Bool)
+        → IfOk occurs (λ found. CountsInGiven r found given ended) → LooksSo (inl r) name result given ended [] }
 {
     match occurs {
         Ok(true) => Ok(Look::Found),

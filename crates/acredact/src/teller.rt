@@ -1,12 +1,12 @@
 //! A look at the lines of texts, which tells by which patterns and rules something is covered in them.
 
-ghost use Rattle.std.specs.Prelude.{◌≡◌, IfErr, OnErr, OnOk};
+ghost use Rattle.std.specs.Prelude.{◌≡◌, ℕ, Bool, List, IfErr, IfOk, OnErr, OnOk};
 ghost use Rattle.std.specs.Io.KnownBytes.{Appends};
 ghost use Rattle.aho_devices.specs.Counts.{AppendsBeginning};
 ghost use Rattle.secret_rules.specs.Visitors.{IsVisitRefusal};
 ghost use Rattle.acredact.specs.Counts.{PutsText};
 ghost use Rattle.acredact.specs.Findings.{findings_of, is_new, next_finding, runs_findings, with_new};
-ghost use Rattle.acredact.specs.Looks.{look_of_lines};
+ghost use Rattle.acredact.specs.Looks.{BeginsToTell, IsReadLook, IsSeen, LooksSo, Sought, look_of_lines};
 
 use crate::legend::{Findings, Legend, numbers_in, put_finding, told_for};
 use crate::look::Look;
@@ -63,6 +63,10 @@ impl<A: Automaton> Looker for ByLines<'_, '_, '_, '_, A> {
 /// ends the program.
 fn look_of_lines(done: Result<(), LineError>, found: bool) -> Result<Look, LineError>
     ensures look { result ≡ look_of_lines done found }
+    ensures only { IfOk result IsReadLook }
+    ensures so { (s : Sought) (name given part : List ℕ) (ended : Bool)
+        → OnOk done (IsSeen s name found given ended part)
+        → OnErr done (BeginsToTell s name given ended part) → LooksSo s name result given ended part }
 {
     match done {
         Ok(()) if found => Ok(Look::Found),

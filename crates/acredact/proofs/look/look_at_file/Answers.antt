@@ -6,7 +6,7 @@ use Rattle.acredact.proofs.OneFile.{read_input, read_opened}
 use Rattle.acredact.proofs.look.look_at_file.Goals as goal
 
 pub returns-then-is_output-clause-looks : goal.returns-then-is_output-clause-looks
-returns-then-is_output-clause-looks g c = λ s by. (search rules, look_none (quest_of g.F.Folder c.args.files.now s) c.args.name.now _ _)
+returns-then-is_output-clause-looks g c = λ s by. (inr (search rules), look_none (quest_of g.F.Folder c.args.files.now s) c.args.name.now _ _)
 
 pub returns-then-is_input-clause-looks : goal.returns-then-is_input-clause-looks
 returns-then-is_input-clause-looks g c = λ s by.

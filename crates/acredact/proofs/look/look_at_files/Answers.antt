@@ -5,7 +5,7 @@ use Rattle.std.specs.Prelude.{Err}
 use Rattle.std.proofs.lemmas.List.{at_drop_all, at_drop_more}
 use Rattle.acredact.specs.Checks.{quest_of}
 use Rattle.acredact.specs.Looks.{both_seen}
-use Rattle.acredact.proofs.LookedFiles.{look_told, looks_failed, looks_more, looks_of_none}
+use Rattle.acredact.proofs.LookedFiles.{looks_failed, looks_more, looks_of_none}
 use Rattle.acredact.proofs.Turns.{turn_end, turn_fails, turn_first, turn_next}
 use Rattle.acredact.proofs.look.look_at_files.Goals as goal
 
@@ -15,11 +15,10 @@ loop-name-init g c = λ s by. (by, turn_first)
 pub loop-name-preserved : goal.loop-name-preserved
 loop-name-preserved g c = λ s by.
     let (now, turn) = c.loop-name.invariant s by in
-    let one = c.in_ok-look.ensures in
-    let told = look_told g.row.L-Error.Denot g.E.Sink _ c.in_ok-look.look _ _ c.tell_look.ensures.told c.tell_look.ensures.quiet in (
+    let one = c.in_ok-look.ensures in (
       one.still s now,
       turn_next turn (at_drop_more name_bytes c.args.files.now.names.now c.loop-name.name-index _ c.loop-name-test.true) (c.both_seen-verdict.ensures.both ∙ ap (both_seen c.loop-name.verdict) c.verdict_of.ensures.seen)
-          (looks_more g.E.Sink (quest_of g.F.Folder c.args.files.now s) c.in_ok-look.look (one.looks s now) c.tell_look.ensures.told told),
+          (looks_more g.E.Sink (quest_of g.F.Folder c.args.files.now s) c.in_ok-look.look (one.looks s now) c.tell_look.ensures.told c.tell_look.ensures.quiet),
     )
 
 pub returns-in_err-look : goal.returns-in_err-look

@@ -1,18 +1,12 @@
 -- Memory alone may be wanting before the cover, and what it writes to never fails.
-use Rattle.acredact.proofs.Common.{Memory, get_or-replicate, length-map, length-replicate}
-use Rattle.std.proofs.Common.{rules, ◌≡◌, ◌∙◌, ◌<◌, ℕ, List, true, length, refl, ap, sym, subst, arith}
-use Rattle.std.specs.Prelude.{Err, replicate, slice_index}
-use Rattle.aho_devices.specs.contracts.write.NowhereSink.TheImpl.{ghosts as NowhereGhosts}
+use Rattle.acredact.proofs.Common.{Memory, length-map}
+use Rattle.std.proofs.Common.{rules, ◌≡◌, ◌∙◌, true, length, refl, ap, sym, subst}
+use Rattle.std.specs.Prelude.{Err, replicate}
 use Rattle.acredact.specs.Looks.{sought}
 use Rattle.acredact.proofs.Looks.{looks_counted, looks_cut, looks_memory}
 use Rattle.acredact.proofs.Redactions.{some_of}
 use Rattle.acredact.proofs.Suited.{only_memory}
 use Rattle.acredact.proofs.looker.stands_in.Goals as goal
-
--- counts that begin at zero
-all_zero : (zeros : List ℕ) (n : ℕ) → zeros ≡ replicate n 0 → (number : ℕ) → number < length zeros → slice_index zeros number ≡ 0
-all_zero zeros n are number within =
-    ap (λ (l : List ℕ). slice_index l number) are ∙ get_or-replicate n number 0 0 (omega (arith, within, ap length are, length-replicate {A = ℕ} n 0))
 
 pub returns-in_err-start : goal.returns-in_err-start
 returns-in_err-start g c =
@@ -27,26 +21,19 @@ returns-in_err-counts g c =
 
 pub returns-in_err-cover_with : goal.returns-in_err-cover_with
 returns-in_err-cover_with g c =
-    let start = c.in_ok-start.start in
     let call = c.in_err-cover_with in
     let is : c.from_residual-in_err-cover_with.result ≡ Err call.field-0.0 = search rules in
     let written = rw c.in_ok-start.ensures.unbegun.chosen at call.ensures.counted.begun in
-    record {
-      looks = λ p of. rw is
-          (looks_cut g.R.Source NowhereGhosts p (g.A.Automaton.is_of start.automaton.now) _ _ _ _ _ _ _ call.field-0.0 written call.ensures.errors call.ensures.only (λ sink. refl) (λ sink. refl));
-    }
+    record { looks = λ p of. rw is (looks_cut g.R.Source p call.field-0.0 written call.ensures.errors call.ensures.only) }
 
 pub returns : goal.returns
 returns g c =
     let start = c.in_ok-start.start in
-    let call = c.in_ok-cover_with in
-    let zeros = c.as_mut_slice-tally.result.now in
-    let are : zeros ≡ replicate c.patterns_len.result 0 = c.as_mut_slice-tally.ensures.value ∙ c.in_ok-counts.ensures.items_if_clones_equal (λ y same. same) in
-    let whole = rw c.in_ok-start.ensures.unbegun.chosen at call.ensures.counted.counted in
+    let are : c.as_mut_slice-tally.result.now ≡ replicate c.patterns_len.result 0 = c.as_mut_slice-tally.ensures.value ∙ c.in_ok-counts.ensures.items_if_clones_equal (λ y same. same) in
+    let whole = rw (c.in_ok-start.ensures.unbegun.chosen, are) at c.in_ok-cover_with.ensures.counted.counted in
     record {
       looks = λ p of.
           let lengths = (g.met.A.Automaton.laws _ _ of).lengths_are in
-          looks_counted g.R.Source p (g.A.Automaton.is_of start.automaton.now) (subst (λ (a : g.row.A.Denot). g.A.Automaton.is_of a p) (sym c.in_ok-start.ensures.of) of) (some_of g.A.Automaton _ p lengths c.requires.ready.begins) _ _ zeros c.cover_with.new.counts
-          (ap length are ∙ length-replicate {A = ℕ} c.patterns_len.result 0 ∙ c.patterns_len.ensures.len ∙ ap length lengths ∙ length-map p.words length) (all_zero zeros c.patterns_len.result are) whole
-          c.is_some_counted.result c.is_some_counted.ensures;
+          looks_counted g.R.Source p (g.A.Automaton.is_of start.automaton.now) (subst (λ (a : g.row.A.Denot). g.A.Automaton.is_of a p) (sym c.in_ok-start.ensures.of) of) (some_of g.A.Automaton _ p lengths c.requires.ready.begins) _ _ c.patterns_len.result _
+          (c.patterns_len.ensures.len ∙ ap length lengths ∙ length-map p.words length) whole c.is_some_counted.result c.is_some_counted.ensures;
     }
