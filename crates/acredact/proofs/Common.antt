@@ -51,6 +51,5 @@ pub use Rattle.acredact.specs.declared.look.Verdict.{Verdict}
 pub use Rattle.acredact.specs.declared.options.Word.TheVariants.{AsWord, Forms, Strict}
 pub use Rattle.acredact.specs.declared.patterns.Form.{Form}
 pub use Rattle.acredact.specs.declared.patterns.Rule.{Rule}
-pub use Rattle.acredact.specs.declared.pseudonym.Pseudonyms.{Pseudonyms}
 pub use Rattle.acredact.specs.declared.streams.Streams.{Streams}
 pub use Rattle.acredact.specs.declared.summary.Volume.{Volume}

@@ -1,24 +1,32 @@
--- Why a piece is not clean, and that it is clean where nothing is found; and that a pseudonym is, where none can spell a pattern.
-use Rattle.acredact.proofs.Common.{common_steps, All, All-cons, All-head, All-nil, All-tail, ArePatterns, Bor, IsCleanPiece, IsMember, NoneHolds, Patterns, folded_by, get_or-map, nil_from_length, pattern_at, pieces_of, folded_word}
-use Rattle.std.proofs.Common.{◌≡◌, inl, inr, ℕ, suc, ◌+◌, ◌-◌, ◌<◌, List, [], ◌∷◌, ◌++◌, Option, true, false, length, get_or, refl, sym, ap, subst, ◌∙◌, arith, below_more, length-drop, take, ◌%◌, drop}
+-- Which pieces are clean: why one is not, that it is where nothing is found, and that a pseudonym is where none can spell a pattern. Where
+-- pieces that are made of runs are clean, nothing occurs in a text whose runs are replaced by them.
+use Rattle.acredact.proofs.Common.{common_steps, All, All-cons, All-head, All-nil, All-tail, ArePatterns, Bor, IsCleanPiece, IsMember, NoneHolds, Occurrence, Patterns, PieceRule, folded_by, folded_word, get_or-map, get_or-replicate, pattern_at, pieces_of, take_all}
+use Rattle.std.proofs.Common.{◌≡◌, inl, inr, ℕ, suc, ◌+◌, ◌-◌, ◌<◌, List, [], ◌∷◌, ◌++◌, Option, true, false, length, get_or, refl, sym, ap, subst, ◌∙◌, append_assoc, arith, below_more, map, take, ◌%◌, drop}
 use Rattle.std.specs.List.{list_all}
-use Rattle.std.specs.Prelude.{Bool, None, Some, if◌then◌else◌, nat_eq, ◌⊎◌, ◌||◌, slice_range}
-use Rattle.std.proofs.lemmas.List.{drop_more, take-append-drop}
-use Rattle.std.proofs.lemmas.Bool.{eqb-true, or_parts}
+use Rattle.std.specs.Prelude.{Bool, None, Some, if◌then◌else◌, nat_eq, ◌||◌, replicate, slice_index_or, slice_range}
+use Rattle.std.proofs.Math.Nat.{mod-lt}
+use Rattle.std.proofs.lemmas.Bool.{and_parts, eqb-true, or_parts}
+use Rattle.std.proofs.lemmas.List.{drop_more, take_more}
 use Rattle.std.proofs.lemmas.List.Elements.{All-weaker, All-drop, All-take}
-use Rattle.std.proofs.lemmas.List.Folds.{Any-from_list_any, list_any_none}
+use Rattle.std.proofs.lemmas.List.Folds.{Any-from_list_any, list_all-map, list_any_none}
+use Rattle.std.proofs.lemmas.List.Sums.{AllPass-from_list_all, list_all-from_AllPass}
+use Rattle.aho_core.specs.Bytes.{folded}
+use Rattle.aho_core.specs.Cover.{AreRuns}
+use Rattle.aho_core.specs.Replacement.{replaced, replaced_by, replaced_from}
+use Rattle.aho_cover.specs.Pieces.{piece_in}
+use Rattle.aho_laws.proofs.CoverClean.{cover-free}
+use Rattle.aho_laws.proofs.JoinedPieces.{clear_joined}
+use Rattle.aho_laws.proofs.SpanTexts.{Occurs-left, Occurs-of_left, Occurs-of_right, Occurs-right, moved_back}
+use Rattle.aho_laws.specs.CoverLaws.{AreClean}
+use Rattle.aho_laws.specs.CutLaws.{moved}
 use Rattle.secret_rules.proofs.Owners.{member-get_or}
+use Rattle.acredact.specs.Hmac.{hmac_sha256}
 use Rattle.acredact.specs.Pieces.{IsFlaw, IsMarked, IsUnclean, WordsAreMarked}
+use Rattle.acredact.specs.Pseudonyms.{as_compared, digit_at, hex_digit, piece_of_digest, pseudonym_rule}
 use Rattle.acredact.specs.Secrets.{NoneOccurs}
 use Rattle.acredact.specs.Spelling.{first_number, holder_in, holds_byte, NoneAreSpelled, is_inside, lies_inside, may_be_spelled}
 use Rattle.acredact.specs.declared.clean.Flaw.{Flaw}
 use Rattle.acredact.specs.declared.clean.Flaw.TheVariants.{Empty, Pseudonym, Spells}
-use Rattle.std.proofs.Math.Nat.{mod-lt}
-use Rattle.std.proofs.lemmas.List.Sums.{AllPass-from_list_all, list_all-from_AllPass}
-use Rattle.aho_core.specs.Bytes.{folded}
-use Rattle.aho_laws.proofs.Members.{member-map, member-of_map}
-use Rattle.acredact.specs.Hmac.{hmac_sha256}
-use Rattle.acredact.specs.Pseudonyms.{as_compared, digit_at, hex_digit, piece_of_digest, pseudonym_rule}
 
 -- a byte that a word holds is a member of it, but for the case rule
 held_member : (ignore_case : Bool) (word : List ℕ) (byte : ℕ) → holds_byte ignore_case word byte ≡ true → (other : ℕ) × IsMember word other × (folded_by ignore_case other ≡ folded_by ignore_case byte)
@@ -58,62 +66,55 @@ module _ (ignore_case : Bool) (byte place : ℕ) (marks : List Bool) (is : place
       ap (λ (b : Bool). if b then Some number else first_number (λ w. holds_byte ignore_case w byte) (number + 1) words) (not_marked word (All-head (λ w. IsMarked ignore_case w marks) word words marked))
       ∙ unmarked (number + 1) words (All-tail (λ w. IsMarked ignore_case w marks) word words marked)
 
--- the first and the last byte of a piece
-first_is : (piece rest : List ℕ) (byte : ℕ) → piece ≡ byte ∷ rest → get_or piece 0 0 ≡ byte
-first_is piece rest byte is = ap (λ (l : List ℕ). get_or l 0 0) is
+-- the last byte of a piece stands behind the others
+last_of : (piece : List ℕ) → 0 < length piece → (front : List ℕ) × (piece ≡ front ++ get_or piece (length piece - 1) 0 ∷ [])
+last_of piece some = let last = length piece - 1 in (take last piece, sym (take_all (last + 1) piece (omega arith)) ∙ take_more piece last 0 (omega (arith, some)))
 
-last_is : (piece front : List ℕ) (byte : ℕ) → piece ≡ front ++ byte ∷ [] → get_or piece (length piece - 1) 0 ≡ byte
-last_is piece front byte is = grind (arith, common_steps)
+module _ (p : Patterns) where
+  -- what a test says of the words
+  none_hold : (byte : ℕ) → ((number : ℕ) → number < length p.words → holds_byte p.ignore_case (pattern_at p number) byte ≡ false) → NoneHolds p byte
+  none_hold byte none number other numbered member same = not_held p.ignore_case (pattern_at p number) other byte (none number numbered) member same
 
-pub last_of : (piece : List ℕ) → 0 < length piece → (front : List ℕ) × (piece ≡ front ++ get_or piece (length piece - 1) 0 ∷ [])
-last_of piece some =
-    let last = length piece - 1 in
-    let none = nil_from_length (drop (last + 1) piece) (omega (arith, some, length-drop (last + 1) piece)) in
-    let behind : drop last piece ≡ get_or piece last 0 ∷ [] = drop_more piece last 0 (omega (arith, some)) ∙ ap (λ (l : List ℕ). get_or piece last 0 ∷ l) none in
-    (take last piece, sym (take-append-drop last piece) ∙ ap (λ (l : List ℕ). take last piece ++ l) behind)
+  one_holds : (byte number : ℕ) → number < length p.words → holds_byte p.ignore_case (pattern_at p number) byte ≡ true → NoneHolds p byte → ⊥
+  one_holds byte number numbered held none = let (other, member, same) = held_member p.ignore_case (pattern_at p number) byte held in none number other numbered member same
 
-module _ (p : Patterns) (ignore_case : Bool) (words : List (List ℕ)) (are : ArePatterns p ignore_case words) where
-  -- what is said of words holds of the patterns
-  holder_is : (byte told : ℕ) → Some told ≡ holder_in ignore_case words byte → (number : ℕ) × (told ≡ number + 1) × (number < length p.words) × (holds_byte p.ignore_case (pattern_at p number) byte ≡ true)
-  holder_is byte told is = rw (are.rule, are.words_are) (subst (IsFirst (λ word. holds_byte ignore_case word byte) 1 words) (sym is) (first_so (λ word. holds_byte ignore_case word byte) 1 words))
-
-  none_holds : (byte : ℕ) → None ≡ holder_in ignore_case words byte → NoneHolds p byte
-  none_holds byte none number other numbered member same =
-      let free : All (λ word. holds_byte p.ignore_case word byte ≡ false) p.words =
-      rw (are.rule, are.words_are) (subst (IsFirst (λ word. holds_byte ignore_case word byte) 1 words) (sym none) (first_so (λ word. holds_byte ignore_case word byte) 1 words)) in
-      not_held p.ignore_case (pattern_at p number) other byte (free number [] numbered) member same
-
-  -- a pattern holds the first byte, or the last
-  pub spells_first : (piece : List ℕ) (byte told : ℕ) → 0 < length piece → byte ≡ get_or piece 0 0 → Some told ≡ holder_in ignore_case words byte → IsFlaw p piece (Spells told)
-  spells_first piece byte told some is holder =
-      let (number, is_told, numbered, held) = holder_is byte told holder in
-      (number, is_told, numbered, inl (byte, drop 1 piece, drop_more piece 0 0 some ∙ ap (λ (b : ℕ). b ∷ drop 1 piece) (sym is), held))
-
-  pub spells_last : (piece : List ℕ) (byte told : ℕ) → 0 < length piece → byte ≡ get_or piece (length piece - 1) 0 → Some told ≡ holder_in ignore_case words byte → IsFlaw p piece (Spells told)
-  spells_last piece byte told some is holder =
-      let last = last_of piece some in
-      let (number, is_told, numbered, held) = holder_is byte told holder in
-      (number, is_told, numbered, inr (inl (byte, last.0, last.1 ∙ ap (λ (b : ℕ). last.0 ++ b ∷ []) (sym is), held)))
-
-  -- none holds either, and nothing occurs
-  pub clean_by : (piece : List ℕ) (first last : ℕ) → 0 < length piece → first ≡ get_or piece 0 0 → last ≡ get_or piece (length piece - 1) 0
-      → None ≡ holder_in ignore_case words first → None ≡ holder_in ignore_case words last → NoneOccurs p piece → IsCleanPiece p piece
-  clean_by piece first last some is_first is_last none_first none_last none = record {
+  clean_from : (piece : List ℕ) → 0 < length piece → NoneHolds p (get_or piece 0 0) → NoneHolds p (get_or piece (length piece - 1) 0) → NoneOccurs p piece → IsCleanPiece p piece
+  clean_from piece some first last none = record {
     some = some;
-    first = λ byte rest is. subst (NoneHolds p) (is_first ∙ first_is piece rest byte is) (none_holds first none_first);
-    last = λ byte front is. subst (NoneHolds p) (is_last ∙ last_is piece front byte is) (none_holds last none_last);
+    first = λ byte rest is. subst (NoneHolds p) (ap (λ (l : List ℕ). get_or l 0 0) is) first;
+    last = λ byte front is. let same : get_or piece (length piece - 1) 0 ≡ byte = grind (arith, common_steps) in subst (NoneHolds p) same last;
     none = none;
   }
 
--- what has a flaw is not clean
-flawed : (p : Patterns) (piece : List ℕ) (flaw : Flaw) → IsFlaw p piece flaw → IsCleanPiece p piece → ⊥
-flawed p piece Empty is clean = absurd (omega (arith, clean.some, ap length is))
-flawed p piece Pseudonym is clean = absurd is
-flawed p piece (Spells told) (number, is, numbered, inl (byte, rest, split, held)) clean =
-    let (other, member, same) = held_member p.ignore_case (pattern_at p number) byte held in clean.first byte rest split number other numbered member same
-flawed p piece (Spells told) (number, is, numbered, inr (inl (byte, front, split, held))) clean =
-    let (other, member, same) = held_member p.ignore_case (pattern_at p number) byte held in clean.last byte front split number other numbered member same
-flawed p piece (Spells told) (number, is, numbered, inr (inr (m, occurs, named))) clean = clean.none m occurs
+  -- what has a flaw is not clean
+  flawed : (piece : List ℕ) (flaw : Flaw) → IsFlaw p piece flaw → IsCleanPiece p piece → ⊥
+  flawed piece Empty is clean = absurd (omega (arith, clean.some, ap length is))
+  flawed piece Pseudonym is clean = absurd is
+  flawed piece (Spells told) (some, number, is, numbered, inl held) clean = one_holds (get_or piece 0 0) number numbered held (clean.first _ _ (drop_more piece 0 0 some))
+  flawed piece (Spells told) (some, number, is, numbered, inr (inl held)) clean = one_holds (get_or piece (length piece - 1) 0) number numbered held (clean.last _ _ (last_of piece some).1)
+  flawed piece (Spells told) (some, number, is, numbered, inr (inr (m, occurs, named))) clean = clean.none m occurs
+
+  module _ (ignore_case : Bool) (words : List (List ℕ)) (are : ArePatterns p ignore_case words) where
+    -- what is said of words holds of the patterns
+    none_holds : (byte : ℕ) → None ≡ holder_in ignore_case words byte → NoneHolds p byte
+    none_holds byte none =
+        let free : All (λ word. holds_byte p.ignore_case word byte ≡ false) p.words =
+        rw (are.rule, are.words_are) (subst (IsFirst (λ word. holds_byte ignore_case word byte) 1 words) (sym none) (first_so (λ word. holds_byte ignore_case word byte) 1 words)) in
+        none_hold byte (λ number numbered. free number [] numbered)
+
+    holder_is : (byte told : ℕ) → Some told ≡ holder_in ignore_case words byte → (number : ℕ) × (told ≡ number + 1) × (number < length p.words) × (holds_byte p.ignore_case (pattern_at p number) byte ≡ true)
+    holder_is byte told is = rw (are.rule, are.words_are) (subst (IsFirst (λ word. holds_byte ignore_case word byte) 1 words) (sym is) (first_so (λ word. holds_byte ignore_case word byte) 1 words))
+
+    -- a pattern holds the first byte, or the last
+    pub spells_first : (piece : List ℕ) (told : ℕ) → 0 < length piece → Some told ≡ holder_in ignore_case words (get_or piece 0 0) → IsFlaw p piece (Spells told)
+    spells_first piece told some is = let (number, is_told, numbered, held) = holder_is (get_or piece 0 0) told is in (some, number, is_told, numbered, inl held)
+
+    pub spells_last : (piece : List ℕ) (told : ℕ) → 0 < length piece → Some told ≡ holder_in ignore_case words (get_or piece (length piece - 1) 0) → IsFlaw p piece (Spells told)
+    spells_last piece told some is = let (number, is_told, numbered, held) = holder_is (get_or piece (length piece - 1) 0) told is in (some, number, is_told, numbered, inr (inl held))
+
+    -- none holds either, and nothing occurs
+    pub clean_by : (piece : List ℕ) → 0 < length piece → None ≡ holder_in ignore_case words (get_or piece 0 0) → None ≡ holder_in ignore_case words (get_or piece (length piece - 1) 0) → NoneOccurs p piece → IsCleanPiece p piece
+    clean_by piece some first last none = clean_from piece some (none_holds (get_or piece 0 0) first) (none_holds (get_or piece (length piece - 1) 0) last) none
 
 module _ (p : Patterns) (pieces : List (Bor (List ℕ))) where
   -- the pieces before a place are clean
@@ -133,30 +134,27 @@ module _ (p : Patterns) (pieces : List (Bor (List ℕ))) where
       let here : IsFlaw p (get_or (pieces_of pieces) at []) flaw = subst (λ (piece : List ℕ). IsFlaw p piece flaw) (piece_at at d below) of in
       record { number = at; told = refl; numbered = omega (arith, below, count); before = before; flaw = here; is_not = flawed p (get_or (pieces_of pieces) at []) flaw here }
 
--- each byte of a pseudonym is its first, its last or one inside
-abbrev is_of_piece : Bool → ℕ → Bool
-is_of_piece ignore_case byte = nat_eq byte 91 || nat_eq byte 93 || is_inside (folded_by ignore_case byte)
+-- each byte of a pseudonym, as it is compared, is its first, its last or one inside
+abbrev is_of_piece : ℕ → Bool
+is_of_piece byte = nat_eq byte 91 || nat_eq byte 93 || is_inside byte
 
-digit_of_piece : (ignore_case : Bool) (value : ℕ) → value < 16 → is_of_piece ignore_case (digit_at value) ≡ true
+digit_of_piece : (ignore_case : Bool) (value : ℕ) → value < 16 → is_of_piece (folded_by ignore_case (digit_at value)) ≡ true
 digit_of_piece ignore_case (suc (suc (suc (suc (suc (suc (suc (suc (suc (suc (suc (suc (suc (suc (suc (suc n)))))))))))))))) below = absurd (omega arith)
 digit_of_piece true value below = refl
 digit_of_piece false value below = refl
 
-hex_of_piece : (ignore_case : Bool) (byte : ℕ) → is_of_piece ignore_case (hex_digit byte) ≡ true
+hex_of_piece : (ignore_case : Bool) (byte : ℕ) → is_of_piece (folded_by ignore_case (hex_digit byte)) ≡ true
 hex_of_piece ignore_case byte = digit_of_piece ignore_case (byte % 16) (mod-lt byte (omega arith))
 
-piece_all : (ignore_case : Bool) (digest : List ℕ) → list_all (is_of_piece ignore_case) (piece_of_digest digest) ≡ true
+piece_all : (ignore_case : Bool) (digest : List ℕ) → list_all (λ byte. is_of_piece (folded_by ignore_case byte)) (piece_of_digest digest) ≡ true
 piece_all true digest = simp (hex_of_piece true) refl
 piece_all false digest = simp (hex_of_piece false) refl
 
-one_of : (a b c : Bool) → (a || b || c) ≡ true → (a ≡ true) ⊎ ((b ≡ true) ⊎ (c ≡ true))
-one_of a b c is = grind arith
-
--- what is so of all is so of each member
-every_member : (P : ℕ → Type 0) (xs : List ℕ) (x : ℕ) → All P xs → IsMember xs x → P x
-every_member P [] x are member = absurd member
-every_member P (y ∷ ys) x are (inl is) = subst P (sym is) (All-head P y ys are)
-every_member P (y ∷ ys) x are (inr member) = every_member P ys x (All-tail P y ys are) member
+-- a word of such bytes that does not hold the first or the last lies inside
+all_inside : (ignore_case : Bool) (word : List ℕ) → holds_byte ignore_case word 91 ≡ false → holds_byte ignore_case word 93 ≡ false → list_all is_of_piece (map (folded_by ignore_case) word) ≡ true → lies_inside ignore_case word ≡ true
+all_inside ignore_case [] first last all = refl
+all_inside true (x ∷ word) first last all = let later : lies_inside true word ≡ true = all_inside true word (or_parts _ _ first).1 (or_parts _ _ last).1 (and_parts _ _ all).1 in grind arith
+all_inside false (x ∷ word) first last all = let later : lies_inside false word ≡ true = all_inside false word (or_parts _ _ first).1 (or_parts _ _ last).1 (and_parts _ _ all).1 in grind arith
 
 module _ (p : Patterns) (unlike : NoneAreSpelled p.ignore_case p.words) where
   -- no pattern holds the first byte of a pseudonym or the last, or lies inside
@@ -167,37 +165,67 @@ module _ (p : Patterns) (unlike : NoneAreSpelled p.ignore_case p.words) where
       grind (arith, or_parts)
 
   -- nothing occurs in a pseudonym
-  none_within : (piece : List ℕ) → list_all (is_of_piece p.ignore_case) piece ≡ true → NoneOccurs p piece
+  none_within : (piece : List ℕ) → list_all (λ byte. is_of_piece (folded p byte)) piece ≡ true → NoneOccurs p piece
   none_within piece are m occurs =
-      let word = pattern_at p m.pattern in
       let part = slice_range piece m.start m.end in
       let (no_first, no_last, outside) = unlike_each m.pattern occurs.numbered in
-      let inside : (byte : ℕ) → IsMember word byte → is_inside (folded p byte) ≡ true = λ byte member.
-      let there : IsMember (folded_word p part) (folded p byte) = subst (λ (bytes : List ℕ). IsMember bytes (folded p byte)) occurs.same (member-map (folded p) word byte member) in
-      let (other, in_part, same) = member-of_map (folded p) part (folded p byte) there in
-      let IsOf = λ (b : ℕ). is_of_piece p.ignore_case b ≡ true in
-      let of = every_member IsOf part other (All-take IsOf (m.end - m.start) (drop m.start piece) (All-drop IsOf m.start piece (AllPass-from_list_all (is_of_piece p.ignore_case) piece are))) in_part in
-      elim (one_of (nat_eq other 91) (nat_eq other 93) (is_inside (folded p other)) of) [
-        | inl first ↦ absurd (not_held p.ignore_case word byte 91 no_first member (same ∙ ap (folded p) (eqb-true other 91 first)))
-        | inr (inl last) ↦ absurd (not_held p.ignore_case word byte 93 no_last member (same ∙ ap (folded p) (eqb-true other 93 last)))
-        | inr (inr stands) ↦ ap is_inside same ∙ stands
-      ] in
-      let clash : false ≡ true = sym outside ∙ list_all-from_AllPass (λ byte. is_inside (folded_by p.ignore_case byte)) word (λ k d within. inside (get_or word k d) (member-get_or word k d within)) in cc
-
-  none_first : NoneHolds p 91
-  none_first number other numbered member same = not_held p.ignore_case (pattern_at p number) other 91 (unlike_each number numbered).0 member same
-
-  none_last : NoneHolds p 93
-  none_last number other numbered member same = not_held p.ignore_case (pattern_at p number) other 93 (unlike_each number numbered).1 member same
-
-  piece_clean : (digest : List ℕ) → IsCleanPiece p (piece_of_digest digest)
-  piece_clean digest = record {
-    some = omega arith;
-    first = λ byte rest is. subst (NoneHolds p) (first_is (piece_of_digest digest) rest byte is) none_first;
-    last = λ byte front is. subst (NoneHolds p) (last_is (piece_of_digest digest) front byte is) none_last;
-    none = none_within (piece_of_digest digest) (piece_all p.ignore_case digest);
-  }
+      let test = λ (byte : ℕ). is_of_piece (folded p byte) in
+      let IsOf = λ (byte : ℕ). test byte ≡ true in
+      let of_part = list_all-from_AllPass test part (All-take IsOf (m.end - m.start) (drop m.start piece) (All-drop IsOf m.start piece (AllPass-from_list_all test piece are))) in
+      let all : list_all is_of_piece (folded_word p (pattern_at p m.pattern)) ≡ true = ap (list_all is_of_piece) occurs.same ∙ list_all-map is_of_piece (folded p) part ∙ of_part in
+      let clash : false ≡ true = sym outside ∙ all_inside p.ignore_case (pattern_at p m.pattern) no_first no_last all in cc
 
   -- each pseudonym is clean
   pub pseudonyms_clean : (ignore_case : Bool) (key : List ℕ) (number : ℕ) (bytes : List ℕ) → number < length p.words → IsCleanPiece p (pseudonym_rule ignore_case key number bytes)
-  pseudonyms_clean ignore_case key number bytes numbered = piece_clean (hmac_sha256 key (as_compared ignore_case bytes))
+  pseudonyms_clean ignore_case key number bytes numbered =
+      let digest = hmac_sha256 key (as_compared ignore_case bytes) in
+      clean_from p (piece_of_digest digest) (omega arith) (none_hold p 91 (λ other there. (unlike_each other there).0)) (none_hold p 93 (λ other there. (unlike_each other there).1)) (none_within _ (piece_all p.ignore_case digest))
+
+module _ (p : Patterns) where
+  -- what occurs in a part of a text occurs in it
+  free_left : (left right : List ℕ) → NoneOccurs p (left ++ right) → NoneOccurs p left
+  free_left left right free m occurs = free m (Occurs-of_left p left right m occurs)
+
+  free_right : (left right : List ℕ) → NoneOccurs p (left ++ right) → NoneOccurs p right
+  free_right left right free m occurs = free (moved (length left) m) (Occurs-of_right p left right m occurs)
+
+  -- one clean piece for all patterns
+  abbrev alike : List ℕ → List (List ℕ)
+  alike piece = replicate (length p.words) piece
+
+  alike_clean : (piece : List ℕ) → IsCleanPiece p piece → AreClean p (alike piece)
+  alike_clean piece is number numbered = subst (IsCleanPiece p) (sym (get_or-replicate (length p.words) number piece [] numbered)) is
+
+  abbrev alike_in : List ℕ → Occurrence → List ℕ
+  alike_in piece run = slice_index_or (alike piece) run.pattern []
+
+  module _ (rule : PieceRule) (clean : (number : ℕ) (bytes : List ℕ) → number < length p.words → IsCleanPiece p (rule number bytes)) (haystack some : List ℕ) (some_clean : IsCleanPiece p some) where
+    -- where nothing occurs by one piece, whichever it is, nothing does by those of the runs
+    free-from : (runs : List Occurrence) (at : ℕ) → ((run : Occurrence) → IsMember runs run → run.pattern < length p.words)
+        → ((piece : List ℕ) → IsCleanPiece p piece → NoneOccurs p (replaced_from haystack at runs (alike_in piece))) → NoneOccurs p (replaced_from haystack at runs (piece_in rule haystack))
+    free-from [] at numbered free = free some some_clean
+    free-from (run ∷ runs) at numbered free =
+        let front = slice_range haystack at run.start in
+        let piece = piece_in rule haystack run in
+        let rest = replaced_from haystack run.end runs (piece_in rule haystack) in
+        let alone = replaced_from haystack run.end runs (alike_in piece) in
+        let here = clean run.pattern (slice_range haystack run.start run.end) (numbered run (inl refl)) in
+        let same : alike_in piece run ≡ piece = get_or-replicate (length p.words) run.pattern piece [] (numbered run (inl refl)) in
+        let whole : NoneOccurs p (front ++ (piece ++ alone)) = subst (λ (l : List ℕ). NoneOccurs p (front ++ (l ++ alone))) same (free piece here) in
+        let before = free_left (front ++ piece) alone (subst (NoneOccurs p) (sym (append_assoc front piece alone)) whole) in
+        let later = free-from runs run.end (λ x there. numbered x (inr there)) (λ other is. free_right (alike_in other run) _ (free_right front _ (free other is))) in
+        let end = last_of piece here.some in
+        let seam = clear_joined p _ (front ++ piece) rest (here.last _ end.0 end.1) (front ++ end.0, ap (λ (l : List ℕ). front ++ l) end.1 ∙ sym (append_assoc front end.0 _)) in
+        subst (NoneOccurs p) (append_assoc front piece rest) (λ m occurs.
+        elim (seam m occurs) [
+          | inl first ↦ before m (Occurs-left p (front ++ piece) rest m first occurs)
+          | inr behind ↦ later (moved_back (length (front ++ piece)) m) (Occurs-right p (front ++ piece) rest m behind occurs)
+        ])
+
+  -- nothing occurs in the cover
+  pub made-free : (rule : PieceRule) → ((number : ℕ) (bytes : List ℕ) → number < length p.words → IsCleanPiece p (rule number bytes)) → (haystack : List ℕ) (runs : List Occurrence) → AreRuns p haystack runs
+      → NoneOccurs p (replaced_by haystack runs (piece_in rule haystack))
+  made-free rule clean haystack runs are m occurs =
+      free-from rule clean haystack (rule m.pattern []) (clean m.pattern [] occurs.numbered) runs 0
+      (λ x there. let is_run = (are.members x).0 there in omega (arith, is_run.named, is_run.longest_is.0.0.numbered))
+      (λ piece is n there. cover-free p (alike piece) (alike_clean piece is) haystack (replaced haystack runs (alike piece)) (runs, are, refl) n there) m occurs

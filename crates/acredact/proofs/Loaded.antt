@@ -1,9 +1,9 @@
 -- The patterns that options give, one after another.
-use Rattle.acredact.proofs.Common.{Failure, get_or-map, is_input, length-map, nil_from_length}
-use Rattle.std.proofs.Common.{◌≡◌, inr, ℕ, ◌+◌, ◌<◌, ◌≤◌, List, [], ◌∷◌, ◌++◌, Option, refl, sym, ap, subst, ◌∙◌, append-nil, append_assoc, arith, drop, get_or, length, length-drop, map}
+use Rattle.acredact.proofs.Common.{Failure, get_or-map, is_input, length-map, take_all}
+use Rattle.std.proofs.Common.{◌≡◌, inr, ℕ, ◌+◌, ◌<◌, ◌≤◌, List, [], ◌∷◌, ◌++◌, Option, refl, sym, ap, subst, ◌∙◌, append-nil, append_assoc, arith, get_or, length, map, take}
 use Rattle.std.specs.Prelude.{Bool, MatchBool, IfSome, false}
 use Rattle.std.proofs.KnownBytes.{Consumes-all}
-use Rattle.std.proofs.lemmas.List.{drop_more}
+use Rattle.std.proofs.lemmas.List.{map_more}
 use Rattle.acredact.specs.declared.options.Item.{Item}
 use Rattle.acredact.specs.Arguments.{all_given, given_of}
 use Rattle.acredact.specs.Loading.{CannotLoad, CannotLoadOne, IsFileFailure, IsListedFailure, Reading}
@@ -11,34 +11,35 @@ use Rattle.acredact.specs.declared.load.Listed.{Listed}
 use Rattle.acredact.specs.Parts.{IsAddedSome}
 use Rattle.acredact.specs.Reads.{EachGives, OfName, ReadsText}
 
--- what those so far gave, and what the others are to give, is what all give
-pub record GivenSoFar {I X S : Type 0} (Gives : I → List X → (left left' : S) → Type 0) (all : List I) (before : S) (rest : List I) (between : S) (old new : List X) : Type 0 where
-  pub so : List X
-  pub grown : new ≡ old ++ so
-  pub given : (more : List X) (left : S) → EachGives Gives rest more between left → EachGives Gives all (so ++ more) before left
+-- what some give was added
+pub record GivenSoFar {I X S : Type 0} (Gives : I → List X → (left left' : S) → Type 0) (items : List I) (before between : S) (old new : List X) : Type 0 where
+  pub more : List X
+  pub grown : new ≡ old ++ more
+  pub of : EachGives Gives items more before between
 
-module _ {I X S : Type 0} {Gives : I → List X → (left left' : S) → Type 0} {all : List I} {before : S} {old : List X} where
-  -- the first of what is left gives some more
-  pub given_next : {one : I} {rest : List I} {between left : S} {mid new : List X} → GivenSoFar Gives all before (one ∷ rest) between old mid → IsAddedSome (λ more. Gives one more between left) mid new
-      → GivenSoFar Gives all before rest left old new
-  given_next far added = record {
-    so = far.so ++ added.more;
-    grown = added.grown ∙ ap (λ (l : List X). l ++ added.more) far.grown ∙ append_assoc old far.so added.more;
-    given = λ more last given. subst (λ (l : List X). EachGives Gives all l before last) (sym (append_assoc far.so added.more more)) (far.given (added.more ++ more) last (added.more, more, refl, _, added.of, given));
+-- what one more gives stands behind it
+each_then : {I X S : Type 0} (Gives : I → List X → (left left' : S) → Type 0) (items : List I) (one : I) (so more : List X) (before between left : S) → EachGives Gives items so before between → Gives one more between left
+    → EachGives Gives (items ++ one ∷ []) (so ++ more) before left
+each_then Gives [] one so more before between left (none, same) gives = (more, [], ap (λ l. l ++ more) none ∙ sym (append-nil more), left, rw same at gives, (refl, refl))
+each_then Gives (item ∷ items) one so more before between left (first, rest, are, mid, of, given) gives =
+    (first, rest ++ more, ap (λ l. l ++ more) are ∙ append_assoc first rest more, mid, of, each_then Gives items one rest more mid between left given gives)
+
+module _ {I X S : Type 0} {Gives : I → List X → (left left' : S) → Type 0} {before between : S} {old mid : List X} where
+  pub given_next : {items : List I} {one : I} {left : S} {new : List X} → GivenSoFar Gives items before between old mid → IsAddedSome (λ more. Gives one more between left) mid new → GivenSoFar Gives (items ++ one ∷ []) before left old new
+  given_next {items} {one} {left} far added = record {
+    more = far.more ++ added.more;
+    grown = added.grown ∙ ap (λ l. l ++ added.more) far.grown ∙ append_assoc old far.more added.more;
+    of = each_then Gives items one far.more added.more before between left far.of added.of;
   }
 
-  pub given_end : {left : S} {new : List X} → GivenSoFar Gives all before [] left old new → IsAddedSome (λ more. EachGives Gives all more before left) old new
-  given_end far = record { more = far.so; grown = far.grown; of = subst (λ (l : List X). EachGives Gives all l before _) (append-nil far.so) (far.given [] _ (refl, refl)) }
-
   -- the same of what is made of some, up to a place
-  module _ {Y : Type 0} (f : Y → I) (ys : List Y) (at : ℕ) {between : S} {mid : List X} where
-    pub given_item : {left : S} {new : List X} (d : Y) → at < length ys → GivenSoFar Gives all before (map f (drop at ys)) between old mid → IsAddedSome (λ more. Gives (f (get_or ys at d)) more between left) mid new
-        → GivenSoFar Gives all before (map f (drop (at + 1) ys)) left old new
-    given_item d within far added = given_next (subst (λ (l : List Y). GivenSoFar Gives all before (map f l) between old mid) (drop_more ys at d within) far) added
+  module _ {Y : Type 0} (f : Y → I) (ys : List Y) (at : ℕ) where
+    pub given_item : {left : S} {new : List X} (d : Y) → at < length ys → GivenSoFar Gives (map f (take at ys)) before between old mid → IsAddedSome (λ more. Gives (f (get_or ys at d)) more between left) mid new
+        → GivenSoFar Gives (map f (take (at + 1) ys)) before left old new
+    given_item d below far added = rw (map_more f ys at d below) (given_next far added)
 
-    pub given_all : length ys ≤ at → GivenSoFar Gives all before (map f (drop at ys)) between old mid → IsAddedSome (λ more. EachGives Gives all more before between) old mid
-    given_all past far =
-        given_end (subst (λ (l : List Y). GivenSoFar Gives all before (map f l) between old mid) (nil_from_length (drop at ys) (omega (arith, past, length-drop at ys))) far)
+    pub given_all : length ys ≤ at → GivenSoFar Gives (map f (take at ys)) before between old mid → IsAddedSome (λ more. EachGives Gives (map f ys) more before between) old mid
+    given_all past far = record { more = far.more; grown = far.grown; of = rw (take_all at ys past) at far.of }
 
 -- one of the items cannot be loaded
 pub fails_at : (reading : Reading) (items : List Item) (at : ℕ) (d : Item) (failure : Failure) → at < length items → CannotLoad reading (given_of (get_or items at d)) failure → CannotLoadOne reading (all_given items) failure

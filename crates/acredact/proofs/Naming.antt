@@ -1,6 +1,6 @@
 -- What is loaded where a key names the secrets.
 use Rattle.acredact.proofs.Common.{Forms, PieceRule}
-use Rattle.std.proofs.Common.{◌≡◌, ℕ, Bool, true, false, List, Option, refl, sym, subst}
+use Rattle.std.proofs.Common.{◌≡◌, ℕ, Bool, true, false, List, Option, sym, subst}
 use Rattle.std.specs.Prelude.{Some, None, if◌then◌else◌}
 use Rattle.std.proofs.lemmas.List.Elements.{All-map}
 use Rattle.acredact.specs.Pseudonyms.{pseudonym_rule}
@@ -12,10 +12,6 @@ use Rattle.acredact.specs.Tables.{HaveNoEmpty, Secret}
 use Rattle.acredact.specs.declared.options.Word.TheVariants.{IgnoreCase}
 use Rattle.acredact.proofs.Ready.{IsSomeSecret, given_some}
 
--- no pattern that is named is empty
-named_some : (rule : PieceRule) (secrets named : List Secret) → named ≡ all_named rule secrets → HaveNoEmpty secrets → HaveNoEmpty named
-named_some rule secrets named is are = subst HaveNoEmpty (sym is) (All-map IsSomeSecret (named_secret rule secrets) secrets are)
-
 -- what is so of secrets, named or not, is so of those that are loaded
 pub either_way : (P : List Secret → Type 0) (given : List Given) (secrets : List Secret) (key : Option (List ℕ)) → P secrets → ((rule : PieceRule) → P (all_named rule secrets)) → P (secrets_by given key secrets)
 either_way P given secrets None plain named = plain
@@ -25,9 +21,9 @@ either_way P given secrets (Some key) plain named = by (has Forms given)
     by true = named (pseudonym_rule (has IgnoreCase given) key)
     by false = plain
 
--- no pattern of them is empty
+-- no pattern of them is empty: a name changes none
 pub some_loaded : (given : List Given) (secrets loaded : List Secret) (key : Option (List ℕ)) → loaded ≡ secrets_by given key secrets → HaveNoEmpty secrets → HaveNoEmpty loaded
-some_loaded given secrets loaded key is some = subst HaveNoEmpty (sym is) (either_way HaveNoEmpty given secrets key some (λ rule. named_some rule secrets _ refl some))
+some_loaded given secrets loaded key is some = subst HaveNoEmpty (sym is) (either_way HaveNoEmpty given secrets key some (λ rule. All-map IsSomeSecret (named_secret rule secrets) secrets some))
 
 pub ruled_some : (reading : Reading) (given : List Given) (load : RuledLoad) (left left' : Option (List ℕ)) → AreRuledLoaded reading given load left left' → HaveNoEmpty load.secrets
 ruled_some reading given load left left' loaded =

@@ -1,31 +1,30 @@
 -- What is loaded can be searched for.
-use Rattle.acredact.proofs.Common.{All-append, All-cons, All-head, All-nil, All-tail, AsWord, Bor, CanBegin, Folders, Form, No, Patterns, Standard, filter_map, flat_map, length-map, pieces_of, shortest, slice_split, strip_last}
-use Rattle.std.proofs.Common.{◌≡◌, ℕ, ◌≤◌, Bool, false, true, List, [], ◌∷◌, Option, length, map, refl, sym, ap, subst, ◌∙◌, arith}
-use Rattle.std.specs.Prelude.{MatchBool, ◌&&◌, codes, if◌then◌else◌, nat_eq, nat_lt, option_and_then, unwrap_or, IsOk, Some, None}
-use Rattle.std.proofs.lemmas.Bool.{ltb-false}
+use Rattle.acredact.proofs.Common.{All-append, All-cons, All-head, All-nil, All-tail, AsWord, Bor, CanBegin, Folders, Form, No, Patterns, Standard, filter_map, flat_map, length-map, pieces_of, shortest, slice_split, strip_last, ltb-true}
+use Rattle.std.proofs.Common.{◌≡◌, ℕ, ◌≤◌, Bool, false, true, List, [], ◌∷◌, Option, length, map, refl, sym, ap, subst, ◌∙◌, arith, ◌+◌}
+use Rattle.std.specs.Prelude.{MatchBool, codes, if◌then◌else◌, nat_eq, nat_lt, option_and_then, unwrap_or, IsOk, Some, None}
+use Rattle.std.proofs.lemmas.Bool.{and_parts, ltb-false}
+use Rattle.std.proofs.lemmas.List.Elements.{All-map, All-weaker, filter_passes}
 use Rattle.std.proofs.lemmas.Slice.Eq.{bytes_eq-Decides}
-use Rattle.aho_core.specs.declared.search.MatchKind.{MatchKind}
 use Rattle.chromesquid.proofs.Built.{count_of, finds_by, shortest_of, start_of}
 use Rattle.chromesquid.specs.Searcher.{Answers, IsBuiltFrom, Searcher}
 use Rattle.chromesquid.specs.contracts.automaton.AhoCorasickAutomaton.TheImpl.{ghosts as of_searcher}
 use Rattle.secret_rules.specs.OpenLines.{CanSearch}
 use Rattle.tool_parts.specs.Arguments.{kind_by}
-use Rattle.acredact.specs.Arguments.{Given, covers_asked, has, is_cover, kind_asked, last_value, words_asked}
+use Rattle.acredact.specs.Arguments.{Given, covers_asked, has, is_cover, last_value, words_asked}
 use Rattle.acredact.specs.Builds.{patterns_by_given}
-use Rattle.acredact.specs.Forms.{forms_from}
+use Rattle.acredact.specs.Forms.{forms_from, AskedForms, asked_form_patterns, filled, form_secret, forms_of}
 use Rattle.acredact.specs.Loading.{AreGiven, OptionGives, Reading, Rules, reading_of_lists, rules_for, values_in_text, whole_value}
 use Rattle.acredact.specs.Checks.{IsByTexts, texts_looked_for}
 use Rattle.acredact.specs.Parts.{ArePartsBy, GivesPattern, is_of_lines, line_secrets, lines_secrets, secret_given}
 use Rattle.acredact.specs.Ready.{IsReadyFor}
 use Rattle.acredact.specs.Reads.{EachGives}
-use Rattle.acredact.specs.Secrets.{CanRedact}
+use Rattle.acredact.specs.Secrets.{CanDoStreams, CanRedact}
 use Rattle.acredact.specs.Tables.{AreOfLines, HaveNoEmpty, Secret, patterns_in}
 use Rattle.acredact.specs.Values.{GiveEach, no_bytes, value_of_entry}
 use Rattle.acredact.specs.declared.options.Word.{Word}
 use Rattle.acredact.specs.declared.options.Word.TheVariants.{Env, EnvFile, Kind, Pattern, Patterns as PatternFile, Table, Whole}
 use Rattle.acredact.specs.declared.load.Lists.{Lists}
 use Rattle.acredact.specs.declared.prepare.Ready.{Ready}
-use Rattle.acredact.proofs.FormRules.{all_forms_some}
 
 abbrev pub IsSomeSecret : Secret → Type 0
 IsSomeSecret secret = 1 ≤ length secret.pattern
@@ -90,6 +89,20 @@ option_some reading EnvFile value secrets left left' gives = values_some reading
 option_some reading Whole value secrets left left' gives = values_some reading.rules.parts (whole_value reading.rules gives.text) secrets gives.held.holds.given
 option_some reading other value secrets left left' gives = none_some secrets gives.0
 
+-- no form of theirs is empty
+all_forms_some : (asked : AskedForms) (number : ℕ) (secrets : List Secret) → HaveNoEmpty (forms_from asked number secrets)
+all_forms_some asked number [] = All-nil IsSomeSecret
+all_forms_some asked number (secret ∷ secrets) =
+    All-append IsSomeSecret (forms_of asked number secret) (forms_from asked (number + 1) secrets) (by (nat_lt (length secret.pattern) 4)) (all_forms_some asked (number + 1) secrets)
+  where
+    patterns : List (List ℕ)
+    patterns = filled (asked_form_patterns asked secret.pattern)
+
+    by : (short : Bool) → HaveNoEmpty (if short then [] else map (form_secret number secret) patterns)
+    by true = All-nil IsSomeSecret
+    by false = All-map IsSomeSecret (form_secret number secret) patterns
+        (All-weaker (λ p. nat_lt 0 (length p) ≡ true) (λ p. 1 ≤ length p) (λ p is. omega (arith, ltb-true 0 (length p) is)) patterns (filter_passes (λ p. nat_lt 0 (length p)) (asked_form_patterns asked secret.pattern)))
+
 -- and so is none of their forms
 pub given_some : (reading : Reading) (items : List Given) (secrets : List Secret) (left left' : Option (List ℕ)) → AreGiven reading items secrets left left' → HaveNoEmpty secrets
 given_some reading items secrets left left' given =
@@ -97,20 +110,9 @@ given_some reading items secrets left left' given =
     (All-append IsSomeSecret given.plain (forms_from reading.rules.forms 0 given.plain) (each_some _ (λ item. option_some reading item.word item.value) items given.plain left left' given.read) (all_forms_some reading.rules.forms 0 given.plain))
 
 -- a cover is by the standard kind
-kind_of_cover : (name : List ℕ) → is_cover name ≡ true → kind_by name ≡ None
-kind_of_cover name is = ap kind_by ((bytes_eq-Decides name (codes "cover")).0 is)
-
 standard_by : (asked : Option (List ℕ)) → is_cover (unwrap_or asked (codes "cover")) ≡ true → unwrap_or (option_and_then kind_by asked) Standard ≡ Standard
 standard_by None is = refl
-standard_by (Some name) is = ap (λ (kind : Option MatchKind). unwrap_or kind Standard) (kind_of_cover name is)
-
--- words are those of covers
-words_cover : (covers has : Bool) → (covers && has) ≡ true → covers ≡ true
-words_cover true has is = refl
-words_cover false has is = absurd (cc)
-
-covers_standard : (given : List Given) → covers_asked given ≡ true → kind_asked given ≡ Standard
-covers_standard given is = standard_by (last_value Kind given) is
+standard_by (Some name) is = ap (λ (name : List ℕ). unwrap_or (kind_by name) Standard) ((bytes_eq-Decides name (codes "cover")).0 is)
 
 -- a searcher of such patterns begins streams
 begins_of : (searcher : Searcher) (p : Patterns) → IsBuiltFrom searcher p → Answers searcher No → 1 ≤ shortest (map length p.words) → CanBegin of_searcher searcher
@@ -125,32 +127,27 @@ searcher_searches searcher p built answers standard some =
     record { of = (p, built); standard = finds_by p searcher built ∙ standard; starts = subst IsOk (sym begins.2) refl; full = begins.1 }
 
 module _ (given : List Given) (secrets : List Secret) (ready : Ready) (is : IsReadyFor given secrets ready) (some : HaveNoEmpty secrets) where
-  -- it redacts files
-  pub ready_redacts : (covers : Bool) → covers ≡ covers_asked given → (replacements : List (Bor (List ℕ))) → pieces_of replacements ≡ pieces_of ready.replacements.items → CanRedact of_searcher ready.searcher covers replacements
-  ready_redacts covers same replacements pieces =
+  abbrev searches : (covers : Bool) {Besides : Type 0} → (covers ≡ true → covers_asked given ≡ true) → Besides → CanDoStreams of_searcher ready.searcher covers Besides
+  searches covers asks besides =
       let p = patterns_by_given given (patterns_in secrets) in
-      let many = λ (l : List (Bor (List ℕ))). sym (length-map l (λ piece. piece.now)) in
       record {
         patterns = p;
         of = is.of;
         begins = begins_of ready.searcher p is.of is.answers (some_shortest secrets some);
-        standard = λ asked. finds_by p ready.searcher is.of ∙ covers_standard given (sym same ∙ asked);
-        one_each = many replacements ∙ ap length (pieces ∙ is.pieces) ∙ length-map secrets _ ∙ sym (length-map secrets _) ∙ sym (count_of p ready.searcher is.of);
+        standard = λ asked. finds_by p ready.searcher is.of ∙ standard_by (last_value Kind given) (asks asked);
+        besides = besides;
       }
+
+  -- it redacts files
+  pub ready_redacts : (covers : Bool) → covers ≡ covers_asked given → (replacements : List (Bor (List ℕ))) → pieces_of replacements ≡ pieces_of ready.replacements.items → CanRedact of_searcher ready.searcher covers replacements
+  ready_redacts covers same replacements pieces =
+      let many = λ (l : List (Bor (List ℕ))). sym (length-map l (λ piece. piece.now)) in
+      searches covers (λ asked. sym same ∙ asked)
+      (many replacements ∙ ap length (pieces ∙ is.pieces) ∙ length-map secrets _ ∙ sym (length-map secrets _) ∙ sym (count_of (patterns_by_given given (patterns_in secrets)) ready.searcher is.of))
 
   -- and looks at them
   pub ready_looks : (words : Bool) → words ≡ words_asked given → IsByTexts of_searcher ready.searcher words (texts_looked_for given secrets)
-  ready_looks words same =
-      let p = patterns_by_given given (patterns_in secrets) in
-      record {
-        can = record {
-          patterns = p;
-          of = is.of;
-          begins = begins_of ready.searcher p is.of is.answers (some_shortest secrets some);
-          standard = λ asked. finds_by p ready.searcher is.of ∙ covers_standard given (words_cover (covers_asked given) (has AsWord given) (sym same ∙ asked));
-        };
-        is = rw same refl;
-      }
+  ready_looks words same = record { can = searches words (λ asked. (and_parts (covers_asked given) (has AsWord given) (sym same ∙ asked)).0) tt; is = rw same refl }
 
 -- lists are read alike
 pub reading_from : {F X : Type 0} (D : Folders F X) (lists : Lists F) (folder : F) (rules : Rules) → lists.folder.now ≡ folder → rules_for lists ≡ rules → (P : Reading → Type 0)

@@ -6,27 +6,26 @@ use Rattle.chromesquid.specs.Searcher.{Searcher, StandsFor}
 use Rattle.chromesquid.specs.contracts.automaton.AhoCorasickAutomaton.TheImpl.{ghosts as of_searcher}
 use Rattle.secret_rules.specs.OpenLines.{CanSearch}
 use Rattle.acredact.specs.Looks.{CanLook}
-use Rattle.acredact.specs.Secrets.{CanRedact}
+use Rattle.acredact.specs.Secrets.{CanDoStreams, CanRedact}
 
 module _ {A : Type 0} (G : Automata A) (automaton : A) (searcher : Searcher) (stands : StandsFor G automaton searcher) where
-  -- it redacts
-  pub redact_as : (covers : Bool) (replacements : List (Bor (List ℕ))) → CanRedact of_searcher searcher covers replacements → CanRedact G automaton covers replacements
-  redact_as covers replacements can = record {
+  -- it searches streams, or covers them
+  abbrev does_as : (covers : Bool) {Before Besides : Type 0} → Besides → CanDoStreams of_searcher searcher covers Before → CanDoStreams G automaton covers Besides
+  does_as covers besides can = record {
     patterns = can.patterns;
     of = stands.of can.patterns can.of;
     begins = (can.begins.0, subst (λ (ns : List ℕ). 1 ≤ shortest ns) (sym stands.lengths) can.begins.1, stands.start ∙ can.begins.2);
     standard = λ is. stands.kind ∙ can.standard is;
-    one_each = can.one_each ∙ ap length (sym stands.lengths);
+    besides = besides;
   }
+
+  -- it redacts
+  pub redact_as : (covers : Bool) (replacements : List (Bor (List ℕ))) → CanRedact of_searcher searcher covers replacements → CanRedact G automaton covers replacements
+  redact_as covers replacements can = does_as covers (can.besides ∙ ap length (sym stands.lengths)) can
 
   -- it looks for what counts
   pub look_as : (words : Bool) → CanLook of_searcher searcher words → CanLook G automaton words
-  look_as words can = record {
-    patterns = can.patterns;
-    of = stands.of can.patterns can.of;
-    begins = (can.begins.0, subst (λ (ns : List ℕ). 1 ≤ shortest ns) (sym stands.lengths) can.begins.1, stands.start ∙ can.begins.2);
-    standard = λ is. stands.kind ∙ can.standard is;
-  }
+  look_as words = does_as words tt
 
   -- it searches lines
   pub search_as : CanSearch of_searcher searcher → CanSearch G automaton

@@ -1,7 +1,7 @@
 -- Forms of patterns: which are asked for, and which patterns they are.
 use Rattle.acredact.specs.Common.{All, bytes_eq, slice_split}
-use Rattle.std.specs.Prelude.{◌≡◌, ℕ, ◌+◌, ◌≤◌, ◌||◌, Bool, List, [], ◌∷◌, ◌++◌, Option, Some, None, Vec, codes, flat_map, is_some, length, map, nat_eq, nat_lt, option_and_then, option_map, if◌then◌else◌}
-use Rattle.std.specs.List.{filter, filter_map, list_all, list_any}
+use Rattle.std.specs.Prelude.{◌≡◌, ℕ, ◌≤◌, ◌||◌, Bool, List, [], ◌∷◌, ◌++◌, Option, Some, None, Vec, codes, flat_map, is_some, length, map, nat_eq, nat_lt, option_and_then, option_map, if◌then◌else◌}
+use Rattle.std.specs.List.{enumerate_from, filter, filter_map, list_all, list_any}
 use Rattle.secret_forms.specs.Forms.{HidesForm, HidesNested, form_name, form_patterns, forms_patterns, inner_patterns, nested_patterns}
 use Rattle.secret_forms.specs.Patterns.{added_all}
 use Rattle.secret_forms.specs.declared.form.Form.{Form as SecretForm}
@@ -116,8 +116,7 @@ forms_of asked number secret =
 
 -- those of all secrets, in order, which are numbered from this number on
 abbrev pub forms_from : AskedForms → ℕ → List Secret → List Secret
-forms_from asked number [] = []
-forms_from asked number (secret ∷ secrets) = forms_of asked number secret ++ forms_from asked (number + 1) secrets
+forms_from asked number secrets = flat_map (λ (one : ℕ × Secret). forms_of asked one.0 one.1) (enumerate_from number secrets)
 
 -- secrets, and behind them their forms
 abbrev pub with_forms : AskedForms → List Secret → List Secret

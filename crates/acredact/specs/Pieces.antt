@@ -1,6 +1,6 @@
 -- Which of the texts that are written in the place of patterns are clean, so that with what stands beside them they spell no pattern.
 use Rattle.acredact.specs.Common.{All, Errors, Occurrence, Patterns, SinkGhosts, TellsBytes, folded_by, pieces_of}
-use Rattle.std.specs.Prelude.{◌≡◌, ◌⊎◌, ℕ, ◌+◌, ◌<◌, Bool, true, false, List, [], ◌∷◌, ◌++◌, Option, Some, None, is_some, length, slice_index_or}
+use Rattle.std.specs.Prelude.{◌≡◌, ◌⊎◌, ℕ, ◌+◌, ◌-◌, ◌<◌, Bool, true, false, List, [], Option, Some, None, is_some, length, slice_index, slice_index_or}
 use Rattle.aho_core.specs.Occurs.{OccursIn}
 use Rattle.aho_core.specs.Patterns.{pattern_at}
 use Rattle.aho_core.specs.Search.{plain_search}
@@ -33,15 +33,16 @@ StayMarked marks marks' = (place : ℕ) → slice_index_or marks place false ≡
 -- a pattern holds the first or the last byte of a piece, or occurs in it
 abbrev pub Spoils : Patterns → List ℕ → ℕ → Type 0
 Spoils p piece number =
-    ((byte : ℕ) × (rest : List ℕ) × (piece ≡ byte ∷ rest) × (holds_byte p.ignore_case (pattern_at p number) byte ≡ true))
-    ⊎ (((byte : ℕ) × (front : List ℕ) × (piece ≡ front ++ byte ∷ []) × (holds_byte p.ignore_case (pattern_at p number) byte ≡ true))
+    (holds_byte p.ignore_case (pattern_at p number) (slice_index piece 0) ≡ true)
+    ⊎ ((holds_byte p.ignore_case (pattern_at p number) (slice_index piece (length piece - 1)) ≡ true)
     ⊎ ((m : Occurrence) × OccursIn p (plain_search piece) m × (m.pattern ≡ number)))
 
 -- this is why a piece is not clean; patterns are told by their numbers from 1 on
 abbrev pub IsFlaw : Patterns → List ℕ → Flaw → Type 0
 IsFlaw p piece Empty = piece ≡ []
 IsFlaw p piece Pseudonym = ⊥
-IsFlaw p piece (Spells told) = (number : ℕ) × (told ≡ number + 1) × (number < length p.words) × Spoils p piece number
+IsFlaw p piece (Spells told) =
+    (0 < length piece) × (number : ℕ) × (told ≡ number + 1) × (number < length p.words) × Spoils p piece number
 
 -- what is answered of a piece: why it is not clean, and nothing where it is
 abbrev pub IsFlawOrNone : Patterns → List ℕ → Option Flaw → Type 0

@@ -141,13 +141,10 @@ fn forms_by(alloc: Global, value: &[u8]) -> Result<Vec<Form>, AllocError>
         Form::Shell,
         Form::Lines,
     ];
-    let mut forms = Vec::new(alloc);
-    for form in all.as_slice() {
-        if asks_for(value, *form) {
-            forms.push(*form)?;
-        }
-    }
-    Ok(forms)
+    all.iter()
+        .copied()
+        .filter(|form| asks_for(value, *form))
+        .collect(alloc)
 }
 
 /// The forms of forms that a value names, in order.
@@ -207,6 +204,7 @@ pub fn add_forms(
 }
 
 /// Those of all these rules.
+#[tactic(auto, using(crate::proofs::Doubting::secrets_cut, std::proofs::Common::append_assoc))]
 fn forms_of_rules(alloc: Global, rules: &[Rule], asked: &Asked) -> Result<Vec<Rule>, AllocError>
     ensures made { IfOk result (λ more.
         secrets_of more.items ≡ forms_from (asked_forms asked.now) 0 (secrets_of rules.now)) }

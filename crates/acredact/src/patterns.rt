@@ -154,12 +154,10 @@ pub fn split_at(text: &[u8], byte: u8) -> Option<(&[u8], &[u8])>
     ensures shorter { IfSome result (λ two. length two.1.now < length text.now) }
     ensures none { IfNone result (IsWithout byte text.now) }
 {
-    for at in 0..text.len() {
-        if text[at] == byte {
-            return Some((&text[..at], &text[at + 1..]));
-        }
+    match text.iter().position(|other| *other == byte) {
+        Some(at) => Some((&text[..at], &text[at + 1..])),
+        None => None,
     }
-    None
 }
 
 /// The first part of a text that a byte parts, and what stands behind that byte, where it stands there.

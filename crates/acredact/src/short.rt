@@ -28,6 +28,7 @@ pub fn tell_short_asked<E: Sink>(errors: &mut Errors<'_, E>, given: &[Item<'_>],
 }
 
 /// Tells of each pattern that is too short for forms.
+#[tactic(auto, using(crate::proofs::Doubting::told_more, crate::proofs::Doubting::secrets_cut, crate::proofs::Done::concat_both))]
 fn tell_each<E: Sink>(errors: &mut Errors<'_, E>, rules: &[Rule])
     ensures told { TellsBytes E.Sink errors.old errors.new (concat (short_lines 1 (secrets_of rules.now))) }
 {

@@ -1,16 +1,16 @@
 -- A pattern holds the first byte or the last, or nothing is found.
 use Rattle.acredact.proofs.Common.{pieces_of}
-use Rattle.std.proofs.Common.{rules, refl}
+use Rattle.std.proofs.Common.{rules}
 use Rattle.acredact.proofs.Flaws.{clean_by, spells_first, spells_last}
 use Rattle.acredact.proofs.clean.flaw_of.Goals as goal
 
 pub returns-in-Some : goal.returns-in-Some
-returns-in-Some g c = record { flaw = λ p of are. spells_first p _ (pieces_of c.args.judge.now.words.now) are c.args.piece.now _ _ (search rules) refl c.in-Some.ensures.holder }
+returns-in-Some g c = record { flaw = λ p of are. spells_first p _ (pieces_of c.args.judge.now.words.now) are c.args.piece.now _ (search rules) c.in-Some.ensures.holder }
 
 pub returns-in-Some-holder_of : goal.returns-in-Some-holder_of
-returns-in-Some-holder_of g c = record { flaw = λ p of are. spells_last p _ (pieces_of c.args.judge.now.words.now) are c.args.piece.now _ _ (search rules) refl c.in-Some-holder_of.ensures.holder }
+returns-in-Some-holder_of g c = record { flaw = λ p of are. spells_last p _ (pieces_of c.args.judge.now.words.now) are c.args.piece.now _ (search rules) c.in-Some-holder_of.ensures.holder }
 
 pub returns-in-None-found_in : goal.returns-in-None-found_in
 returns-in-None-found_in g c = record {
-  flaw = λ p of are. clean_by p _ (pieces_of c.args.judge.now.words.now) are c.args.piece.now _ _ (search rules) refl refl c.in-None.ensures.holder c.in-None-holder_of.ensures.holder (c.in-None-found_in.ensures.none p of);
+  flaw = λ p of are. clean_by p _ (pieces_of c.args.judge.now.words.now) are c.args.piece.now (search rules) c.in-None.ensures.holder c.in-None-holder_of.ensures.holder (c.in-None-found_in.ensures.none p of);
 }

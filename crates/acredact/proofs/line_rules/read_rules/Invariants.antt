@@ -1,6 +1,6 @@
 -- The rules that the options so far give were read.
 use Rattle.acredact.proofs.Common.{bytes_left}
-use Rattle.std.proofs.Common.{[], drop}
+use Rattle.std.proofs.Common.{[], take}
 use Rattle.acredact.specs.Arguments.{all_given}
 use Rattle.acredact.specs.LineRules.{OptionGivesRules}
 use Rattle.acredact.specs.Loading.{reading_of_lists}
@@ -9,4 +9,4 @@ use Rattle.acredact.proofs.line_rules.read_rules.Given as goal
 
 abbrev pub invariant-loop-item : goal.invariant-loop-item
 invariant-loop-item g l =
-    GivenSoFar (λ item. OptionGivesRules (reading_of_lists g.F.Folder l.fn.lists) item.word item.value) (all_given l.fn.items) (bytes_left l.initial.input) (all_given (drop l.item-index l.fn.items)) (bytes_left l.input) [] l.rules.items
+    GivenSoFar (λ item. OptionGivesRules (reading_of_lists g.F.Folder l.fn.lists) item.word item.value) (all_given (take l.item-index l.fn.items)) (bytes_left l.initial.input) (bytes_left l.input) [] l.rules.items

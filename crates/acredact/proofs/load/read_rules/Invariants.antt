@@ -1,6 +1,6 @@
 -- What the options so far gave is loaded.
 use Rattle.acredact.proofs.Common.{bytes_left}
-use Rattle.std.proofs.Common.{[], drop}
+use Rattle.std.proofs.Common.{[], take}
 use Rattle.acredact.specs.Arguments.{all_given}
 use Rattle.acredact.specs.Loading.{OptionGives, reading_of_lists}
 use Rattle.acredact.specs.Tables.{secrets_of}
@@ -9,4 +9,4 @@ use Rattle.acredact.proofs.load.read_rules.Given as goal
 
 abbrev pub invariant-loop-number : goal.invariant-loop-number
 invariant-loop-number g l =
-    GivenSoFar (λ item. OptionGives (reading_of_lists g.F.Folder l.fn.lists) item.word item.value) (all_given l.fn.items) (bytes_left l.initial.input) (all_given (drop l.number l.fn.items)) (bytes_left l.input) [] (secrets_of l.rules.items)
+    GivenSoFar (λ item. OptionGives (reading_of_lists g.F.Folder l.fn.lists) item.word item.value) (all_given (take l.number l.fn.items)) (bytes_left l.initial.input) (bytes_left l.input) [] (secrets_of l.rules.items)

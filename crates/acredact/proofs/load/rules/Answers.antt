@@ -4,7 +4,7 @@ use Rattle.acredact.specs.Arguments.{all_given}
 use Rattle.acredact.specs.Calls.{rules_asked}
 use Rattle.acredact.specs.Loading.{CannotLoadOne}
 use Rattle.acredact.specs.Tables.{secrets_of}
-use Rattle.acredact.proofs.FormRules.{hide_secrets}
+use Rattle.acredact.proofs.Hiding.{hide_secrets}
 use Rattle.acredact.proofs.Ready.{reading_from}
 use Rattle.acredact.proofs.load.rules.Goals as goal
 

@@ -1,8 +1,8 @@
 -- One line more is added.
-use Rattle.std.proofs.Common.{◌++◌, ◌+◌, ◌-◌, ◌∙◌, ◌∷◌, ◌≡◌, [], ap, append_assoc, arith, length, length-append, rules, sym}
+use Rattle.std.proofs.Common.{◌++◌, ◌+◌, ◌∙◌, ◌∷◌, ◌≡◌, [], ap, append_assoc, arith, length, length-append, rules, sym}
 use Rattle.acredact.specs.Parts.{IsAddedSome}
 use Rattle.acredact.specs.Tables.{GivesLine, lines_in, parts_left, secrets_of}
-use Rattle.acredact.proofs.Loaded.{given_end, given_next}
+use Rattle.acredact.proofs.Loaded.{given_next}
 use Rattle.acredact.proofs.patterns.add_lines.Goals as goal
 
 pub loop-left-preserved : goal.loop-left-preserved
@@ -12,10 +12,10 @@ loop-left-preserved c =
     let others = parts_left 10 c.part_of.result.1 in
     let cut : parts_left 10 c.loop-left.left ≡ line ∷ others = search rules in
     let given : IsAddedSome (λ more. GivesLine c.args.form line more (length front) (length front + 1)) (secrets_of c.loop-left.rules.items) (secrets_of c.add_listed.new.rules.items) = search rules in
-    let behind : length front + 1 ≡ length (front ++ (line ∷ [])) = omega (arith, length-append front (line ∷ [])) in (
+    let behind : length (front ++ (line ∷ [])) ≡ length front + 1 = omega (arith, length-append front (line ∷ [])) in (
       front ++ (line ∷ []),
       is ∙ ap (λ l. front ++ l) cut ∙ sym (append_assoc front (line ∷ []) others),
-      rw (← behind) (given_next (rw cut at far) given),
+      rw behind (given_next far given),
       omega (arith, behind, counts, c.saturating_add-number.ensures),
     )
 
@@ -23,6 +23,4 @@ pub returns-clause-added : goal.returns-clause-added
 returns-clause-added c =
     let (front, is, far, counts) = c.loop-left.invariant in
     let all : lines_in c.args.text.now ≡ front = search rules in
-    let none : parts_left 10 c.loop-left.left ≡ [] = search rules in
-    let added = given_end (rw none at far) in
-    record { more = added.more; grown = added.grown; of = rw (ap length all) added.of }
+    record { more = far.more; grown = far.grown; of = rw all far.of }

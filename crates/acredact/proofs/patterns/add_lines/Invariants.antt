@@ -8,7 +8,7 @@ use Rattle.acredact.proofs.patterns.add_lines.Given as goal
 abbrev pub invariant-loop-left : goal.invariant-loop-left
 invariant-loop-left l = (front : List (List ℕ))
     × (lines_in l.fn.text ≡ front ++ parts_left 10 l.left)
-    × GivenSoFar (GivesLine l.fn.form) (lines_in l.fn.text) 0 (parts_left 10 l.left) (length front) (secrets_of l.initial.rules.items) (secrets_of l.rules.items)
+    × GivenSoFar (GivesLine l.fn.form) front 0 (length front) (secrets_of l.initial.rules.items) (secrets_of l.rules.items)
     × (l.number ≡ min (length front + 1) (2 ^ 64 - 1))
 
 abbrev pub decreases-loop-left : goal.decreases-loop-left
