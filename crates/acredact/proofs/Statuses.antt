@@ -1,43 +1,14 @@
 -- What the exit status says, by what is answered.
 use Rattle.acredact.proofs.Common.{Errors, Failure, Readers, SinkGhosts, Streams, Writers, bytes_left}
-use Rattle.std.proofs.Common.{◌≡◌, inl, inr, ℕ, ◌≤◌, List, Option, true, false, arith}
-use Rattle.std.specs.Prelude.{◌⊎◌, ◌&&◌, not, Bool, Result, Ok, Err, IfErr, OnOk}
-use Rattle.std.proofs.lemmas.Bool.{and_parts, not-true}
-use Rattle.acredact.specs.Arguments.{AsksForRules, AsksForRulesCheck, AsksToCheck, Given, GivesNoPattern, any_check_asked, checks_asked, gives_rules, has, rules_asked, rules_check_asked}
+use Rattle.std.proofs.Common.{◌≡◌, inl, inr, ℕ, List, Option}
+use Rattle.std.specs.Prelude.{Bool, Result, Ok, Err, IfErr, OnOk}
+use Rattle.acredact.specs.Arguments.{GivesNoPattern}
 use Rattle.acredact.specs.Calls.{Call, CallOutcome, IsLineOf, MayFail, OutputFails, RedactsEach, TellsAnyNumbers, TellsUpToEnd}
 use Rattle.acredact.specs.Failures.{EndsCall}
 use Rattle.acredact.specs.Statuses.{CallStatus, IsIdle}
-use Rattle.acredact.specs.declared.options.Word.TheVariants.{Check, Help, Version}
 use Rattle.acredact.proofs.Outcomes.{status_says}
 -- a line alone
 pub use Rattle.tool_parts.proofs.Lines.{some-one as tells_one}
-
--- what a call does not ask for
-pub unruled : (given : List Given) → rules_asked given ≡ false → AsksForRules given → ⊥
-unruled given none asks = let clash : true ≡ false = rw (asks.rules, asks.no_help, asks.no_version, asks.no_check) at none in cc
-
-pub unruled_check : (given : List Given) → rules_check_asked given ≡ false → AsksForRulesCheck given → ⊥
-unruled_check given none asks = let clash : true ≡ false = rw (asks.check, asks.rules, asks.no_help, asks.no_version) at none in cc
-
--- and what it asks for
-pub asks_check : (given : List Given) → checks_asked given ≡ true → AsksToCheck given
-asks_check given is =
-    let (third, no_rules) = and_parts (any_check_asked given) (not (gives_rules given)) is in
-    let (second, no_version) = and_parts (has Check given && not (has Help given)) (not (has Version given)) third in
-    let (check, no_help) = and_parts (has Check given) (not (has Help given)) second in
-    record { no_help = not-true (has Help given) no_help; no_version = not-true (has Version given) no_version; check = check; no_rules = not-true (gives_rules given) no_rules }
-
-pub asks_rules_check : (given : List Given) → rules_check_asked given ≡ true → AsksForRulesCheck given
-asks_rules_check given is =
-    let (third, no_version) = and_parts (has Check given && gives_rules given && not (has Help given)) (not (has Version given)) is in
-    let (second, no_help) = and_parts (has Check given && gives_rules given) (not (has Help given)) third in
-    let (check, rules) = and_parts (has Check given) (gives_rules given) second in
-    record { no_help = not-true (has Help given) no_help; no_version = not-true (has Version given) no_version; check = check; rules = rules }
-
--- a status of 0 or 2 is no 1
-pub is_no_one : (status : ℕ) → (status ≡ 0) ⊎ (status ≡ 2) → (status ≤ 2) × (status ≡ 1 → ⊥)
-is_no_one status (inl is) = (omega (arith, is), λ one. omega (arith, is, one))
-is_no_one status (inr is) = (omega (arith, is), λ one. omega (arith, is, one))
 
 -- the numbers that a call told, and at most why it ended early
 numbers_told : {E : Type 0} (K : SinkGhosts E) (call : Call) (fails : Type 0) (left left' : Option (List ℕ)) (result : Result Bool Failure) (status : ℕ) (old mid new : Errors E) → EndsCall K result status mid new → IfErr result (MayFail call fails)

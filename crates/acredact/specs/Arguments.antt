@@ -16,6 +16,8 @@ use Rattle.acredact.specs.declared.arguments.Expects.{Expects}
 use Rattle.acredact.specs.declared.arguments.Expects.TheVariants.{Any, Value, Name}
 use Rattle.acredact.specs.declared.destination.Destination.{Destination}
 use Rattle.acredact.specs.declared.destination.Destination.TheVariants.{EachFile, NewFile, StandardOutput}
+use Rattle.acredact.specs.declared.options.Aim.{Aim}
+use Rattle.acredact.specs.declared.options.Aim.TheVariants.{CheckLines, CheckTexts, Explain, RedactLines, RedactTexts}
 use Rattle.acredact.specs.declared.options.Item.{Item}
 use Rattle.acredact.specs.declared.mistakes.Mistake.{Mistake}
 use Rattle.acredact.specs.declared.mistakes.Mistake.TheVariants.{Mixed, OutOfMemory}
@@ -288,49 +290,41 @@ AreMixed arguments mistake =
 abbrev pub IsMistakeOfCall : List (List ℕ) → Mistake → Type 0
 IsMistakeOfCall arguments mistake = IsMistake arguments mistake ⊎ AreMixed arguments mistake
 
+-- what a call is to do, by whether it is a check, and whether there are rules
+abbrev pub aim_by : (check rules : Bool) → Aim
+aim_by false false = RedactTexts
+aim_by false true = RedactLines
+aim_by true false = CheckTexts
+aim_by true true = CheckLines
+
+-- where the help or the version is asked for that is written, and nothing else is done
+abbrev pub aim_of : List Given → Aim
+aim_of given = if has Help given || has Version given then Explain else aim_by (has Check given) (gives_rules given)
+
 -- a redaction is asked for: no help, no version and no check; and there are no rules
-pub record AsksToRedact (given : List Given) : Type 0 where
-  pub no_help : has Help given ≡ false
-  pub no_version : has Version given ≡ false
-  pub no_check : has Check given ≡ false
-  pub no_rules : gives_rules given ≡ false
+abbrev pub AsksToRedact : List Given → Type 0
+AsksToRedact given = aim_of given ≡ RedactTexts
 
 -- or a check of patterns alone
-pub record AsksToCheck (given : List Given) : Type 0 where
-  pub no_help : has Help given ≡ false
-  pub no_version : has Version given ≡ false
-  pub check : has Check given ≡ true
-  pub no_rules : gives_rules given ≡ false
-
-abbrev pub checks_asked : List Given → Bool
-checks_asked given = has Check given && not (has Help given) && not (has Version given) && not (gives_rules given)
+abbrev pub AsksToCheck : List Given → Type 0
+AsksToCheck given = aim_of given ≡ CheckTexts
 
 -- or a redaction by rules
-pub record AsksForRules (given : List Given) : Type 0 where
-  pub no_help : has Help given ≡ false
-  pub no_version : has Version given ≡ false
-  pub no_check : has Check given ≡ false
-  pub rules : gives_rules given ≡ true
-
-abbrev pub rules_asked : List Given → Bool
-rules_asked given = gives_rules given && not (has Help given) && not (has Version given) && not (has Check given)
+abbrev pub AsksForRules : List Given → Type 0
+AsksForRules given = aim_of given ≡ RedactLines
 
 -- or a check by rules
-pub record AsksForRulesCheck (given : List Given) : Type 0 where
-  pub no_help : has Help given ≡ false
-  pub no_version : has Version given ≡ false
-  pub check : has Check given ≡ true
-  pub rules : gives_rules given ≡ true
-
-abbrev pub rules_check_asked : List Given → Bool
-rules_check_asked given = has Check given && gives_rules given && not (has Help given) && not (has Version given)
+abbrev pub AsksForRulesCheck : List Given → Type 0
+AsksForRulesCheck given = aim_of given ≡ CheckLines
 
 -- a check of either kind
-abbrev pub any_check_asked : List Given → Bool
-any_check_asked given = has Check given && not (has Help given) && not (has Version given)
+abbrev pub is_check : Aim → Bool
+is_check CheckTexts = true
+is_check CheckLines = true
+is_check other = false
 
 abbrev pub AsksAnyCheck : List Given → Type 0
-AsksAnyCheck given = AsksToCheck given ⊎ AsksForRulesCheck given
+AsksAnyCheck given = is_check (aim_of given) ≡ true
 
 -- whether files are to be replaced in place
 abbrev pub in_place_asked : List Given → Bool

@@ -2,7 +2,7 @@
 use Rattle.acredact.specs.Common.{All, Errors, FromRead, Ghosts, IsMember, Keeps, OutOfMemory, Patterns, Readers, Reason, SinkGhosts, TellsBytes, bytes_left, concat, name_bytes}
 use Rattle.std.specs.Prelude.{◌≡◌, ◌⊎◌, ℕ, ◌<◌, ◌≤◌, ◌||◌, Bool, true, false, List, [], ◌∷◌, ◌++◌, Option, None, Result, Ok, Err, IfOk}
 use mathlib.Core.Logic.{inl}
-use Rattle.acredact.specs.Arguments.{AsksToCheck, Given, GivesNoPattern, has, words_asked, gives_pattern}
+use Rattle.acredact.specs.Arguments.{Given, GivesNoPattern, has, words_asked, gives_pattern}
 use Rattle.acredact.specs.Builds.{patterns_by_given}
 use Rattle.acredact.specs.Calls.{Call, IsBuildRefusal, IsUnreadLine, TellsOfFiles, call_of, names_asked, reading_by}
 use Rattle.acredact.specs.Doubts.{IsDoubtFailure, TellsDoubts, all_doubt_lines}
@@ -217,11 +217,6 @@ pub record ChecksAlone {R W E : Type 0} {Reads : Readers R} (K : SinkGhosts E) (
   pub unread : GivesNoPattern call.given → streams'.input ≡ streams.input
   pub says : CheckStatus K call status (bytes_left streams.input) (bytes_left streams'.input) streams.errors streams'.errors
   pub unwritten : streams'.output ≡ streams.output
-
--- the same of one that asks for a check
-abbrev pub SaysOfCheck : {R W E F X : Type 0} {Reads : Readers R} → SinkGhosts E
-    → Folders F X → F → List Given → ℕ → (streams streams' : Streams R W E Reads) → Type 0
-SaysOfCheck K D folder given status streams streams' = AsksToCheck given → ChecksAlone K (call_of D folder given) status streams streams'
 
 module _ {R W E F X : Type 0} {Reads : Readers R} (D : Folders F X) (folder : F) (given : List Given) (streams streams' : Streams R W E Reads) where
   -- of a call that asks for this each file was read to its end, and nothing counts in any

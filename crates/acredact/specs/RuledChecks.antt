@@ -25,7 +25,7 @@ use Rattle.acredact.specs.declared.folder.Folder.{Ghosts as Folders}
 use Rattle.acredact.specs.declared.legend.Legend.{Legend}
 use Rattle.acredact.specs.declared.look.Searched.{Searched}
 use Rattle.acredact.specs.declared.look.Verdict.{Verdict}
-use Rattle.acredact.specs.declared.patterns.Rule.{Rule as PatternRule}
+use Rattle.acredact.specs.declared.rule.Rule.{Rule as PatternRule}
 use Rattle.acredact.specs.declared.streams.Streams.{Streams}
 use Rattle.acredact.specs.declared.teller.ByLines.{ByLines}
 

@@ -1,14 +1,16 @@
 -- What the exit status of a call says.
 use Rattle.acredact.specs.Common.{Readers, SinkGhosts, Writers, bytes_left}
 use Rattle.std.specs.Prelude.{◌≡◌, ℕ, List, if◌then◌else◌}
-use Rattle.acredact.specs.Arguments.{AsksForRules, AsksToRedact, Given, GivesNoPattern}
+use Rattle.acredact.specs.Arguments.{Given, GivesNoPattern, aim_of}
 use Rattle.acredact.specs.Calls.{BeginsCall, Call, IsLineOf, OfCall, OutputFails, RedactsWhole, TellsUpToEnd, call_of}
-use Rattle.acredact.specs.Checks.{SaysOfCheck}
+use Rattle.acredact.specs.Checks.{ChecksAlone}
 use Rattle.acredact.specs.Outcomes.{EndSays}
 use Rattle.acredact.specs.Ruled.{Between, RuledStatus}
-use Rattle.acredact.specs.RuledChecks.{SaysOfRulesCheck}
+use Rattle.acredact.specs.RuledChecks.{ChecksByRules}
 use Rattle.acredact.specs.declared.folder.Folder.{Ghosts as Folders}
 use Rattle.acredact.specs.declared.look.Verdict.{Verdict}
+use Rattle.acredact.specs.declared.options.Aim.{Aim}
+use Rattle.acredact.specs.declared.options.Aim.TheVariants.{CheckLines, CheckTexts, Explain, RedactLines, RedactTexts}
 use Rattle.acredact.specs.declared.streams.Streams.{Streams}
 
 -- that of a check
@@ -28,9 +30,16 @@ pub record CallStatus {R W E : Type 0} {Reads : Readers R} (Writes : Writers W) 
       (OfCall (BeginsCall Writes) call streams streams') status streams.errors streams'.errors
   pub numbers : TellsUpToEnd K call (OutputFails streams.output streams'.output) (bytes_left streams.input) (bytes_left streams'.input) streams.errors streams'.errors
 
--- what the status says of these options and files, whatever they ask for
-pub record SaysOfCall {R W E F X : Type 0} {Reads : Readers R} (Writes : Writers W) (K : SinkGhosts E) (D : Folders F X) (folder : F) (given : List Given) (status : ℕ) (streams streams' : Streams R W E Reads) : Type 0 where
-  pub redacted : AsksToRedact given → CallStatus Writes K (call_of D folder given) status streams streams'
-  pub checked : SaysOfCheck K D folder given status streams streams'
-  pub ruled : AsksForRules given → Between Writes (RuledStatus K (call_of D folder given) status) streams streams'
-  pub ruled_check : SaysOfRulesCheck Writes K D folder given status streams streams'
+-- what the status says, by what a call is to do
+abbrev pub SaysOfAim : {R W E : Type 0} {Reads : Readers R} → Writers W → SinkGhosts E → Call → ℕ → (streams streams' : Streams R W E Reads) → Aim → Type 0
+SaysOfAim Writes K call status streams streams' Explain = Unit {0}
+SaysOfAim Writes K call status streams streams' RedactTexts = CallStatus Writes K call status streams streams'
+SaysOfAim Writes K call status streams streams' RedactLines = Between Writes (RuledStatus K call status) streams streams'
+SaysOfAim Writes K call status streams streams' CheckTexts = ChecksAlone K call status streams streams'
+SaysOfAim Writes K call status streams streams' CheckLines = ChecksByRules Writes K call status streams streams'
+
+-- and of these options and files
+abbrev pub SaysOfCall : {R W E F X : Type 0} {Reads : Readers R} → Writers W → SinkGhosts E
+    → Folders F X → F → ℕ → (streams streams' : Streams R W E Reads) → List Given → Type 0
+SaysOfCall Writes K D folder status streams streams' given =
+    SaysOfAim Writes K (call_of D folder given) status streams streams' (aim_of given)

@@ -2,7 +2,7 @@
 
 ghost use Rattle.std.specs.Prelude.{◌≡◌, option_map};
 ghost use Rattle.tool_parts.specs.Arguments.{kind_by};
-ghost use Rattle.acredact.specs.Arguments.{all_given, checks_asked, counts_asked, covers_asked, given, has, in_place_asked, is_cover, is_same, kind_asked, last_value, output_asked, takes_value, gives_pattern, gives_rules, rules_asked, rules_check_asked, words_asked};
+ghost use Rattle.acredact.specs.Arguments.{aim_of, all_given, counts_asked, covers_asked, given, has, in_place_asked, is_cover, is_same, kind_asked, last_value, output_asked, takes_value, gives_pattern, gives_rules, words_asked};
 ghost use Rattle.acredact.specs.Mistakes.{value_name};
 
 use chromesquid::MatchKind;
@@ -62,6 +62,21 @@ pub enum Word {
     Version,
     /// A file that is read; `-` is standard input.
     File,
+}
+
+/// What a call is to do.
+#[derive(Clone, Copy)]
+pub enum Aim {
+    /// To write the help or the version.
+    Explain,
+    /// To redact files by patterns.
+    RedactTexts,
+    /// To redact the lines of files by rules, and by patterns beside them.
+    RedactLines,
+    /// To look for patterns in files.
+    CheckTexts,
+    /// To look by rules in the lines of files.
+    CheckLines,
 }
 
 /// An option with its value, or a file with its name. An option without a value has itself for one.
@@ -149,14 +164,19 @@ pub fn last_value<'a>(items: &[Item<'a>], word: Word) -> Option<&'a str>
     value
 }
 
-/// Whether a check is asked for, and no help, no version and no rules.
-pub fn checks(items: &[Item<'_>]) -> bool
-    ensures checks { result ≡ checks_asked (all_given items.now) }
+/// What these options ask for.
+pub fn aim_of(items: &[Item<'_>]) -> Aim
+    ensures aim { result ≡ aim_of (all_given items.now) }
 {
-    has(items, Word::Check)
-        && !has(items, Word::Help)
-        && !has(items, Word::Version)
-        && !gives_rules(items)
+    if has(items, Word::Help) || has(items, Word::Version) {
+        return Aim::Explain;
+    }
+    match (has(items, Word::Check), gives_rules(items)) {
+        (false, false) => Aim::RedactTexts,
+        (false, true) => Aim::RedactLines,
+        (true, false) => Aim::CheckTexts,
+        (true, true) => Aim::CheckLines,
+    }
 }
 
 /// The file that is written, where that is asked for, and no help and no version.
@@ -191,26 +211,6 @@ pub fn gives_rules(items: &[Item<'_>]) -> bool
     ensures gives { result ≡ gives_rules (all_given items.now) }
 {
     has(items, Word::Rules) || has(items, Word::After)
-}
-
-/// Whether lines are to be redacted by rules, and no help, no version and no check is asked for.
-pub fn asks_rules(items: &[Item<'_>]) -> bool
-    ensures asks { result ≡ rules_asked (all_given items.now) }
-{
-    gives_rules(items)
-        && !has(items, Word::Help)
-        && !has(items, Word::Version)
-        && !has(items, Word::Check)
-}
-
-/// Whether a check by rules is asked for, and no help and no version.
-pub fn checks_by_rules(items: &[Item<'_>]) -> bool
-    ensures checks { result ≡ rules_check_asked (all_given items.now) }
-{
-    has(items, Word::Check)
-        && gives_rules(items)
-        && !has(items, Word::Help)
-        && !has(items, Word::Version)
 }
 
 /// Whether words alone count: of a cover.

@@ -5,7 +5,7 @@ ghost use Rattle.chromesquid.specs.Searcher.{ForItsPatterns};
 ghost use Rattle.tool_parts.specs.Arguments.{texts};
 ghost use Rattle.tool_parts.specs.Streams.{WritesBytes};
 ghost use Rattle.tool_parts.specs.Telling.{TellsSome};
-ghost use Rattle.acredact.specs.Arguments.{AreMistaken, AsksAnyCheck, AsksToRedact, GivesNoPattern, IfAsked, IfChecking, IfNoCheck, IfRight, IfRuled, IfRulesCheck, IsCheck, RefusesUnclean, all_given, counts_asked, has};
+ghost use Rattle.acredact.specs.Arguments.{AreMistaken, AsksAnyCheck, GivesNoPattern, IfAsked, IfChecking, IfNoCheck, IfRight, IfRuled, IfRulesCheck, IsCheck, RefusesUnclean, all_given, counts_asked, has};
 ghost use Rattle.acredact.specs.Back.{DoesByPatterns};
 ghost use Rattle.acredact.specs.Calls.{AskedOutcome, BeginsAsked, CountsAsked, HidesAsked, IsPrintFailure, IsWrongLine, LeavesNoneAsked, NumbersToldAsked, OutputFails, RedactsAsked, TellsAsked, WarnsAsked};
 ghost use Rattle.acredact.specs.Checks.{MatchedAsked, TellsListsAsked, TellsUncheckedAsked, UnmatchedAsked};
@@ -23,7 +23,7 @@ use crate::files::{Job, redact_files};
 use crate::folder::Folder;
 use crate::help::{HELP, VERSION};
 use crate::mistakes::Mistake;
-use crate::options::{Item, Word, asks_rules, checks, checks_by_rules, counts, gives_pattern, has};
+use crate::options::{Aim, Item, Word, aim_of, counts, gives_pattern, has};
 use crate::prepare::{job_of, prepare};
 use crate::ruled::redact_by_rules;
 use crate::ruled_check::check_by_rules;
@@ -166,7 +166,7 @@ pub fn answer_to<F: Folder, I: Read, W: Write, E: Sink>(
     ensures tells_wrong { AreMistaken arguments.now → TellsSome E.Sink
         (IsWrongLine (texts arguments.now)) streams.old.errors streams.new.errors }
     ensures says { IfRight arguments.now (λ given.
-        SaysOfCall W.Write E.Sink F.Folder folder.now given result streams.old streams.new) }
+        SaysOfCall W.Write E.Sink F.Folder folder.now result streams.old streams.new given) }
     ensures flushed { IfNoCheck arguments.now (result ≡ 0
         → streams.new.output.device.flushed ≡ true) }
     ensures bound { result ≤ 2 }
@@ -185,31 +185,43 @@ fn answer<F: Folder, I: Read, W: Write, E: Sink>(
     folder: &F,
     streams: &mut Streams<'_, I, W, E>,
 ) -> u8
-    ensures says { SaysOfCall W.Write E.Sink F.Folder folder.now (all_given given.now)
-        result streams.old streams.new }
+    ensures says { SaysOfCall W.Write E.Sink F.Folder folder.now
+        result streams.old streams.new (all_given given.now) }
     ensures flushed { (AsksAnyCheck (all_given given.now) → ⊥) → result ≡ 0
         → streams.new.output.device.flushed ≡ true }
     ensures bound { result ≤ 2 }
     ensures one { result ≡ 1 → AsksAnyCheck (all_given given.now) }
 {
-    if checks_by_rules(given) {
-        return check_by_rules(alloc, given, folder, streams);
-    }
-    if asks_rules(given) {
-        let done = redact_by_rules(alloc, given, folder, streams);
-        return report_end(done, &mut streams.errors);
-    }
-    if checks(given) {
-        return check(
+    match aim_of(given) {
+        Aim::CheckLines => check_by_rules(alloc, given, folder, streams),
+        Aim::CheckTexts => check(
             alloc,
             given,
             folder,
             &mut streams.input,
             &mut streams.errors,
-        );
+        ),
+        Aim::RedactLines => {
+            let done = redact_by_rules(alloc, given, folder, streams);
+            report_end(done, &mut streams.errors)
+        }
+        Aim::RedactTexts => {
+            let done = redact_asked(alloc, given, folder, streams);
+            report_end(done, &mut streams.errors)
+        }
+        Aim::Explain => {
+            let done = print(&mut streams.output, explained(given));
+            report_end(done, &mut streams.errors)
+        }
     }
-    let done = redact_asked(alloc, given, folder, streams);
-    report_end(done, &mut streams.errors)
+}
+
+/// What the help says, where it is asked for, and else the version.
+fn explained(given: &[Item<'_>]) -> &'static [u8] {
+    if has(given, Word::Help) {
+        return HELP;
+    }
+    VERSION
 }
 
 /// Redacts what the options and files ask for, without rules, and answers whether all files were read.
@@ -219,20 +231,12 @@ fn redact_asked<'a, F: Folder, I: Read, W: Write, E: Sink>(
     folder: &F,
     streams: &mut Streams<'_, I, W, E>,
 ) -> Result<bool, Failure<'a>>
-    ensures patternless { AsksToRedact (all_given given.now)
-        → GivesNoPattern (all_given given.now) → OnOk result ⊥ }
-    ensures idle { AsksToRedact (all_given given.now)
-        → GivesNoPattern (all_given given.now) → IsIdle streams.old streams.new }
-    ensures outcome { AsksToRedact (all_given given.now) → AskedOutcome W.Write E.Sink
+    ensures patternless { GivesNoPattern (all_given given.now) → OnOk result ⊥ }
+    ensures idle { GivesNoPattern (all_given given.now) → IsIdle streams.old streams.new }
+    ensures outcome { AskedOutcome W.Write E.Sink
         F.Folder folder.now (all_given given.now) result streams.old streams.new }
     ensures flushed { OnOk result (streams.new.output.device.flushed ≡ true) }
 {
-    if has(given, Word::Help) {
-        return print(&mut streams.output, HELP);
-    }
-    if has(given, Word::Version) {
-        return print(&mut streams.output, VERSION);
-    }
     if !gives_pattern(given) {
         return Err(Failure::Arguments(Mistake::NoPattern));
     }

@@ -1,7 +1,7 @@
 -- The arguments are right or wrong, and then the status is that of the call.
 use Rattle.acredact.proofs.Common.{texts}
-use Rattle.std.proofs.Common.{inl, inr, ap, refl, ◌∙◌, arith}
-use Rattle.std.specs.Prelude.{Err}
+use Rattle.std.proofs.Common.{◌≡◌, ◌≤◌, ℕ, zero, suc, inl, inr, ap, refl, ◌∙◌, arith}
+use Rattle.std.specs.Prelude.{◌⊎◌, Err}
 use Rattle.acredact.specs.Arguments.{all_given}
 use Rattle.acredact.specs.Calls.{IsWrongLine}
 use Rattle.acredact.specs.declared.failure.Failure.TheVariants.{Arguments}
@@ -9,6 +9,12 @@ use Rattle.acredact.proofs.Given.{memory_alone, same_given}
 use Rattle.acredact.proofs.RedactedCalls.{places_status, places_refused}
 use Rattle.acredact.proofs.Statuses.{tells_one}
 use Rattle.acredact.proofs.in_place.replace_in_place.Goals as goal
+
+-- the status is 0 or 2
+ended_by : (status : ℕ) → status ≤ 2 → (status ≡ 1 → ⊥) → (status ≡ 0) ⊎ (status ≡ 2)
+ended_by zero most other = inl refl
+ended_by (suc zero) most other = absurd (other refl)
+ended_by (suc (suc rest)) most other = inr (omega (arith, most))
 
 pub returns-in-Err : goal.returns-in-Err
 returns-in-Err g c =
@@ -28,4 +34,4 @@ returns-in-Err g c =
 pub returns-clause-says : goal.returns-clause-says
 returns-clause-says g c = λ given right asks.
     let same = ap all_given c.as_slice.ensures.value ∙ same_given _ given _ right c.in-Ok.ensures.given in
-    rw same at (places_status c.load_places-done.result c.report_end.result c.report_end.ensures.ends c.report_end.ensures.bound c.load_places-done.ensures.outcome)
+    rw same at (places_status c.load_places-done.result c.report_end.result c.report_end.ensures.ends (ended_by _ c.report_end.ensures.bound c.report_end.ensures.other) c.load_places-done.ensures.outcome)

@@ -1,14 +1,13 @@
 -- The new file is made and filled, or it is told why not.
 use Rattle.acredact.proofs.Common.{Errors, Readers, SinkGhosts, Streams, Tells, TellsSome, Writers}
-use Rattle.std.proofs.Common.{rules, ◌≡◌, ℕ, ◌≤◌, List, false, inl, inr, refl, subst, sym, true, ◌∙◌, arith}
+use Rattle.std.proofs.Common.{rules, ◌≡◌, ℕ, ◌≤◌, List, false, inl, inr, refl, subst, sym, true, ◌∙◌, arith, ap}
 use Rattle.std.specs.Prelude.{Bool, Ok, Some, ◌==◌}
 use Rattle.std.proofs.lemmas.Bool.{eqb-false, eqb-true}
-use Rattle.acredact.specs.Arguments.{AsksAnyCheck, Given, IsCheck, all_asked, has}
+use Rattle.acredact.specs.Arguments.{AsksAnyCheck, Given, IsCheck, aim_of, all_asked, is_check}
 use Rattle.acredact.specs.Calls.{IsLineOf, call_of}
 use Rattle.acredact.specs.Files.{unread_line}
 use Rattle.acredact.specs.InPlace.{IsOutputLine, IsSettled, TakesPlace}
 use Rattle.acredact.specs.Ruled.{IsRuledTold}
-use Rattle.acredact.specs.declared.options.Word.TheVariants.{Check}
 use Rattle.acredact.specs.declared.outputs.Outputs.{Ghosts as Places}
 use Rattle.acredact.proofs.Calls.{some_weaker, tells_last, tells_weaker}
 use Rattle.acredact.proofs.Given.{same_given}
@@ -16,16 +15,13 @@ use Rattle.acredact.proofs.Statuses.{tells_one}
 use Rattle.acredact.proofs.into.make_and_run.Goals as goal
 
 -- what is no check is none of either kind
-no_check_of : (arguments : List (List ℕ)) (given : List Given) → all_asked arguments ≡ Some given → has Check given ≡ false
+no_check_of : (arguments : List (List ℕ)) (given : List Given) → all_asked arguments ≡ Some given → is_check (aim_of given) ≡ false
     → ((items : List Given) × (all_asked arguments ≡ Some items) × AsksAnyCheck items) → ⊥
-no_check_of arguments given right none (items, mine, asks) = by (subst AsksAnyCheck (same_given (all_asked arguments) given items right mine) asks)
-  where
-    by : AsksAnyCheck given → ⊥
-    by (inl checks) = let clash : true ≡ false = sym checks.check ∙ none in cc
-    by (inr checks) = let clash : true ≡ false = sym checks.check ∙ none in cc
+no_check_of arguments given right none (items, mine, asks) =
+    let clash : true ≡ false = sym (subst AsksAnyCheck (same_given (all_asked arguments) given items right mine) asks) ∙ none in cc
 
 -- so its status is 0 or 2
-two_of : (arguments : List (List ℕ)) (given : List Given) → all_asked arguments ≡ Some given → has Check given ≡ false → (status : ℕ) → status ≤ 2
+two_of : (arguments : List (List ℕ)) (given : List Given) → all_asked arguments ≡ Some given → is_check (aim_of given) ≡ false → (status : ℕ) → status ≤ 2
     → (status ≡ 1 → (items : List Given) × (all_asked arguments ≡ Some items) × AsksAnyCheck items) → (status == 0) ≡ false → status ≡ 2
 two_of arguments given right none status bound one some = omega (arith, λ (is : status ≡ 1). no_check_of arguments given right none (one is), eqb-false status 0 some)
 
@@ -62,10 +58,10 @@ returns-then-settle g c =
       puts = rw same puts;
     } in
     record {
-      writes = λ given right asks is. (new (no_check_of _ given right asks.no_check), rw same (((ran.says given right).redacted asks).says.done zero));
+      writes = λ given right asks is. (new (no_check_of _ given right (ap is_check asks)), rw same ((rw asks at (ran.says given right)).says.done zero));
       leaves = λ failed. absurd (failed refl);
       tells = λ given right asks failed. absurd (failed refl);
-      ruled_writes = λ given right asks is. (new (no_check_of _ given right asks.no_check), rw same (((ran.says given right).ruled asks).done zero));
+      ruled_writes = λ given right asks is. (new (no_check_of _ given right (ap is_check asks)), rw same ((rw asks at (ran.says given right)).done zero));
       ruled_tells = λ given right asks failed. absurd (failed refl);
     }
 
@@ -78,17 +74,17 @@ returns-else-settle g c =
       writes = λ given right asks (zero : 2 ≡ 0). absurd (omega arith);
       leaves = λ failed. inr (inr (record { held = _; meanwhile = c.make.new.self; made = c.in-Ok.ensures.made; kept = (rw c.if-settle.false at c.settle.ensures.settled).0 }));
       tells = λ given right asks failed.
-          let says = ((ran.says given right).redacted asks).says in
+          let says = (rw asks at (ran.says given right)).says in
           inr (
             c.new.result,
             c.make.new.self,
             rw c.new.ensures.writer c.in-Ok.ensures.made,
-            rw c.settle.ensures.output (settled (IsLineOf (call_of g.F.Folder c.args.folder.now given) _) _ says.told (λ none. says.tells (two_of _ given right asks.no_check status ran.bound ran.one none))),
+            rw c.settle.ensures.output (settled (IsLineOf (call_of g.F.Folder c.args.folder.now given) _) _ says.told (λ none. says.tells (two_of _ given right (ap is_check asks) status ran.bound ran.one none))),
           );
       ruled_writes = λ given right asks (zero : 2 ≡ 0). absurd (omega arith);
       ruled_tells = λ given right asks failed.
-          let says = (ran.says given right).ruled asks in
-          settled (IsRuledTold (call_of g.F.Folder c.args.folder.now given)) _ says.told (λ none. says.tells (two_of _ given right asks.no_check status ran.bound ran.one none));
+          let says = rw asks at (ran.says given right) in
+          settled (IsRuledTold (call_of g.F.Folder c.args.folder.now given)) _ says.told (λ none. says.tells (two_of _ given right (ap is_check asks) status ran.bound ran.one none));
     }
 
 pub returns-in-Err-clause-tells : goal.returns-in-Err-clause-tells

@@ -14,31 +14,34 @@ use Rattle.acredact.proofs.RedactedCalls.{call_cut, call_told}
 use Rattle.acredact.proofs.run.redact_asked.Goals as goal
 
 pub returns-then-not-gives_pattern-clause-outcome : goal.returns-then-not-gives_pattern-clause-outcome
-returns-then-not-gives_pattern-clause-outcome g c = λ asks.
+returns-then-not-gives_pattern-clause-outcome g c =
     let none : gives_pattern (all_given c.args.given.now) ≡ false = search rules in
     call_refused g.W.Write g.E.Sink (call_of g.F.Folder c.args.folder.now (all_given c.args.given.now)) _ _ _ _ _ (inl (inr (refl, none)))
 
 pub returns-in-Err-clause-outcome : goal.returns-in-Err-clause-outcome
-returns-in-Err-clause-outcome g c = λ asks.
+returns-in-Err-clause-outcome g c =
     let call = call_of g.F.Folder c.args.folder.now (all_given c.args.given.now) in
     call_refused g.W.Write g.E.Sink call _ _ c.in-Err.failure _ _ (inr (inl c.in-Err.ensures.fails))
 
 pub returns-in-Err-prepare-clause-outcome : goal.returns-in-Err-prepare-clause-outcome
-returns-in-Err-prepare-clause-outcome g c = λ asks.
+returns-in-Err-prepare-clause-outcome g c =
     let call = call_of g.F.Folder c.args.folder.now (all_given c.args.given.now) in
     let loaded = c.in-Ok.ensures.loaded in
     let untold = c.in-Err-prepare.ensures.untold in
     call_ended g.W.Write g.E.Sink call _ _ c.in-Err-prepare.failure _ _ _ (may_prepare call (loaded_in c.in-Ok.secrets) _ _ loaded _ c.in-Err-prepare.failure c.in-Err-prepare.ensures.fails)
     (unready_may g.E.Sink call _ (λ line is. inr is) (loaded_in c.in-Ok.secrets) _ _ loaded _ _ untold)
 
+pub redact_by-requires : goal.redact_by-requires
+redact_by-requires g c = record { ready = c.job_of-job.ensures.can c.in-Ok-prepare.ensures.ready }
+
 pub returns-in_err-counted-clause-outcome : goal.returns-in_err-counted-clause-outcome
-returns-in_err-counted-clause-outcome g c = λ asks.
+returns-in_err-counted-clause-outcome g c =
     let call = call_of g.F.Folder c.args.folder.now (all_given c.args.given.now) in
     let is : c.from_residual.result ≡ Err (Other OutOfMemory) = passed_on c.from_residual.result (Other OutOfMemory) c.from_residual.ensures.1 in
     rw is (call_refused g.W.Write g.E.Sink call _ _ (Other OutOfMemory) _ _ (may_fail call _ (Other OutOfMemory) (inl refl)))
 
 pub returns-in_err-all-clause-outcome : goal.returns-in_err-all-clause-outcome
-returns-in_err-all-clause-outcome g c = λ asks.
+returns-in_err-all-clause-outcome g c =
     let call = call_of g.F.Folder c.args.folder.now (all_given c.args.given.now) in
     let load = loaded_in c.in-Ok.secrets in
     let begun = record c.args.streams.now { input = c.load.new.input; errors = c.prepare.new.errors } in
@@ -49,7 +52,7 @@ returns-in_err-all-clause-outcome g c = λ asks.
     (call_cut g.W.Write g.E.Sink call (bytes_left c.args.streams.now.input) load begun c.redact_by.new.streams c.in-Ok.ensures.loaded c.args.streams.now.errors c.in-Ok-prepare.ensures.told c.in_err-all.field-0.0 files)
 
 pub returns-clause-outcome : goal.returns-clause-outcome
-returns-clause-outcome g c = λ asks.
+returns-clause-outcome g c =
     let call = call_of g.F.Folder c.args.folder.now (all_given c.args.given.now) in
     let items = c.in-Ok.secrets.rules.items in
     let begun = record c.args.streams.now { input = c.load.new.input; errors = c.prepare.new.errors } in
