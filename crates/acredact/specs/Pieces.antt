@@ -1,5 +1,5 @@
 -- Which of the texts that are written in the place of patterns are clean, so that with what stands beside them they spell no pattern.
-use Rattle.acredact.specs.Common.{All, Errors, Occurrence, Patterns, SinkGhosts, TellsBytes, folded_by, pieces_of}
+use Rattle.acredact.specs.Common.{All, Errors, Occurrence, Patterns, SinkGhosts, TellsBytes, folded_by, pieces_of, Bor}
 use Rattle.std.specs.Prelude.{◌≡◌, ◌⊎◌, ℕ, ◌+◌, ◌-◌, ◌<◌, Bool, true, false, List, [], Option, Some, None, is_some, length, slice_index, slice_index_or}
 use Rattle.aho_core.specs.Occurs.{OccursIn}
 use Rattle.aho_core.specs.Patterns.{pattern_at}
@@ -23,8 +23,8 @@ abbrev pub IsMarked : Bool → List ℕ → List Bool → Type 0
 IsMarked ignore_case word marks = All (λ byte. slice_index_or marks (folded_by ignore_case byte) false ≡ true) word
 
 -- and those of all words
-abbrev pub WordsAreMarked : Bool → List (List ℕ) → List Bool → Type 0
-WordsAreMarked ignore_case words marks = All (λ word. IsMarked ignore_case word marks) words
+abbrev pub WordsAreMarked : Bool → List (Bor (List ℕ)) → List Bool → Type 0
+WordsAreMarked ignore_case words marks = All (λ word. IsMarked ignore_case word.now marks) words
 
 -- what was marked stays so
 abbrev pub StayMarked : List Bool → List Bool → Type 0

@@ -1,7 +1,7 @@
 -- Values that are patterns: of variables, of the environment or of a file, and of whole files.
 use Rattle.acredact.specs.Common.{Bor, bytes_eq, ends_with_byte, strip_last}
-use Rattle.std.specs.Prelude.{◌≡◌, ℕ, ◌+◌, ◌-◌, ◌^◌, ◌||◌, ◌&&◌, not, min, Bool, MatchBool, false, true, List, [], ◌∷◌, ◌++◌, Option, Some, None, if◌then◌else◌, length, nat_eq, option_and_then, option_map}
-use Rattle.std.specs.List.{filter_map, list_all, list_any, starts_with}
+use Rattle.std.specs.Prelude.{◌≡◌, ℕ, ◌+◌, ◌-◌, ◌^◌, ◌||◌, ◌&&◌, not, min, Bool, MatchBool, false, true, List, [], ◌∷◌, ◌++◌, Option, Some, None, if◌then◌else◌, length, nat_eq, option_and_then, option_map, unwrap_or}
+use Rattle.std.specs.List.{filter_map, find, list_all, list_any, starts_with}
 use Rattle.aho_cover.specs.Words.{is_word_part}
 use Rattle.acredact.specs.Forms.{split_first}
 use Rattle.acredact.specs.Parts.{GivesPattern}
@@ -52,8 +52,7 @@ values_with values (Some value) = values ++ (value ∷ [])
 
 -- a line of a file of variables that is blank, or a comment, holds none
 abbrev pub is_no_variable : List ℕ → Bool
-is_no_variable [] = true
-is_no_variable (byte ∷ bytes) = if nat_eq byte 32 || nat_eq byte 9 then is_no_variable bytes else nat_eq byte 35
+is_no_variable line = unwrap_or (option_map (λ byte. nat_eq byte 35) (find (λ byte. not (nat_eq byte 32 || nat_eq byte 9)) line)) true
 
 abbrev pub value_in_line : List ℕ → Option (List ℕ)
 value_in_line line = if is_no_variable line then None else behind_equals line

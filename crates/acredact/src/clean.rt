@@ -94,7 +94,7 @@ fn flaw_of<A: Automaton>(
     requires of { (p : Patterns) × A.is_of automaton.now p }
     requires starts { IsOk (A.start automaton.now No) }
     requires sized { length marks.now ≡ 256 }
-    requires marked { WordsAreMarked judge.now.ignore_case (pieces_of judge.now.words.now) marks.now }
+    requires marked { WordsAreMarked judge.now.ignore_case judge.now.words.now marks.now }
     ensures flaw { IfOf A.Automaton automaton.now (λ p.
         IsJudgeOf judge.now p →
         IsFlawOrNone p piece.now result) }
@@ -133,7 +133,7 @@ fn found_in<A: Automaton>(automaton: &A, piece: &[u8]) -> Option<Match>
 #[tactic(auto, using(crate::proofs::Flaws::unmarked))]
 fn holder_of(judge: &Judge<'_, '_>, marks: &[bool], byte: u8) -> Option<usize>
     requires sized { length marks.now ≡ 256 }
-    requires marked { WordsAreMarked judge.now.ignore_case (pieces_of judge.now.words.now) marks.now }
+    requires marked { WordsAreMarked judge.now.ignore_case judge.now.words.now marks.now }
     ensures holder { result ≡ holder_in judge.now.ignore_case (pieces_of judge.now.words.now) byte }
 {
     if !marks[folded(byte, judge.ignore_case) as usize] {
@@ -159,7 +159,7 @@ fn holds(word: &[u8], ignore_case: bool, byte: u8) -> bool
 /// The bytes that some word holds, as they are compared.
 fn marks_of(words: &[&[u8]], ignore_case: bool) -> [bool; 256]
     ensures sized { length result ≡ 256 }
-    ensures marked { WordsAreMarked ignore_case (pieces_of words.now) result }
+    ensures marked { WordsAreMarked ignore_case words.now result }
 {
     let mut marks = [false; 256];
     for word in words {

@@ -99,12 +99,10 @@ fn push_value<'e>(values: &mut Vec<&'e [u8]>, value: Option<&'e [u8]>) -> Result
 fn is_no_variable(line: &[u8]) -> bool
     ensures passed { result ≡ is_no_variable line.now }
 {
-    for byte in line {
-        if *byte != b' ' && *byte != b'\t' {
-            return *byte == b'#';
-        }
+    match line.iter().find(|byte| **byte != b' ' && **byte != b'\t') {
+        Some(byte) => *byte == b'#',
+        None => true,
     }
-    true
 }
 
 /// What stands behind the first equals sign of a text, where there is one.
