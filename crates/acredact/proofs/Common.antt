@@ -50,6 +50,6 @@ pub use Rattle.acredact.specs.declared.look.Look.{Look}
 pub use Rattle.acredact.specs.declared.look.Verdict.{Verdict}
 pub use Rattle.acredact.specs.declared.options.Word.TheVariants.{AsWord, Forms, Strict}
 pub use Rattle.acredact.specs.declared.patterns.Form.{Form}
-pub use Rattle.acredact.specs.declared.patterns.Rule.{Rule}
+pub use Rattle.acredact.specs.declared.rule.Rule.{Rule}
 pub use Rattle.acredact.specs.declared.streams.Streams.{Streams}
 pub use Rattle.acredact.specs.declared.summary.Volume.{Volume}

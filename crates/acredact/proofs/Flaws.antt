@@ -60,11 +60,11 @@ module _ (ignore_case : Bool) (byte place : ℕ) (marks : List Bool) (is : place
       list_any_none (λ other. nat_eq (folded_by ignore_case other) (folded_by ignore_case byte)) word
       (All-weaker (λ other. get_or marks (folded_by ignore_case other) false ≡ true) (λ other. nat_eq (folded_by ignore_case other) (folded_by ignore_case byte) ≡ false) (λ other held. grind arith) word marked)
 
-  pub unmarked : (number : ℕ) (words : List (List ℕ)) → WordsAreMarked ignore_case words marks → first_number (λ word. holds_byte ignore_case word byte) number words ≡ None
+  pub unmarked : (number : ℕ) (words : List (Bor (List ℕ))) → WordsAreMarked ignore_case words marks → first_number (λ word. holds_byte ignore_case word byte) number (pieces_of words) ≡ None
   unmarked number [] marked = refl
   unmarked number (word ∷ words) marked =
-      ap (λ (b : Bool). if b then Some number else first_number (λ w. holds_byte ignore_case w byte) (number + 1) words) (not_marked word (All-head (λ w. IsMarked ignore_case w marks) word words marked))
-      ∙ unmarked (number + 1) words (All-tail (λ w. IsMarked ignore_case w marks) word words marked)
+      ap (λ (b : Bool). if b then Some number else first_number (λ w. holds_byte ignore_case w byte) (number + 1) (pieces_of words)) (not_marked word.now (All-head (λ w. IsMarked ignore_case w.now marks) word words marked))
+      ∙ unmarked (number + 1) words (All-tail (λ w. IsMarked ignore_case w.now marks) word words marked)
 
 -- the last byte of a piece stands behind the others
 last_of : (piece : List ℕ) → 0 < length piece → (front : List ℕ) × (piece ≡ front ++ get_or piece (length piece - 1) 0 ∷ [])

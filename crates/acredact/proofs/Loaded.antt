@@ -1,13 +1,14 @@
 -- The patterns that options give, one after another.
-use Rattle.acredact.proofs.Common.{Failure, get_or-map, is_input, length-map, take_all}
+use Rattle.acredact.proofs.Common.{Failure, get_or-map, is_input, length-map, take_all, Folders}
 use Rattle.std.proofs.Common.{◌≡◌, inr, ℕ, ◌+◌, ◌<◌, ◌≤◌, List, [], ◌∷◌, ◌++◌, Option, refl, sym, ap, subst, ◌∙◌, append-nil, append_assoc, arith, get_or, length, map, take}
 use Rattle.std.specs.Prelude.{Bool, MatchBool, IfSome, false}
 use Rattle.std.proofs.KnownBytes.{Consumes-all}
 use Rattle.std.proofs.lemmas.List.{map_more}
 use Rattle.acredact.specs.declared.options.Item.{Item}
 use Rattle.acredact.specs.Arguments.{all_given, given_of}
-use Rattle.acredact.specs.Loading.{CannotLoad, CannotLoadOne, IsFileFailure, IsListedFailure, Reading}
+use Rattle.acredact.specs.Loading.{CannotLoad, CannotLoadOne, IsFileFailure, IsListedFailure, Reading, Rules, reading_of_lists, rules_for}
 use Rattle.acredact.specs.declared.load.Listed.{Listed}
+use Rattle.acredact.specs.declared.load.Lists.{Lists}
 use Rattle.acredact.specs.Parts.{IsAddedSome}
 use Rattle.acredact.specs.Reads.{EachGives, OfName, ReadsText}
 
@@ -40,6 +41,12 @@ module _ {I X S : Type 0} {Gives : I → List X → (left left' : S) → Type 0}
 
     pub given_all : length ys ≤ at → GivenSoFar Gives (map f (take at ys)) before between old mid → IsAddedSome (λ more. EachGives Gives (map f ys) more before between) old mid
     given_all past far = record { more = far.more; grown = far.grown; of = rw (take_all at ys past) at far.of }
+
+-- lists are read alike
+pub reading_from : {F X : Type 0} (D : Folders F X) (lists : Lists F) (folder : F) (rules : Rules) → lists.folder.now ≡ folder → rules_for lists ≡ rules → (P : Reading → Type 0)
+    → P (reading_of_lists D lists) → P (record { holds = D.holds folder; refuses = D.refuses folder; environment = D.environment folder; rules = rules })
+reading_from {F} D lists folder rules same alike P is =
+    rw (← same, ← alike) is
 
 -- one of the items cannot be loaded
 pub fails_at : (reading : Reading) (items : List Item) (at : ℕ) (d : Item) (failure : Failure) → at < length items → CannotLoad reading (given_of (get_or items at d)) failure → CannotLoadOne reading (all_given items) failure

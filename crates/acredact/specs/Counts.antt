@@ -1,7 +1,7 @@
 -- How many matches of each pattern were replaced, and how that is told.
 use Rattle.std.specs.Prelude.{◌≡◌, ℕ, ◌+◌, ◌-◌, ◌^◌, ◌==◌, min, Bool, List, [], ◌∷◌, ◌++◌, codes, decimal, length, map, replicate, Vec, if◌then◌else◌}
 use Rattle.acredact.specs.Tables.{Secret, secrets_of}
-use Rattle.acredact.specs.declared.patterns.Rule.{Rule}
+use Rattle.acredact.specs.declared.rule.Rule.{Rule}
 
 -- these bytes were put at the end of a text
 abbrev pub PutsText : {Z : Type 0} → (text text' : Vec ℕ Z) → List ℕ → Type 0

@@ -9,7 +9,7 @@ use Rattle.secret_forms.specs.declared.form.Form.TheVariants.{Base64, Hex, Url, 
 use Rattle.acredact.specs.Tables.{Secret, secrets_of}
 use Rattle.acredact.specs.declared.forms.Asked.{Asked}
 use Rattle.acredact.specs.declared.forms.Nested.{Nested}
-use Rattle.acredact.specs.declared.patterns.Rule.{Rule}
+use Rattle.acredact.specs.declared.rule.Rule.{Rule}
 
 -- a form is called so
 abbrev pub is_called : List ℕ → SecretForm → Bool

@@ -11,7 +11,7 @@ use Rattle.acredact.specs.LineFaults.{IsLineFault, IsListFault, mark_in}
 use Rattle.acredact.specs.Named.{all_named}
 use Rattle.acredact.specs.Parts.{GivesPattern}
 use Rattle.acredact.specs.Reads.{EachGives, OfName, ReadsText}
-use Rattle.acredact.specs.Tables.{AreOfLines, HaveNoEmpty, Secret, lines_in, secrets_of}
+use Rattle.acredact.specs.Tables.{AreOfLines, Secret, lines_in, secrets_of}
 use Rattle.acredact.specs.Values.{GiveEach, are_refused, first_fault, is_some_value, value_of_entry, values_in_lines, whole_in}
 use Rattle.acredact.specs.declared.options.Word.{Word}
 use Rattle.acredact.specs.declared.options.Word.TheVariants.{Env, EnvFile, Forms, IgnoreCase, Pattern, Patterns, Pseudonym, Table, Whole}
@@ -23,7 +23,7 @@ use Rattle.acredact.specs.declared.load.Listed.TheVariants.{Plain, Rows, Variabl
 use Rattle.acredact.specs.declared.load.Lists.{Lists}
 use Rattle.acredact.specs.declared.patterns.BadLine.{BadLine}
 use Rattle.acredact.specs.declared.patterns.Form.{Form}
-use Rattle.acredact.specs.declared.patterns.Rule.{Rule}
+use Rattle.acredact.specs.declared.rule.Rule.{Rule}
 use Rattle.acredact.specs.declared.secrets.Secrets.{Secrets}
 
 -- how lists, the files of patterns and tables, are read
@@ -169,10 +169,6 @@ loaded_as rules key = loaded_of (secrets_of rules) key
 -- those that were loaded
 abbrev pub loaded_in : Secrets → Loaded
 loaded_in made = loaded_as made.rules.items (key_in made.key)
-
--- no pattern of them is empty
-abbrev pub AreSome : Secrets → Type 0
-AreSome made = HaveNoEmpty (secrets_of made.rules.items)
 
 -- a text is not read to its end: a read fails, or memory runs out
 abbrev pub IsTextReason : Reason → Type 0

@@ -3,7 +3,7 @@ use Rattle.acredact.specs.Common.{ends_with_byte, flat_map, slice_split, strip_l
 use Rattle.std.specs.Prelude.{◌≡◌, ◌==◌, ◌||◌, ℕ, Bool, MatchBool, false, List, [], ◌∷◌, ◌++◌, None, Vec, if◌then◌else◌, length, nat_eq, nat_lt}
 use Rattle.std.specs.List.{list_any}
 use Rattle.acredact.specs.Tables.{Holds, Secret, secrets_of}
-use Rattle.acredact.specs.declared.patterns.Rule.{Rule}
+use Rattle.acredact.specs.declared.rule.Rule.{Rule}
 
 -- a pattern that the option of this number gives
 abbrev pub secret_given : ℕ → List ℕ → Secret

@@ -28,7 +28,7 @@ use Rattle.acredact.specs.declared.options.Word.TheVariants.{AsWord, Forms, Igno
 use Rattle.acredact.specs.declared.options.Item.{Item}
 use Rattle.acredact.specs.declared.failure.Failure.{Failure}
 use Rattle.acredact.specs.declared.folder.Folder.{Ghosts as Folders}
-use Rattle.acredact.specs.declared.patterns.Rule.{Rule as PatternRule}
+use Rattle.acredact.specs.declared.rule.Rule.{Rule as PatternRule}
 use Rattle.acredact.specs.declared.ruled_files.Lined.{Lined}
 use Rattle.acredact.specs.declared.ruled_load.GivenRules.{GivenRules}
 use Rattle.acredact.specs.declared.ruled_load.LinesReady.{LinesReady}

@@ -12,7 +12,7 @@ use Rattle.acredact.specs.Sums.{sums_of}
 use Rattle.acredact.specs.Tables.{Secret, secrets_of}
 use Rattle.acredact.specs.Totals.{AreTotals}
 use Rattle.acredact.specs.declared.options.Item.{Item}
-use Rattle.acredact.specs.declared.patterns.Rule.{Rule as PatternRule}
+use Rattle.acredact.specs.declared.rule.Rule.{Rule as PatternRule}
 use Rattle.acredact.specs.declared.summary.Volume.{Volume}
 
 -- these are all runs of the lines of a text

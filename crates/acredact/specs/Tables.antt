@@ -4,7 +4,7 @@ use Rattle.std.specs.Prelude.{◌≡◌, ℕ, ◌+◌, ◌-◌, ◌^◌, ◌≤�
 use Rattle.acredact.specs.Reads.{EachGives}
 use Rattle.acredact.specs.declared.patterns.Form.{Form}
 use Rattle.acredact.specs.declared.patterns.Place.{Place}
-use Rattle.acredact.specs.declared.patterns.Rule.{Rule}
+use Rattle.acredact.specs.declared.rule.Rule.{Rule}
 
 -- how a byte stands in a table: a TAB, a line end and a backslash as two bytes, and any other as itself
 abbrev pub escape_of : ℕ → List ℕ
@@ -38,10 +38,6 @@ secret_of rule = record {
 
 abbrev pub secrets_of : List Rule → List Secret
 secrets_of rules = map secret_of rules
-
--- none of their patterns is empty
-abbrev pub HaveNoEmpty : List Secret → Type 0
-HaveNoEmpty secrets = All (λ secret. 1 ≤ length secret.pattern) secrets
 
 -- a line of a file of patterns is a pattern
 abbrev pub IsPlain : List ℕ → Secret → Type 0

@@ -3,7 +3,7 @@
 ghost use Rattle.std.specs.Prelude.{◌≡◌, IfOk, OnOk, decimal};
 ghost use Rattle.acredact.specs.Counts.{PutsText, counts_told, zeros};
 
-use crate::patterns::Rule;
+use crate::rule::Rule;
 use rule_files::{MAX_DIGITS, digits_of};
 use std::alloc::{AllocError, Global};
 

@@ -11,7 +11,8 @@ ghost use Rattle.acredact.specs.Tables.{secret_of, secrets_of};
 
 use crate::failure::{Failure, tell_line};
 use crate::options::Item;
-use crate::patterns::{BadLine, LineFault, Rule};
+use crate::patterns::{BadLine, LineFault};
+use crate::rule::Rule;
 use crate::short::{refuse_short_asked, tell_short_asked};
 use chromesquid::Sink;
 use tool_parts::errors::Errors;

@@ -1,6 +1,6 @@
 //! Why a call ends early, and how that is told.
 
-ghost use Rattle.std.specs.Prelude.{◌≡◌, ◌⊎◌, ◌++◌, ℕ, List, decimal};
+ghost use Rattle.std.specs.Prelude.{◌≡◌, ◌≤◌, ◌++◌, ℕ, List, decimal};
 ghost use Rattle.tool_parts.specs.Messages.{reason_text};
 ghost use Rattle.tool_parts.specs.Telling.{TellsBytes, TellsSome};
 ghost use Rattle.acredact.specs.Calls.{IsRefusedLine};
@@ -428,7 +428,8 @@ pub fn report<E: Sink>(failure: &Failure<'_>, errors: &mut Errors<'_, E>) -> u8
 
 /// Tells as a line why a redaction ended early, if it did, and answers the exit status.
 pub fn report_end<E: Sink>(done: Result<bool, Failure<'_>>, errors: &mut Errors<'_, E>) -> u8
-    ensures bound { (result ≡ 0) ⊎ (result ≡ 2) }
+    ensures bound { result ≤ 2 }
+    ensures other { result ≡ 1 → ⊥ }
     ensures ends { EndsCall E.Sink done.entry result errors.old errors.new }
 {
     match done {

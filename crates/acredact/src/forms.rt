@@ -1,12 +1,13 @@
 //! Forms of patterns: how a secret that is encoded gets into a log. Which patterns a form has is told by `secret_forms`.
 
-ghost use Rattle.std.specs.Prelude.{◌≡◌, IfOk, OnOk, map};
+ghost use Rattle.std.specs.Prelude.{◌≡◌, ◌≤◌, IfOk, OnOk, length, map};
 ghost use Rattle.acredact.specs.Forms.{AddsForms, AddsSecrets, are_forms, asked_form_patterns, asked_forms, asks_for, filled, form_called, form_secret, forms_asked, forms_from, forms_named, forms_of, is_all, is_asked, is_called, names_form, nested_by, nested_called, nested_named};
 ghost use Rattle.acredact.specs.Tables.{secret_of, secrets_of};
 ghost use Rattle.acredact.specs.Values.{lent};
 ghost use Rattle.secret_forms.specs.Patterns.{pattern_bytes};
 
-use crate::patterns::{Rule, copy_of, part_of};
+use crate::patterns::{copy_of, part_of};
+use crate::rule::Rule;
 use secret_forms::{Form, FormError, forms, nested_forms};
 use std::alloc::{AllocError, Global};
 
@@ -270,6 +271,7 @@ fn add_patterns(
 
 /// The rule of a pattern that is one of a form of another rule.
 fn form_of(alloc: Global, rule: &Rule, number: usize, pattern: &[u8]) -> Result<Rule, AllocError>
+    requires some { 1 ≤ length pattern.now }
     ensures form { IfOk result (λ made. secret_of made
         ≡ form_secret number (secret_of rule.now) pattern.now) }
 {

@@ -5,7 +5,7 @@ ghost use Rattle.acredact.specs.Counts.{PutsText};
 ghost use Rattle.acredact.specs.Findings.{finding_line, label_of, labels_of, long_label, numbers_in, rule_or_long, told_for};
 
 use crate::counts::put_number;
-use crate::patterns::Rule;
+use crate::rule::Rule;
 use crate::shown::put_shown;
 use secret_rules::Rule as LineRule;
 use std::alloc::{AllocError, Global};

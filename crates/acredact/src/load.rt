@@ -6,10 +6,9 @@ ghost use Rattle.aho_devices.specs.Counts.{counted};
 ghost use Rattle.tool_parts.specs.Streams.{bytes_left};
 ghost use Rattle.acredact.specs.Arguments.{all_given, given_of, last_value};
 ghost use Rattle.acredact.specs.Calls.{AreGivenBy, CannotGiveBy, rules_asked};
-ghost use Rattle.acredact.specs.Loading.{AreRead, CannotLoad, CannotLoadKey, CannotLoadOne, CannotRead, GivesEnvironment, GivesSecrets, GivesValues, HoldsByKind, HoldsSecrets, HoldsVariables, IsEnvironmentFailure, IsFileFailure, IsKeyGiven, IsKindFailure, IsValuesFailure, IsVariablesFailure, IsPatternFailure, IsTextFailure, IsTextReason, OptionGives, is_failed_text, key_in, reading_of_lists, rules_for};
+ghost use Rattle.acredact.specs.Loading.{CannotLoad, CannotLoadKey, CannotRead, GivesEnvironment, GivesSecrets, GivesValues, HoldsByKind, HoldsSecrets, HoldsVariables, IsEnvironmentFailure, IsFileFailure, IsKeyGiven, IsKindFailure, IsValuesFailure, IsVariablesFailure, IsPatternFailure, IsTextFailure, IsTextReason, OptionGives, is_failed_text, key_in, reading_of_lists, rules_for};
 ghost use Rattle.acredact.specs.Parts.{AddsSome, ArePartsBy, GivesPattern};
 ghost use Rattle.acredact.specs.Reads.{OfName, ReadsText};
-ghost use Rattle.acredact.specs.Tables.{secrets_of};
 ghost use Rattle.acredact.specs.Values.{GivesValue};
 ghost use Rattle.acredact.specs.declared.options.Word.TheVariants.{Pseudonym};
 ghost use Rattle.acredact.specs.declared.failure.Failure.TheVariants.{Pattern};
@@ -21,7 +20,8 @@ use crate::folder::Folder;
 use crate::forms::add_forms;
 use crate::options::{Item, Word, covers, has, last_value};
 use crate::parts::add_parts;
-use crate::patterns::{BadLine, Form, LineFault, Place, Rule, add_line, add_lines, mark_of};
+use crate::patterns::{BadLine, Form, LineFault, Place, add_line, add_lines, mark_of};
+use crate::rule::Rule;
 use crate::values::{
     are_refused, first_fault, is_some_value, values_in_text, values_of_entries, whole_in,
 };
@@ -97,37 +97,15 @@ pub fn rules<'a, F: Folder, I: Read>(
     ensures fails { IfErr result (CannotGiveBy F.Folder folder.now given.now) }
 {
     let lists = lists_of(alloc, given, folder);
-    let mut rules = match read_rules(&lists, given, input) {
-        Ok(rules) => rules,
-        Err(failure) => return Err(failure),
-    };
-    add_forms(alloc, &mut rules, lists.forms)?;
-    Ok(rules)
-}
-
-/// The rules of all patterns, files of patterns and tables that are given, in order.
-///
-/// # Errors
-///
-/// The first pattern, file or line that gives no rule, with the reason.
-fn read_rules<'a, F: Folder, I: Read>(
-    lists: &Lists<'_, '_, F>,
-    items: &[Item<'a>],
-    input: &mut FromRead<I>,
-) -> Result<Vec<Rule>, Failure<'a>>
-    ensures read { IfOk result (λ rules.
-        AreRead (reading_of_lists F.Folder lists.now) (all_given items.now)
-        (secrets_of rules.items) (bytes_left input.old) (bytes_left input.new)) }
-    ensures fails { IfErr result (CannotLoadOne (reading_of_lists F.Folder lists.now) (all_given items.now)) }
-{
-    let mut rules = Vec::new(lists.alloc);
-    for (number, item) in items.iter().enumerate() {
+    let mut rules = Vec::new(alloc);
+    for (number, item) in given.iter().enumerate() {
         // Not by `?`: this error holds names.
-        match add_item(lists, &mut rules, *item, number, input) {
+        match add_item(&lists, &mut rules, *item, number, input) {
             Ok(()) => {}
             Err(failure) => return Err(failure),
         }
     }
+    add_forms(alloc, &mut rules, lists.forms)?;
     Ok(rules)
 }
 

@@ -44,6 +44,7 @@ mod patterns;
 mod prepare;
 mod pseudonym;
 mod redact;
+mod rule;
 mod ruled;
 mod ruled_check;
 mod ruled_files;

@@ -4,8 +4,9 @@ ghost use Rattle.std.specs.Prelude.{◌≡◌, IfOk};
 ghost use Rattle.acredact.specs.Named.{all_named, named_secret, own_pattern, rule_by_key};
 ghost use Rattle.acredact.specs.Tables.{secret_of, secrets_of};
 
-use crate::patterns::{Rule, copy_of};
+use crate::patterns::copy_of;
 use crate::pseudonym::Pseudonyms;
+use crate::rule::Rule;
 use crate::ways::Key;
 use chromesquid::PatternID;
 use chromesquid::any::Pieces;

@@ -4,7 +4,8 @@
 ghost use Rattle.std.specs.Prelude.{OnOk};
 ghost use Rattle.acredact.specs.Parts.{AddsSome, ArePartsOf};
 
-use crate::patterns::{Rule, copy_of, ends_in_return, part_of, without_last};
+use crate::patterns::{copy_of, ends_in_return, part_of, without_last};
+use crate::rule::Rule;
 use std::alloc::{AllocError, Global};
 
 /// How many bytes a line of a pattern has at least that is a pattern too. A shorter one may stand anywhere.

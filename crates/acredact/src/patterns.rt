@@ -9,23 +9,9 @@ ghost use Rattle.acredact.specs.LineFaults.{IsBadStart, IsLineFault, IsLineFault
 ghost use Rattle.acredact.specs.Parts.{AddsSome};
 ghost use Rattle.acredact.specs.Tables.{AddsAt, AreOfLines, Holds, HoldsBy, IsWithout, StandsHere, escape_of, in_table, stripped_by, lines_in, parts_left, patterns_in, piece_by, secret_of, secrets_of};
 
+use crate::rule::Rule;
 use std::alloc::{AllocError, AllocFailed, Global};
 use std::slice;
-
-/// A pattern, and its own replacement where it has one.
-#[derive(Drop)]
-pub struct Rule {
-    /// The bytes that are searched for.
-    pub pattern: Vec<u8>,
-    /// The bytes that are written in their place.
-    pub replacement: Option<Vec<u8>>,
-    /// The number of the option that gives it, from 0 on, among all options and files.
-    pub list: usize,
-    /// The number of its line in its file, from 1 on, and 0 for one that is an argument.
-    pub line: usize,
-    /// The number of the rule of which it is a form, from 0 on among all rules.
-    pub form_of: Option<usize>,
-}
 
 /// Where a pattern stands.
 #[derive(Clone, Copy)]

@@ -8,7 +8,7 @@ ghost use Rattle.acredact.specs.Calls.{keyed_as, names_asked, redactor_by_given,
 ghost use Rattle.acredact.specs.Checks.{IsBuildFailure};
 ghost use Rattle.acredact.specs.Doubts.{TellsDoubts, TellsWarnings};
 ghost use Rattle.acredact.specs.Files.{CanDo, keyed_of};
-ghost use Rattle.acredact.specs.Loading.{AreSome, key_lent, loaded_in};
+ghost use Rattle.acredact.specs.Loading.{key_lent, loaded_in};
 ghost use Rattle.acredact.specs.Pieces.{IsJudged, TellsUnclean};
 ghost use Rattle.acredact.specs.Ready.{CannotPrepare, IsJobFor, IsReadyBy, IsReadyFor};
 ghost use Rattle.acredact.specs.Tables.{patterns_in, secrets_of};
@@ -22,7 +22,8 @@ use crate::failure::{Failure, tell_unclean};
 use crate::files::Job;
 use crate::folder::Folder;
 use crate::options::{Item, Word, counts, covers, has, is_same, kind_of, last_value};
-use crate::patterns::{Rule, patterns_of, replacements_of};
+use crate::patterns::{patterns_of, replacements_of};
+use crate::rule::Rule;
 use crate::secrets::{Secrets, key_bytes};
 use crate::ways::Key;
 use chromesquid::{AhoCorasick, Automaton, MatchKind, Sink};
@@ -158,7 +159,7 @@ pub fn job_of<'s, 't, F: Folder>(
 ) -> Job<'s, 't, F>
     ensures job { IsReadyBy given.now secrets.now ready.now
         → IsJobFor folder.now (all_given given.now) (loaded_in secrets.now) result }
-    ensures can { AreSome secrets.now → IsReadyBy given.now secrets.now ready.now
+    ensures can { IsReadyBy given.now secrets.now ready.now
         → CanDo ⟦<AhoCorasick as Automaton>⟧ ready.now.searcher result }
 {
     Job {

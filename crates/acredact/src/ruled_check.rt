@@ -20,7 +20,7 @@ use crate::line_rules::failure_in;
 use crate::line_size::most_of;
 use crate::look::{Searched, Verdict, look_at_files};
 use crate::options::{Item, Word, has};
-use crate::patterns::Rule;
+use crate::rule::Rule;
 use crate::ruled_files::line_cover;
 use crate::ruled_load::{load_rules, ready_for_lines};
 use crate::streams::Streams;

@@ -6,7 +6,7 @@ ghost use Rattle.tool_parts.specs.Streams.{bytes_left};
 ghost use Rattle.acredact.specs.Arguments.{all_given};
 ghost use Rattle.acredact.specs.Doubts.{TellsDoubts};
 ghost use Rattle.acredact.specs.Ruled.{AreRulesGivenBy, IsReadyForLines};
-ghost use Rattle.acredact.specs.Tables.{HaveNoEmpty, secrets_of};
+ghost use Rattle.acredact.specs.Tables.{secrets_of};
 
 use crate::doubts::tell_of_lists;
 use crate::failure::Failure;
@@ -14,8 +14,9 @@ use crate::folder::Folder;
 use crate::line_rules::line_rules_of;
 use crate::load::{lists_of, rules};
 use crate::options::{Item, Word, has};
-use crate::patterns::{Rule, patterns_of, split_at};
+use crate::patterns::{patterns_of, split_at};
 use crate::prepare::names;
+use crate::rule::Rule;
 use chromesquid::{AhoCorasick, Automaton, BuildError, FromRead, MatchKind, Sink};
 use secret_rules::Rules;
 use std::alloc::Global;
@@ -62,14 +63,13 @@ pub fn load_rules<'a, F: Folder, I: Read>(
 }
 
 /// Tells of doubtful patterns of lists, and makes ready what searches for all patterns.
-#[tactic(auto, using(crate::proofs::Ready::searcher_searches, crate::proofs::Ready::some_shortest))]
+#[tactic(auto, using(crate::proofs::Ready::searcher_searches, crate::proofs::Ready::rules_shortest))]
 pub fn ready_for_lines<'a, E: Sink>(
     alloc: Global,
     given: &[Item<'a>],
     secrets: &[Rule],
     errors: &mut Errors<'_, E>,
 ) -> Result<LinesReady<'a>, Failure<'a>>
-    requires some { HaveNoEmpty (secrets_of secrets.now) }
     ensures ready { IfOk result (IsReadyForLines (all_given given.now) (secrets_of secrets.now)) }
     ensures can { IfOk result (λ ready. CanSearch ⟦<AhoCorasick as Automaton>⟧ ready.searcher) }
     ensures told { TellsDoubts E.Sink false (all_given given.now) (secrets_of secrets.now) errors.old errors.new }

@@ -11,7 +11,7 @@ ghost use Rattle.acredact.specs.Summaries.{rule_counts_of, rules_lent};
 use crate::counts::{put_counts, put_number};
 use crate::failure::Failure;
 use crate::options::{Item, Word, counts, has};
-use crate::patterns::Rule;
+use crate::rule::Rule;
 use crate::shown::put_shown;
 use crate::summary::{Volume, put_summary};
 use crate::sums::sums_of;

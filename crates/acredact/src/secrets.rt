@@ -4,7 +4,7 @@ ghost use Rattle.std.specs.Prelude.{◌≡◌, IfErr, IfOk};
 ghost use Rattle.tool_parts.specs.Streams.{bytes_left};
 ghost use Rattle.acredact.specs.Arguments.{all_given, has};
 ghost use Rattle.acredact.specs.Calls.{AreKeyedBy, AreLoadedBy, CannotLoadBy, IsKeyedBy};
-ghost use Rattle.acredact.specs.Loading.{AreSome, for_runs, key_in, key_lent, loaded_in};
+ghost use Rattle.acredact.specs.Loading.{for_runs, key_in, key_lent, loaded_in};
 ghost use Rattle.acredact.specs.declared.options.Word.TheVariants.{IgnoreCase};
 
 use crate::failure::Failure;
@@ -12,7 +12,7 @@ use crate::folder::Folder;
 use crate::load::{key_of, lists_of, rules};
 use crate::named::named_rules;
 use crate::options::{Item, Word, has};
-use crate::patterns::Rule;
+use crate::rule::Rule;
 use crate::ways::Key;
 use chromesquid::FromRead;
 use std::alloc::{AllocError, Global};
@@ -28,7 +28,6 @@ pub struct Secrets {
 }
 
 /// Loads all patterns, and the key of pseudonyms, where they are asked for.
-#[tactic(auto, using(crate::proofs::Naming::some_loaded, crate::proofs::Ready::given_some))]
 pub fn load<'a, F: Folder, I: Read>(
     alloc: Global,
     given: &[Item<'a>],
@@ -36,7 +35,6 @@ pub fn load<'a, F: Folder, I: Read>(
     input: &mut FromRead<I>,
 ) -> Result<Secrets, Failure<'a>>
     ensures loaded { IfOk result (AreLoadedBy F.Folder folder.now given.now (bytes_left input.old) (bytes_left input.new)) }
-    ensures some { IfOk result AreSome }
     ensures fails { IfErr result (CannotLoadBy F.Folder folder.now given.now) }
 {
     let rules = match rules(alloc, given, folder, input) {

@@ -9,7 +9,7 @@ ghost use Rattle.acredact.specs.Tables.{secret_of, secrets_of};
 
 use crate::failure::{Failure, tell_short};
 use crate::options::{Item, Word, has};
-use crate::patterns::Rule;
+use crate::rule::Rule;
 use chromesquid::Sink;
 use tool_parts::errors::Errors;
 

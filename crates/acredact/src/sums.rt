@@ -4,7 +4,7 @@ ghost use Rattle.std.specs.Prelude.{◌≡◌, IfOk};
 ghost use Rattle.acredact.specs.Sums.{HaveGrown, counts_for, share, sum_for, sums_of};
 ghost use Rattle.acredact.specs.Tables.{secret_of, secrets_of};
 
-use crate::patterns::Rule;
+use crate::rule::Rule;
 use std::alloc::{AllocError, Global};
 
 /// For each pattern that was given how often its text was written: by its own count and those of its forms. A number stops at the

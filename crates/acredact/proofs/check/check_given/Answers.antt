@@ -8,7 +8,7 @@ use Rattle.acredact.specs.Checks.{texts_looked_for}
 use Rattle.acredact.specs.Tables.{secrets_of}
 use Rattle.acredact.proofs.Calls.{tells_same}
 use Rattle.acredact.proofs.Checks.{check_refused, check_seen, check_unseen}
-use Rattle.acredact.proofs.Ready.{given_some, ready_looks}
+use Rattle.acredact.proofs.Ready.{ready_looks}
 use Rattle.acredact.proofs.check.check_given.Goals as goal
 
 pub returns-then-not-gives_pattern-clause-outcome : goal.returns-then-not-gives_pattern-clause-outcome
@@ -36,14 +36,14 @@ returns-in-Err-ready_of-clause-outcome g c =
 
 pub look_at_files-requires : goal.look_at_files-requires
 look_at_files-requires g c = record {
-  ready = (texts_looked_for (all_given c.args.given.now) (secrets_of c.as_slice-rules.result.now), ready_looks (all_given c.args.given.now) (secrets_of c.as_slice-rules.result.now) c.in-Ok-ready_of.ready c.in-Ok-ready_of.ensures.ready (rw c.as_slice-rules.ensures.value (given_some _ _ _ _ _ c.in-Ok.ensures.given)) c.words.result c.words.ensures.words);
+  ready = (texts_looked_for (all_given c.args.given.now) (secrets_of c.as_slice-rules.result.now), ready_looks (all_given c.args.given.now) c.as_slice-rules.result.now c.in-Ok-ready_of.ready c.in-Ok-ready_of.ensures.ready c.words.result c.words.ensures.words);
 }
 
 pub returns-in_err-verdict-clause-outcome : goal.returns-in_err-verdict-clause-outcome
 returns-in_err-verdict-clause-outcome g c =
     let given = all_given c.args.given.now in
     let doubts = rw (c.as_slice-rules.ensures.value, c.has-strict.ensures.has) at c.in-Ok-warn_of_lists.ensures.told in
-    let by = ready_looks given (secrets_of c.as_slice-rules.result.now) c.in-Ok-ready_of.ready c.in-Ok-ready_of.ensures.ready (rw c.as_slice-rules.ensures.value (given_some _ _ _ _ _ c.in-Ok.ensures.given)) c.words.result c.words.ensures.words in
+    let by = ready_looks given c.as_slice-rules.result.now c.in-Ok-ready_of.ready c.in-Ok-ready_of.ensures.ready c.words.result c.words.ensures.words in
     let told = rw (c.as_slice.ensures.value, c.in-Ok-ready_of.ensures.ready.names) at (c.in_err-verdict.ensures.sees (texts_looked_for given (secrets_of c.as_slice-rules.result.now)) by).told in
     let is : c.from_residual.result ≡ Err (Other OutOfMemory) = search rules in
     rw is
@@ -54,6 +54,6 @@ returns-clause-outcome g c =
     let given = all_given c.args.given.now in
     let some : gives_pattern given ≡ true = search rules in
     let doubts = rw (c.as_slice-rules.ensures.value, c.has-strict.ensures.has) at c.in-Ok-warn_of_lists.ensures.told in
-    let by = ready_looks given (secrets_of c.as_slice-rules.result.now) c.in-Ok-ready_of.ready c.in-Ok-ready_of.ensures.ready (rw c.as_slice-rules.ensures.value (given_some _ _ _ _ _ c.in-Ok.ensures.given)) c.words.result c.words.ensures.words in
+    let by = ready_looks given c.as_slice-rules.result.now c.in-Ok-ready_of.ready c.in-Ok-ready_of.ensures.ready c.words.result c.words.ensures.words in
     let sees = rw (c.as_slice.ensures.value, c.in-Ok-ready_of.ensures.ready.names, c.as_slice-rules.ensures.value) at (c.in_ok-verdict.ensures.sees (texts_looked_for given (secrets_of c.as_slice-rules.result.now)) by) in
     check_seen g.E.Sink (call_of g.F.Folder c.args.folder.now given) _ _ _ (secrets_of c.in-Ok.rules.items) _ _ _ c.in-Ok.ensures.given doubts c.in_ok-verdict.verdict some sees

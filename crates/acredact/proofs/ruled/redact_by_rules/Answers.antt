@@ -9,7 +9,6 @@ use Rattle.acredact.specs.Tables.{secrets_of}
 use Rattle.acredact.specs.declared.options.Item.{Item}
 use Rattle.acredact.specs.declared.ruled_load.GivenRules.{GivenRules}
 use Rattle.acredact.specs.declared.secrets.Secrets.{Secrets}
-use Rattle.acredact.proofs.Naming.{ruled_some}
 use Rattle.acredact.proofs.Outcomes.{comes_early, comes_untold}
 use Rattle.acredact.proofs.RuledCalls.{all_doubts_told, ruled_behind}
 use Rattle.acredact.proofs.ruled.redact_by_rules.Goals as goal
@@ -27,11 +26,6 @@ returns-in-Err-clause-outcome g c = comes_untold (inl (Keeps-refl _)) tt
 
 pub returns-in-Err-load_key-clause-outcome : goal.returns-in-Err-load_key-clause-outcome
 returns-in-Err-load_key-clause-outcome g c = comes_untold (inl (Keeps-refl _)) tt
-
-pub ready_for_lines-requires : goal.ready_for_lines-requires
-ready_for_lines-requires g c =
-    let loaded = ruled_loaded g.F.Folder c.args.folder.now c.args.given.now c.in-Ok.loaded c.in-Ok-load_key.keyed c.in-Ok.ensures.given c.in-Ok-load_key.ensures.keyed in
-    record { some = rw c.as_slice-secrets.ensures.value (ruled_some _ _ _ _ _ loaded) }
 
 pub returns-in-Ok-ready_for_lines-clause-outcome : goal.returns-in-Ok-ready_for_lines-clause-outcome
 returns-in-Ok-ready_for_lines-clause-outcome g c =

@@ -6,12 +6,8 @@ use Rattle.acredact.specs.Calls.{call_of}
 use Rattle.acredact.specs.RuledChecks.{check_load}
 use Rattle.acredact.specs.Tables.{secrets_of}
 use Rattle.acredact.proofs.Outcomes.{comes_early, comes_untold}
-use Rattle.acredact.proofs.Ready.{given_some}
 use Rattle.acredact.proofs.RuledCalls.{all_doubts_told, check_behind}
 use Rattle.acredact.proofs.ruled_check.check_given.Goals as goal
-
-pub ready_for_lines-requires : goal.ready_for_lines-requires
-ready_for_lines-requires g c = record { some = rw c.as_slice-secrets.ensures.value (given_some _ _ _ _ _ c.in-Ok.ensures.given.secrets_given) }
 
 pub returns-in-Ok-ready_for_lines-clause-outcome : goal.returns-in-Ok-ready_for_lines-clause-outcome
 returns-in-Ok-ready_for_lines-clause-outcome g c =

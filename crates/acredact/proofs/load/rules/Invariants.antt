@@ -5,8 +5,8 @@ use Rattle.acredact.specs.Arguments.{all_given}
 use Rattle.acredact.specs.Loading.{OptionGives, reading_of_lists}
 use Rattle.acredact.specs.Tables.{secrets_of}
 use Rattle.acredact.proofs.Loaded.{GivenSoFar}
-use Rattle.acredact.proofs.load.read_rules.Given as goal
+use Rattle.acredact.proofs.load.rules.Given as goal
 
 abbrev pub invariant-loop-number : goal.invariant-loop-number
 invariant-loop-number g l =
-    GivenSoFar (λ item. OptionGives (reading_of_lists g.F.Folder l.fn.lists) item.word item.value) (all_given (take l.number l.fn.items)) (bytes_left l.initial.input) (bytes_left l.input) [] (secrets_of l.rules.items)
+    GivenSoFar (λ item. OptionGives (reading_of_lists g.F.Folder l.lists) item.word item.value) (all_given (take l.number l.fn.given)) (bytes_left l.initial.input) (bytes_left l.input) [] (secrets_of l.rules.items)
