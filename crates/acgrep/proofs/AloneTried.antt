@@ -8,7 +8,7 @@ use Rattle.acgrep.specs.Alone.{AreAloneFrom, IsAloneAt, IsAloneFrom, IsLongestTh
 same_or_shorter : (m other : Occurrence) → other.start ≡ m.start → (other ≡ m) ⊎ IsBefore LeftmostLongest m other → (other.end ≡ m.end) ⊎ (other.end < m.end)
 same_or_shorter m other begins is = grind (arith, common_steps)
 
-begins_later : (m other : Occurrence) → (other ≡ m) ⊎ IsBefore LeftmostLongest m other → m.start ≤ other.start
+pub begins_later : (m other : Occurrence) → (other ≡ m) ⊎ IsBefore LeftmostLongest m other → m.start ≤ other.start
 begins_later m other is = grind (arith, common_steps)
 
 module _ (p : Patterns) (line : List ℕ) (kind : p.kind ≡ LeftmostLongest) where

@@ -1,3 +1,4 @@
+pub mod AloneLines
 pub mod AloneTried
 pub mod Around
 pub mod Beginnings

@@ -9,7 +9,7 @@ use Rattle.aho_core.specs.declared.search.Span.{Span}
 use Rattle.aho_laws.proofs.SpanTexts.{Occurs-moved, Occurs-moved_back, length_part, moved_back}
 use Rattle.aho_laws.specs.CutLaws.{moved}
 use Rattle.acgrep.specs.Lines.{EndsLine, IsEnding, joined_to, lines}
-use Rattle.acgrep.specs.Selected.{HoldNoEnding, IsFirstWith}
+use Rattle.acgrep.specs.Selected.{HoldNoEnding, IsFirstWith, IsLine}
 use Rattle.acgrep.specs.Written.{EachLine, HasMatch, HasNone}
 use Rattle.acgrep.proofs.Around.{behind_newline, ends_before, front_newline, newline_behind}
 use Rattle.acgrep.proofs.FirstLines.{first_end, first_within, lines_cut, lines_first, lines_joined}
@@ -56,6 +56,32 @@ module _ (ending : ℕ) where
             ∙ ap (λ (l : List (List ℕ)). joined_to byte l ++ lines ending b) (sym same)
             ∙ ap (λ (l : List (List ℕ)). l ++ lines ending b) (sym (lines_joined ending byte (next ∷ rest) other))
       ]
+
+  module _ (text : List ℕ) (line : Span) (is_line : IsLine ending text line) where
+    -- what stands before a line ends in a newline
+    pub front_ends : EndsLine ending (take line.start text)
+    front_ends some =
+        let long : length (take line.start text) ≡ line.start = length-take-le line.start text (omega (arith, is_line.ordered, is_line.within)) in
+        subst (λ (n : ℕ). IsEnding ending (take line.start text) (n - 1)) (sym long)
+        (front_newline ending text line.start (line.start - 1) (omega (arith, long, some)) (is_line.begins (omega (arith, long, some))))
+
+    -- the lines before it, the line and those behind it
+    pub cut_at : line.start < length text → lines ending text ≡ lines ending (take line.start text) ++ (slice_range text line.start line.end ∷ lines ending (drop (line.end + 1) text))
+    cut_at low =
+        let start = line.start in
+        let rest = drop line.start text in
+        let ordered = is_line.ordered in
+        let within = is_line.within in
+        let long : length rest + start ≡ length text = omega (arith, length-drop start text, low) in
+        let size : start + (line.end - start) ≡ line.end = omega (arith, ordered) in
+        let begins = lines_first ending rest (line.end - start) (omega (arith, long, low)) (omega (arith, long, within, ordered))
+        (λ k least most is. is_line.one (start + k) (omega arith) (omega (arith, most, ordered)) (newline_behind ending text start k is))
+        (λ more. behind_newline ending text start (line.end - start) (subst (IsEnding ending text) (sym size) (is_line.ends (omega (arith, more, long, ordered))))) in
+        let next : start + suc (line.end - start) ≡ line.end + 1 = omega (arith, ordered) in
+        ap (lines ending) (sym (take-append-drop start text))
+        ∙ lines_append (take start text) rest front_ends
+        ∙ ap (λ (l : List (List ℕ)). lines ending (take start text) ++ l) begins
+        ∙ ap (λ (l : List ℕ). lines ending (take start text) ++ (slice_range text line.start line.end ∷ lines ending l)) (drop-drop (suc (line.end - start)) start text ∙ ap (λ (n : ℕ). drop n text) next)
 
   module _ (p : Patterns) where
     -- what occurs in a part of a text occurs in the text
@@ -116,14 +142,7 @@ module _ (ending : ℕ) where
       pub first_has : HasMatch p (slice_range text line.start line.end)
       first_has = let (m, occurs) = first.some in (moved_back line.start m, in_part text line.start line.end m first.is_line.ordered first.is_line.within occurs)
 
-      -- the front ends in a newline
-      pub front_ends : EndsLine ending (take line.start text)
-      front_ends some =
-          let long : length (take line.start text) ≡ line.start = length-take-le line.start text (omega (arith, first.is_line.ordered, first.is_line.within)) in
-          subst (λ (n : ℕ). IsEnding ending (take line.start text) (n - 1)) (sym long)
-          (front_newline ending text line.start (line.start - 1) (omega (arith, long, some)) (first.is_line.begins (omega (arith, long, some))))
-
-      -- and nothing occurs in it
+      -- nothing occurs in the front
       front_none : 0 < line.start → HasNone p (take line.start text)
       front_none some m occurs =
           let within : line.start ≤ length text = omega (arith, first.is_line.ordered, first.is_line.within) in
@@ -143,7 +162,7 @@ module _ (ending : ℕ) where
       front_lines = none_in_lines (take line.start text) (λ some. front_none (omega (arith, some, length-take-le line.start text (omega (arith, first.is_line.ordered, first.is_line.within)))))
 
       -- the line begins before the end of a text that is not empty
-      begins_before : 0 < length text → line.start < length text
+      pub begins_before : 0 < length text → line.start < length text
       begins_before some =
           elim (cases_lt line.start (length text)) [
             | inl before ↦ before
@@ -156,22 +175,7 @@ module _ (ending : ℕ) where
           ]
 
       pub cut_lines : 0 < length text → lines ending text ≡ lines ending (take line.start text) ++ (slice_range text line.start line.end ∷ lines ending (drop (line.end + 1) text))
-      cut_lines some =
-          let start = line.start in
-          let rest = drop line.start text in
-          let low = begins_before some in
-          let ordered = first.is_line.ordered in
-          let within = first.is_line.within in
-          let long : length rest + start ≡ length text = omega (arith, length-drop start text, low) in
-          let size : start + (line.end - start) ≡ line.end = omega (arith, ordered) in
-          let begins = lines_first ending rest (line.end - start) (omega (arith, long, low)) (omega (arith, long, within, ordered))
-          (λ k least most is. first.is_line.one (start + k) (omega arith) (omega (arith, most, ordered)) (newline_behind ending text start k is))
-          (λ more. behind_newline ending text start (line.end - start) (subst (IsEnding ending text) (sym size) (first.is_line.ends (omega (arith, more, long, ordered))))) in
-          let next : start + suc (line.end - start) ≡ line.end + 1 = omega (arith, ordered) in
-          ap (lines ending) (sym (take-append-drop start text))
-          ∙ lines_append (take start text) rest front_ends
-          ∙ ap (λ (l : List (List ℕ)). lines ending (take start text) ++ l) begins
-          ∙ ap (λ (l : List ℕ). lines ending (take start text) ++ (slice_range text start line.end ∷ lines ending l)) (drop-drop (suc (line.end - start)) start text ∙ ap (λ (n : ℕ). drop n text) next)
+      cut_lines some = cut_at text line first.is_line (begins_before some)
 
   -- a text and what follows a place of it end alike
   pub ends_drop : (text : List ℕ) (at : ℕ) → EndsLine ending text → EndsLine ending (drop at text)

@@ -129,6 +129,10 @@ tells_full p job ls ms place count total bytes full told =
 pub none_matches : (p : Patterns) (fit : Fit) (line : List ℕ) → HasNone p line → DoesNotMatch p fit line
 none_matches p fit line none = grind (arith, common_steps)
 
+pub none_match : (p : Patterns) (fit : Fit) (ls : List (List ℕ)) → EachLine (HasNone p) ls → EachLine (DoesNotMatch p fit) ls
+none_match p fit [] each = tt
+none_match p fit (line ∷ rest) (none, each) = (none_matches p fit line none, none_match p fit rest each)
+
 -- a line is selected by whether it matches
 pub selected_by : (p : Patterns) (fit : Fit) (invert matched : Bool) (line : List ℕ) → IsMatched p fit line matched → selects matched invert ≡ true → IsSelected p fit invert line
 selected_by p fit invert matched line is selects = grind (arith, common_steps)
@@ -151,10 +155,10 @@ module _ (p : Patterns) (job : Job) where
   all_passed a b x y ls each counted none =
       record { bytes = []; told = subst (TellsOfLines p job a.place a.selected ls []) (sym counted) (tells_passed p job ls a.place a.selected each); written = none }
 
-  -- as those in which no pattern occurs
-  pub each_passed : (ls : List (List ℕ)) → job.invert ≡ false → EachLine (HasNone p) ls → EachLine (IsPassedOver p job.fit job.invert) ls
+  -- as those that do not match
+  pub each_passed : (ls : List (List ℕ)) → job.invert ≡ false → EachLine (DoesNotMatch p job.fit) ls → EachLine (IsPassedOver p job.fit job.invert) ls
   each_passed [] plain each = tt
-  each_passed (line ∷ rest) plain (none, each) = (passed_by p job.fit job.invert false line (none_matches p job.fit line none) (ap (selects false) plain), each_passed rest plain each)
+  each_passed (line ∷ rest) plain (none, each) = (passed_by p job.fit job.invert false line none (ap (selects false) plain), each_passed rest plain each)
 
   pub tells_join : (a b c : State) (x y z : Option (List ℕ)) (ls ms : List (List ℕ)) → TellsLines p job a b x y ls → SamePlace job b.place (after_lines a.place ls)
       → TellsLines p job b c y z ms → TellsLines p job a c x z (ls ++ ms)

@@ -16,6 +16,7 @@ pub mod Gathered
 pub mod Globs
 pub mod Guarded
 pub mod InTurn
+pub mod Likely
 pub mod Lines
 pub mod Listed
 pub mod Loading

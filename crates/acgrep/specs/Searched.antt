@@ -7,7 +7,7 @@ use Rattle.acgrep.specs.InTurn.{IfBroken, IfSearched}
 use Rattle.acgrep.specs.Searchers.{ForQuery, Seeks}
 use Rattle.acgrep.specs.Selected.{lines_by}
 use Rattle.acgrep.specs.Streamed.{BeginsBehind}
-use Rattle.acgrep.specs.Written.{EachLine, HasNone, IsSelected, SearchesPlain, SearchesTo, TellsLines, WritesLine}
+use Rattle.acgrep.specs.Written.{DoesNotMatch, EachLine, IsSelected, SearchesPlain, SearchesTo, TellsLines, WritesLine}
 use Rattle.acgrep.specs.declared.files.Outcome.{Outcome}
 use Rattle.acgrep.specs.declared.options.Context.{Context}
 use Rattle.acgrep.specs.declared.print.Place.{Place}
@@ -50,9 +50,9 @@ module _ (query : Query) (before after : State) where
   TakesWhere Holds line result = (p : Patterns) → Seeks query p → Holds p line
       → OnOk result (TellsLines p query.job before after (Some before.page.items) (Some after.page.items) (line ∷ []))
 
-  -- of lines without a match
+  -- of lines that do not match
   abbrev pub TakesOthersBy : {T E : Type 0} → List ℕ → Result T E → Type 0
-  TakesOthersBy text result = (p : Patterns) → Seeks query p → EachLine (HasNone p) (lines_by query.job text)
+  TakesOthersBy text result = (p : Patterns) → Seeks query p → EachLine (DoesNotMatch p query.job.fit) (lines_by query.job text)
       → OnOk result (SearchesTo p query.job before after (Some []) (Some after.page.items) text [])
 
   -- of the lines up to those that are answered

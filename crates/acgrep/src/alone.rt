@@ -1,6 +1,6 @@
 //! The matches of a line that stand alone: no letter, digit or `_` is beside them.
 
-ghost use Rattle.std.specs.Prelude.{◌≡◌, ◌+◌, ◌^◌, ◌≤◌, ◌<◌, IfOk, IfSome, length};
+ghost use Rattle.std.specs.Prelude.{◌≡◌, ◌+◌, ◌^◌, ◌≤◌, ◌<◌, IfOk, IfSome, false, length};
 ghost use Rattle.aho_core.specs.Answer.{IsAnswer};
 ghost use Rattle.aho_core.specs.Best.{IsBestOrNone};
 ghost use Rattle.aho_core.specs.Patterns.{Patterns};
@@ -8,10 +8,13 @@ ghost use Rattle.aho_core.specs.declared.search.MatchKind.TheVariants.{LeftmostL
 ghost use Rattle.aho_laws.specs.CutLaws.{span_search};
 ghost use Rattle.chromesquid.specs.Searcher.{IsBuiltFrom, IsBuiltFromSome};
 ghost use Rattle.acgrep.specs.Alone.{IsAloneAt, IsLongestThere, IsNextAlone, IsShorter, begins_alone, behind_alone, ends_alone, is_word_constituent};
+ghost use Rattle.acgrep.specs.Likely.{IsNextLineAlone};
+ghost use Rattle.acgrep.specs.Selected.{ForLines};
 ghost use Rattle.acgrep.specs.Written.{IsMatched};
 ghost use Rattle.acgrep.specs.declared.options.Fit.TheVariants.{WholeWord};
 
 use crate::failure::Stop;
+use crate::lines::{line_end, line_start};
 use chromesquid::{AhoCorasick, Input, Match, MatchError, MatchKind, Span};
 
 /// Whether a match of a line stands alone.
@@ -31,6 +34,7 @@ pub fn next_alone(searcher: &AhoCorasick, line: &[u8], at: usize) -> Result<Opti
     requires of { IsBuiltFromSome searcher.now }
     requires within { at ≤ length line.now + 1 }
     ensures behind { IfOk result (λ found. IfSome found (λ m. at ≤ m.start)) }
+    ensures ordered { IfOk result (λ found. IfSome found (λ m. m.start ≤ m.end)) }
     ensures within { IfOk result (λ found. IfSome found (λ m. m.end ≤ length line.now)) }
     ensures next { (p : Patterns) → IsBuiltFrom searcher.now p
         → IfOk result (IsNextAlone p line.now at) }
@@ -47,6 +51,35 @@ pub fn next_alone(searcher: &AhoCorasick, line: &[u8], at: usize) -> Result<Opti
         from = longest.start() + 1;
     }
     Ok(None)
+}
+
+/// The first line of a text in which a match stands alone, without what ends it. That is no letter, digit or `_`, so a match stands alone in
+/// its line where it does in the text.
+pub fn next_line_alone(
+    searcher: &AhoCorasick,
+    text: &[u8],
+    ending: u8,
+) -> Result<Option<Span>, Stop>
+    requires of { IsBuiltFromSome searcher.now }
+    requires apart { is_word_constituent ending ≡ false }
+    ensures ordered { IfOk result (λ line. IfSome line (λ line. line.start ≤ line.end)) }
+    ensures within { IfOk result (λ line. IfSome line (λ line. line.end ≤ length text.now)) }
+    ensures next { ForLines ending (IsBuiltFrom searcher.now) (λ p. IfOk result (IsNextLineAlone p ending text.now)) }
+{
+    let Some(found) = next_alone(searcher, text, 0)? else {
+        return Ok(None);
+    };
+    let place = found.start();
+    let start = line_start(&text[..place], ending);
+    // An empty match behind the end of the last line is in none.
+    if start == text.len() {
+        return Ok(None);
+    }
+    let rest = line_end(&text[place..], ending);
+    Ok(Some(Span {
+        start,
+        end: place + rest,
+    }))
 }
 
 /// What a search of a range of a line finds.
@@ -74,6 +107,7 @@ fn alone_at(searcher: &AhoCorasick, line: &[u8], longest: Match) -> Result<Optio
     requires within { longest.end ≤ length line.now }
     requires ordered { longest.start ≤ longest.end }
     ensures start { IfOk result (λ found. IfSome found (λ m. m.start ≡ longest.start)) }
+    ensures ordered { IfOk result (λ found. IfSome found (λ m. m.start ≤ m.end)) }
     ensures within { IfOk result (λ found. IfSome found (λ m. m.end ≤ length line.now)) }
     ensures alone { (p : Patterns) → IsBuiltFrom searcher.now p → p.kind ≡ LeftmostLongest
         → IsLongestThere p line.now longest → IfOk result
@@ -138,7 +172,7 @@ fn ends_alone(line: &[u8], end: usize) -> bool
 }
 
 /// Whether a byte is a letter of ASCII, a digit or `_`.
-fn is_word_constituent(byte: u8) -> bool
+pub fn is_word_constituent(byte: u8) -> bool
     ensures { result ≡ is_word_constituent byte }
 {
     byte.is_ascii_alphanumeric() || byte == b'_'

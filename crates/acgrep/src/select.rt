@@ -5,12 +5,13 @@ ghost use Rattle.memchr.specs.Find.{is_byte, places};
 ghost use Rattle.aho_core.specs.Patterns.{Patterns};
 ghost use Rattle.chromesquid.specs.Searcher.{IsBuiltFrom, IsBuiltFromSome};
 ghost use Rattle.acgrep.specs.declared.options.Fit.TheVariants.{AnyPart};
+ghost use Rattle.acgrep.specs.Likely.{IsNextFor};
 ghost use Rattle.acgrep.specs.Searched.{BeginsPlainBy, IsSelectedBy, SearchesPlainBy, TakesOthersBy, TakesSomeBy, TakesWhere, WritesLineBy};
 ghost use Rattle.acgrep.specs.Searchers.{ForQuery, Seeks};
 ghost use Rattle.acgrep.specs.Selected.{ForLines, IsNextLine, IsNoneSelected};
 ghost use Rattle.acgrep.specs.Written.{HasMatch, IsMatched, NumbersLines, after_line};
 
-use crate::alone::has_alone;
+use crate::alone::{has_alone, is_word_constituent, next_line_alone};
 use crate::failure::Stop;
 use crate::job::{Job, Query, State};
 use crate::lines::{behind, line_end, line_start};
@@ -73,7 +74,7 @@ pub fn search_plain<W: Sink>(
     Ok(())
 }
 
-/// Goes over the lines up to the first in which a pattern occurs and over that one, puts together what is written of them, and answers
+/// Goes over the lines up to the first that can match and over that one, puts together what is written of them, and answers
 /// what follows. So where the output cannot be written to the end, what is there is a beginning of it.
 fn take_some<'t>(query: &Query<'_>, text: &'t [u8], state: &mut State) -> Result<&'t [u8], Stop>
     requires of { IsBuiltFromSome query.now.searcher.now }
@@ -81,13 +82,31 @@ fn take_some<'t>(query: &Query<'_>, text: &'t [u8], state: &mut State) -> Result
     ensures shorter { IfOk result (λ left. length left.now < length text.now) }
     ensures takes { TakesSomeBy query.now state.old state.new text.now result }
 {
-    let Some(line) = next_line(query.searcher, text, query.job.style.ending)? else {
+    let Some(line) = next_for(query, text)? else {
         take_others(query, text, state)?;
         return Ok(&[]);
     };
     take_others(query, &text[..line.start], state)?;
     take_matched(query, &text[line.start..line.end], state)?;
     Ok(behind(text, line.end))
+}
+
+/// The first line of a text that can match, where all before it do not: where whole words are sought, the first in which one is found, so
+/// that the many lines are passed at once in which a pattern is but a part of words.
+fn next_for(query: &Query<'_>, text: &[u8]) -> Result<Option<Span>, Stop>
+    requires of { IsBuiltFromSome query.now.searcher.now }
+    requires some { 0 < length text.now }
+    ensures ordered { IfOk result (λ line. IfSome line (λ line. line.start ≤ line.end)) }
+    ensures within { IfOk result (λ line. IfSome line (λ line. line.end ≤ length text.now)) }
+    ensures next { ForQuery query.now (λ p. IfOk result (IsNextFor p query.now.job text.now)) }
+{
+    let ending = query.job.style.ending;
+    match query.job.fit {
+        Fit::WholeWord if !is_word_constituent(ending) => {
+            next_line_alone(query.searcher, text, ending)
+        }
+        _ => next_line(query.searcher, text, ending),
+    }
 }
 
 /// Goes over a line in which a pattern occurs.
@@ -134,7 +153,7 @@ fn take_selected(query: &Query<'_>, line: &[u8], state: &mut State) -> Result<()
     Ok(())
 }
 
-/// Goes over lines without a match.
+/// Goes over lines that do not match.
 fn take_others(query: &Query<'_>, text: &[u8], state: &mut State) -> Result<(), Stop>
     requires of { IsBuiltFromSome query.now.searcher.now }
     ensures takes { TakesOthersBy query.now state.old state.new text.now result }

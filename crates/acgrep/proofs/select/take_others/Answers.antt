@@ -2,10 +2,10 @@
 use Rattle.acgrep.proofs.Common.{Appends-nil, common_steps, nil_from_length}
 use Rattle.std.proofs.Common.{◌%◌, ◌+◌, ◌<◌, ◌^◌, ◌≡◌, Some, [], ap, arith, false, length, refl, subst}
 use Rattle.acgrep.specs.Lines.{lines}
-use Rattle.acgrep.specs.Written.{EachLine, HasNone, selects}
+use Rattle.acgrep.specs.Written.{DoesNotMatch, EachLine, selects}
 use Rattle.acgrep.proofs.FirstLines.{lines_then}
 use Rattle.acgrep.proofs.PlacesBehind.{place_behind}
-use Rattle.acgrep.proofs.Tellings.{all_passed, each_passed, none_matches, searches_all, searches_join, searches_line, searches_start, selected_by}
+use Rattle.acgrep.proofs.Tellings.{all_passed, each_passed, searches_all, searches_join, searches_line, searches_start, selected_by}
 use Rattle.acgrep.proofs.select.take_others.Goals as goal
 
 pub returns-then-not-query : goal.returns-then-not-query
@@ -29,11 +29,11 @@ loop-rest-preserved c = λ p is each.
     let full : 0 < length rest = grind (arith, common_steps, c.is_empty.ensures, c.loop-rest-test.true) in
     let more = lines_then job.style.ending rest left c.line_end-end.result full c.line_end-end.ensures.within c.line_end-end.ensures.none c.line_end-end.ensures.ends c.behind-rest.ensures.rest in
     let (so_far, others) = c.loop-rest.invariant p is each in
-    let (none, behind) = subst (EachLine (HasNone p)) more others in
+    let (none, behind) = subst (EachLine (DoesNotMatch p job.fit)) more others in
     let done = c.in_ok-take_selected.ensures in (
       searches_join p job _ _ _ _ _ _ _ rest left so_far full (searches_line p job _ _ _ _ _ _ rest [] _ left (c.line_end-end.result + 1) more c.behind-rest.ensures.rest
           (searches_start p job c.loop-rest.state _ _ _ [] refl refl (Appends-nil (Some c.loop-rest.state.page.items))) (λ some. absurd (omega (arith, some)))
-          (done.takes p is (selected_by p job.fit job.invert false _ (none_matches p job.fit _ none) (ap (selects false) c.if-not-query.false))) done.placed),
+          (done.takes p is (selected_by p job.fit job.invert false _ none (ap (selects false) c.if-not-query.false))) done.placed),
       behind,
     )
 
