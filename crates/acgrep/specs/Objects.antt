@@ -37,6 +37,11 @@ number_named name number = codes ",\"" ++ (name ++ (codes "\":" ++ decimal numbe
 abbrev pub bytes_named : List ℕ → List ℕ
 bytes_named bytes = if is_utf8 bytes then codes ",\"text\":\"" ++ json_escaped bytes else codes ",\"bytes\":\"" ++ encode_of standard bytes
 
+-- a file's name: as a string where it is UTF-8, and else as an object with its bytes in base64
+abbrev pub json_name : List ℕ → List ℕ
+json_name name =
+    if is_utf8 name then codes "\"" ++ (json_escaped name ++ codes "\"") else codes "{\"bytes\":\"" ++ (encode_of standard name ++ codes "\"}")
+
 -- what is told of a match: the file's name, the line's number, the range in the file, the pattern's number and the bytes
 pub record FieldsTold : Type 0 where
   pub path : List ℕ
@@ -68,11 +73,11 @@ fields_by style place line m = record {
 
 -- how a match begins as an object: with all of that but its bytes
 abbrev pub json_front : FieldsTold → List ℕ
-json_front fields = codes "{\"file\":\"" ++ (json_escaped fields.path ++ (codes "\""
+json_front fields = codes "{\"file\":" ++ (json_name fields.path
     ++ (number_named (codes "line") fields.line
     ++ (number_named (codes "start") fields.start
     ++ (number_named (codes "end") fields.end
-    ++ number_named (codes "pattern") fields.pattern)))))
+    ++ number_named (codes "pattern") fields.pattern))))
 
 -- a match as an object, on a line of its own
 abbrev pub json_by : FieldsTold → List ℕ

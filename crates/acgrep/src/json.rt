@@ -3,7 +3,7 @@
 ghost use Rattle.std.specs.Prelude.{◌≡◌, ◌<◌, ◌++◌, decimal};
 ghost use Rattle.std.specs.Str.{is_utf8};
 ghost use Rattle.acgrep.specs.Printed.{Puts};
-ghost use Rattle.acgrep.specs.Objects.{bytes_named, escaped_byte, fields_told, formatted_by, hex_of, json_by, json_escaped, json_front, object_by, stands_for};
+ghost use Rattle.acgrep.specs.Objects.{bytes_named, escaped_byte, fields_told, formatted_by, hex_of, json_by, json_escaped, json_front, json_name, object_by, stands_for};
 
 use crate::fields::{Fields, fields_of, put_decimal};
 use crate::format::Piece;
@@ -52,12 +52,28 @@ pub fn put_front<W: Write>(output: &mut W, fields: &Fields<'_>) -> io::Result<()
     ensures written { Puts W.Write output.old output.new result
         (json_front (fields_told fields.now)) }
 {
-    output.write_all(b"{\"file\":\"")?;
-    put_escaped(output, fields.path)?;
-    put_field(output, b"\",\"line\":", fields.line)?;
+    output.write_all(b"{\"file\":")?;
+    put_name(output, fields.path)?;
+    put_field(output, b",\"line\":", fields.line)?;
     put_field(output, b",\"start\":", fields.start)?;
     put_field(output, b",\"end\":", fields.end)?;
     put_field(output, b",\"pattern\":", fields.pattern)?;
+    Ok(())
+}
+
+/// Writes a file's name: as a string where it is UTF-8, and else as an object with its bytes in base64.
+fn put_name<W: Write>(output: &mut W, name: &[u8]) -> io::Result<()>
+    ensures written { Puts W.Write output.old output.new result
+        (json_name name.now) }
+{
+    if is_text(name) {
+        output.write_all(b"\"")?;
+        put_escaped(output, name)?;
+        return output.write_all(b"\"");
+    }
+    output.write_all(b"{\"bytes\":\"")?;
+    write!(output, "{}", Base64Display::new(name, &STANDARD))?;
+    output.write_all(b"\"}")?;
     Ok(())
 }
 
