@@ -1,6 +1,6 @@
 -- The first line of a text in which a match stands alone.
 use Rattle.acgrep.proofs.Common.{Job, Occurrence, Occurs-in, OccursIn, Patterns, cases_lt, common_steps, drop-drop, eqb-true, length-drop, length-take-le, lt-ltb, plain_search, true≢false}
-use Rattle.std.proofs.Common.{◌+◌, ◌-◌, ◌<◌, ◌==◌, ◌∙◌, ◌≡◌, ◌≤◌, List, None, Option, Some, ap, arith, drop, false, inl, inr, length, refl, subst, suc, sym, take, true, zero, ℕ}
+use Rattle.std.proofs.Common.{◌++◌, ◌+◌, ◌-◌, ◌<◌, ◌==◌, ◌∙◌, ◌∷◌, ◌≡◌, ◌≤◌, List, None, Option, Some, [], ap, arith, drop, false, inl, inr, length, refl, subst, suc, sym, take, take-append-drop, true, zero, ℕ}
 use Rattle.std.proofs.lemmas.List.{drop_all, get_or-drop, get_or-take}
 use Rattle.std.proofs.lemmas.List.Sums.{fails_before_first, passes_at_first}
 use Rattle.std.specs.Prelude.{slice_index, slice_range}
@@ -9,15 +9,15 @@ use Rattle.aho_core.specs.declared.search.Span.{Span}
 use Rattle.aho_laws.proofs.SpanTexts.{moved-zero, moved_back}
 use Rattle.aho_laws.specs.CutLaws.{moved}
 use Rattle.acgrep.specs.Alone.{IsAloneFrom, IsNextAlone, begins_alone, ends_alone, is_word_constituent}
-use Rattle.acgrep.specs.Likely.{IsNextFor, IsNextLineAlone}
+use Rattle.acgrep.specs.Likely.{IsFrontPassed, IsNextFor, IsNextLineAlone}
 use Rattle.acgrep.specs.Lines.{EndsLine, IsEnding, lines}
 use Rattle.acgrep.specs.Selected.{HoldNoEnding, IsFirstWith, IsLine, IsNextLine}
 use Rattle.acgrep.specs.Written.{DoesNotMatch, EachLine, HasAlone, HasNoneAlone}
 use Rattle.acgrep.specs.declared.options.Fit.TheVariants.{WholeWord}
 use Rattle.acgrep.proofs.AloneTried.{begins_later}
-use Rattle.acgrep.proofs.Around.{behind_newline, ends_before, newline_behind}
+use Rattle.acgrep.proofs.Around.{behind_newline, ends_before, front_newline, newline_behind}
 use Rattle.acgrep.proofs.FirstLines.{first_end, first_within, lines_cut}
-use Rattle.acgrep.proofs.LineLists.{begins_before, first_has, front_ends, front_lines, in_part, none_in_lines, occurs_front, occurs_part}
+use Rattle.acgrep.proofs.LineLists.{begins_before, first_has, front_ends, front_lines, in_part, lines_append, none_in_lines, occurs_front, occurs_part}
 use Rattle.acgrep.proofs.Tellings.{none_match}
 
 -- what is beside a match is the same in two texts, or one of them ends there
@@ -217,4 +217,23 @@ next_by_match p job text plain some (Some line) next =
       before_end = begins_before ending p plain text line first some;
       holds = first_has ending p plain text line first;
       others = none_match p job.fit _ (front_lines ending p plain text line first);
+    }
+
+-- where no line matches, none of the whole lines does
+each_front : (P : List ℕ → Type 0) (ls ms : List (List ℕ)) → EachLine P (ls ++ ms) → EachLine P ls
+each_front P [] ms each = tt
+each_front P (line ∷ rest) ms (one, each) = (one, each_front P rest ms each)
+
+pub front_of_none : (p : Patterns) (job : Job) (text : List ℕ) (start : ℕ) → start ≤ length text → (0 < start → IsEnding job.style.ending text (start - 1)) → EachLine (DoesNotMatch p job.fit) (lines job.style.ending text)
+    → IsFrontPassed p job text start
+front_of_none p job text start within newline each =
+    let ending = job.style.ending in
+    let front = take start text in
+    let long : length front ≡ start = length-take-le start text within in
+    let ends : EndsLine ending front = λ some.
+    subst (λ (n : ℕ). IsEnding ending front (n - 1)) (sym long) (front_newline ending text start (start - 1) (omega (arith, long, some)) (newline (omega (arith, long, some)))) in
+    record {
+      ends = ends;
+      others = each_front (DoesNotMatch p job.fit) (lines ending front) (lines ending (drop start text))
+          (subst (EachLine (DoesNotMatch p job.fit)) (ap (lines ending) (sym (take-append-drop start text)) ∙ lines_append ending front (drop start text) ends) each);
     }

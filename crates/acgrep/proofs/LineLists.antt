@@ -85,7 +85,7 @@ module _ (ending : ℕ) where
 
   module _ (p : Patterns) where
     -- what occurs in a part of a text occurs in the text
-    occurs_part : (text : List ℕ) (start end : ℕ) (m : Occurrence) → start ≤ end → end ≤ length text → OccursIn p (plain_search (slice_range text start end)) m → OccursIn p (plain_search text) (moved start m)
+    pub occurs_part : (text : List ℕ) (start end : ℕ) (m : Occurrence) → start ≤ end → end ≤ length text → OccursIn p (plain_search (slice_range text start end)) m → OccursIn p (plain_search text) (moved start m)
     occurs_part text start end m ordered within occurs =
         let size = length (slice_range text start end) in
         let long : size ≡ end - start = length_part text start end within in
@@ -108,7 +108,7 @@ module _ (ending : ℕ) where
         }
 
     -- what occurs in a front of a text occurs there in the text
-    occurs_front : (text : List ℕ) (end : ℕ) (m : Occurrence) → end ≤ length text → OccursIn p (plain_search (take end text)) m → OccursIn p (plain_search text) (moved 0 m)
+    pub occurs_front : (text : List ℕ) (end : ℕ) (m : Occurrence) → end ≤ length text → OccursIn p (plain_search (take end text)) m → OccursIn p (plain_search text) (moved 0 m)
     occurs_front text end m within occurs =
         occurs_part text 0 end m (omega arith) within (subst (λ (l : List ℕ). OccursIn p (plain_search l) m) (sym (slice_front text end)) occurs)
 

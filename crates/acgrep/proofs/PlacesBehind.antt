@@ -1,5 +1,5 @@
 -- The place behind a text of whole lines.
-use Rattle.acgrep.proofs.Common.{Job, Place, cases_Bool}
+use Rattle.acgrep.proofs.Common.{Job, Place, cases_Bool, common_steps}
 use Rattle.std.proofs.Common.{◌%◌, ◌+◌, ◌<◌, ◌==◌, ◌^◌, ◌∙◌, ◌∷◌, ◌≡◌, List, [], ap, arith, cond, inl, inr, length, refl, sym, ℕ}
 use Rattle.std.proofs.Math.Nat.{mod-add-mod, mod-eq_of_lt, mod-lt}
 use Rattle.std.proofs.lemmas.List.Sums.{sum_by-cons}
@@ -42,6 +42,18 @@ bytes_on : (ls : List (List ℕ)) (place : Place) → place.bytes < 2 ^ 64 → (
 bytes_on [] place low = sym (ap (λ (n : ℕ). n % 2 ^ 64) (omega arith) ∙ mod-eq_of_lt low)
 bytes_on (line ∷ rest) place low = bytes_on rest (after_line place line) (mod-lt (place.bytes + (length line + 1)) (omega arith))
     ∙ mod-add-mod (place.bytes + (length line + 1)) (2 ^ 64) (total rest) ∙ ap (λ (n : ℕ). n % 2 ^ 64) (omega arith)
+
+same_place : (a b : Place) → a.lines ≡ b.lines → a.bytes ≡ b.bytes → a ≡ b
+same_place a b lines bytes = grind (arith, common_steps)
+
+pub behind_text : (ending : ℕ) (before after : Place) (text : List ℕ) → before.lines < 2 ^ 64 → before.bytes < 2 ^ 64
+    → after.lines ≡ (before.lines + length (places (is_byte ending) text)) % 2 ^ 64 → after.bytes ≡ (before.bytes + length text) % 2 ^ 64
+    → EndsLine ending text → after ≡ after_lines before (lines ending text)
+behind_text ending before after text low few counted sized ends =
+    let (count, size) = lines_counted ending text ends in
+    same_place after (after_lines before (lines ending text))
+    (counted ∙ ap (λ (n : ℕ). (before.lines + n) % 2 ^ 64) (length-places (is_byte ending) text ∙ count) ∙ sym (lines_on (lines ending text) before low))
+    (sized ∙ ap (λ (n : ℕ). (before.bytes + n) % 2 ^ 64) (sym size) ∙ sym (bytes_on (lines ending text) before few))
 
 pub place_behind : (job : Job) (before after : Place) (text : List ℕ) → before.lines < 2 ^ 64 → before.bytes < 2 ^ 64
     → (NumbersLines job → after.lines ≡ (before.lines + length (places (is_byte job.style.ending) text)) % 2 ^ 64) → after.bytes ≡ (before.bytes + length text) % 2 ^ 64

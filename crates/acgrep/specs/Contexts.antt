@@ -223,6 +223,12 @@ WalksOver p job context w (line ∷ rest) bytes w' =
     (shown : List ℕ) × (more : List ℕ) × (between : Walk) × Steps p job context w line shown between × WalksOver p job context between rest more w'
     × (bytes ≡ shown ++ more)
 
+-- over the lines of a text up to those that are left
+pub record WalksUpTo (p : Patterns) (job : Job) (context : Context) (w w' : Walk) (text left bytes : List ℕ) : Type 0 where
+  pub searched : List (List ℕ)
+  pub cut : lines job.style.ending text ≡ searched ++ lines job.style.ending left
+  pub walks : WalksOver p job context w searched bytes w'
+
 -- wherever they end
 abbrev pub WalksSome : Patterns → Job → Context → Walk → List (List ℕ) → List ℕ → Type 0
 WalksSome p job context w ls bytes = (end : Walk) × WalksOver p job context w ls bytes end

@@ -2,7 +2,7 @@
 use Rattle.acgrep.specs.Common.{Patterns}
 use Rattle.std.specs.Prelude.{◌<◌, List, None, Option, Some, length, slice_range, take, ℕ}
 use Rattle.aho_core.specs.declared.search.Span.{Span}
-use Rattle.acgrep.specs.Lines.{lines}
+use Rattle.acgrep.specs.Lines.{EndsLine, lines}
 use Rattle.acgrep.specs.Selected.{IsLine}
 use Rattle.acgrep.specs.Written.{DoesMatch, DoesNotMatch, EachLine, HasMatch}
 use Rattle.acgrep.specs.declared.options.Fit.{Fit}
@@ -26,3 +26,8 @@ IsNextLineAlone p ending text (Some line) = IsFirstLikely (DoesMatch p WholeWord
 abbrev pub IsNextFor : Patterns → Job → List ℕ → Option Span → Type 0
 IsNextFor p job text None = EachLine (DoesNotMatch p job.fit) (lines job.style.ending text)
 IsNextFor p job text (Some line) = IsFirstLikely (HasMatch p) p job.fit job.style.ending text line
+
+-- a front of the text is whole lines that do not match
+pub record IsFrontPassed (p : Patterns) (job : Job) (text : List ℕ) (start : ℕ) : Type 0 where
+  pub ends : EndsLine job.style.ending (take start text)
+  pub others : EachLine (DoesNotMatch p job.fit) (lines job.style.ending (take start text))

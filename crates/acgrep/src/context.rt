@@ -1,25 +1,28 @@
 //! Searching a text, also where the lines around selected ones are written.
 
-ghost use Rattle.std.specs.Prelude.{IfOk, OnOk};
+ghost use Rattle.std.specs.Prelude.{◌≡◌, ◌≤◌, ◌<◌, [], IfOk, IsTrue, OnOk, false, length};
 ghost use Rattle.aho_core.specs.Patterns.{Patterns};
 ghost use Rattle.chromesquid.specs.Searcher.{IsBuiltFromSome};
-ghost use Rattle.acgrep.specs.Contexts.{IsChosenBy};
+ghost use Rattle.acgrep.specs.Contexts.{IsChosenBy, WalksUpTo, walk_of};
 ghost use Rattle.acgrep.specs.Filled.{held_lines};
+ghost use Rattle.acgrep.specs.Likely.{IsFrontPassed};
+ghost use Rattle.acgrep.specs.Lines.{EndsLine, lines};
 ghost use Rattle.acgrep.specs.Printed.{Puts};
 ghost use Rattle.acgrep.specs.Searched.{BeginsTextBy, SearchesTextBy, ShowsEachBy, StepsBy, between_by};
 ghost use Rattle.acgrep.specs.Searchers.{ForQuery, Seeks};
 ghost use Rattle.acgrep.specs.Selected.{IsNoneSelected};
-ghost use Rattle.acgrep.specs.Written.{IsMatched};
+ghost use Rattle.acgrep.specs.Written.{IsMatched, after_lines};
 
 use crate::failure::Stop;
 use crate::held::Held;
 use crate::job::{Job, Query, State};
-use crate::lines::{behind, line_end};
+use crate::lines::{behind, line_end, line_start};
 use crate::options::Context;
 use crate::print::{Place, behind_line, put_separator};
-use crate::select::{is_match, put_shown, search_plain};
+use crate::select::{is_match, next_for, put_shown, search_plain};
 use crate::trail::Trail;
 use chromesquid::{Sink, write_whole};
+use memchr::memchr_iter;
 use std::io;
 use std::io::Write;
 
@@ -49,12 +52,95 @@ pub fn search_text<W: Sink>(
     };
     let mut rest = text;
     while query.job.goes_on(rest, state) {
-        let end = line_end(rest, query.job.style.ending);
-        take_line(query, &context, &rest[..end], state)?;
+        let left = take_next(query, &context, rest, state)?;
         write_whole(output, state.page.as_slice())?;
-        rest = behind(rest, end);
+        rest = left;
     }
     Ok(())
+}
+
+/// Goes over the lines of a text that are passed at once and the line behind them, puts together what is written of it, and answers what
+/// follows.
+fn take_next<'t>(
+    query: &Query<'_>,
+    context: &Context,
+    text: &'t [u8],
+    state: &mut State,
+) -> Result<&'t [u8], Stop>
+    requires of { IsBuiltFromSome query.now.searcher.now }
+    requires some { 0 < length text.now }
+    ensures shorter { IfOk result (λ left. length left.now < length text.now) }
+    ensures walks { ForQuery query.now (λ p. IfOk result (λ left. WalksUpTo p query.now.job context.now
+        (walk_of state.old) (walk_of state.new) text.now left.now state.new.page.items)) }
+{
+    let rest = pass_others(query, context, text, state)?;
+    if rest.is_empty() {
+        return Ok(rest);
+    }
+    let end = line_end(rest, query.job.style.ending);
+    take_line(query, context, &rest[..end], state)?;
+    Ok(behind(rest, end))
+}
+
+/// Goes at once over the lines before the next that can match, where none of them is written or held, and answers what follows.
+fn pass_others<'t>(
+    query: &Query<'_>,
+    context: &Context,
+    text: &'t [u8],
+    state: &mut State,
+) -> Result<&'t [u8], Stop>
+    requires of { IsBuiltFromSome query.now.searcher.now }
+    requires some { 0 < length text.now }
+    ensures empty { state.new.page.items ≡ [] }
+    ensures shorter { IfOk result (λ left. length left.now ≤ length text.now) }
+    ensures walks { ForQuery query.now (λ p. IfOk result (λ left. WalksUpTo p query.now.job context.now
+        (walk_of state.old) (walk_of state.new) text.now left.now [])) }
+{
+    state.page.clear();
+    if !passes_at_once(&query.job, context, state) {
+        return Ok(text);
+    }
+    let start = likely_start(query, text)?;
+    if start == 0 {
+        return Ok(text);
+    }
+    state.place = behind_lines(state.place, &text[..start], query.job.style.ending);
+    state.trail.apart = true;
+    Ok(&text[start..])
+}
+
+/// Whether lines that do not match are neither written nor held, and more are asked for.
+fn passes_at_once(job: &Job, context: &Context, state: &State) -> bool
+    ensures matched { IsTrue result → job.now.invert ≡ false }
+    ensures none { IsTrue result → context.now.before ≡ 0 }
+    ensures past { IsTrue result → state.now.trail.due ≡ 0 }
+{
+    !job.invert && context.before == 0 && state.trail.due == 0 && !job.is_full(state.selected)
+}
+
+/// Where the first line of a text begins that can match. Where there is none it is the last, if nothing ends that.
+fn likely_start(query: &Query<'_>, text: &[u8]) -> Result<usize, Stop>
+    requires of { IsBuiltFromSome query.now.searcher.now }
+    requires some { 0 < length text.now }
+    ensures within { IfOk result (λ start. start ≤ length text.now) }
+    ensures front { ForQuery query.now (λ p. IfOk result (IsFrontPassed p query.now.job text.now)) }
+{
+    match next_for(query, text)? {
+        Some(line) => Ok(line.start),
+        None => Ok(line_start(text, query.job.style.ending)),
+    }
+}
+
+/// The place behind whole lines.
+fn behind_lines(place: Place, text: &[u8], ending: u8) -> Place
+    ensures behind { EndsLine ending text.now → result ≡ after_lines place (lines ending text.now) }
+{
+    Place {
+        lines: place
+            .lines
+            .wrapping_add(memchr_iter(ending, text).count() as u64),
+        bytes: place.bytes.wrapping_add(text.len() as u64),
+    }
 }
 
 /// Goes over a line, and puts together what is written of it: of a selected one, behind those that are held before it, and of one that

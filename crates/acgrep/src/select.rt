@@ -93,7 +93,7 @@ fn take_some<'t>(query: &Query<'_>, text: &'t [u8], state: &mut State) -> Result
 
 /// The first line of a text that can match, where all before it do not: where whole words are sought, the first in which one is found, so
 /// that the many lines are passed at once in which a pattern is but a part of words.
-fn next_for(query: &Query<'_>, text: &[u8]) -> Result<Option<Span>, Stop>
+pub fn next_for(query: &Query<'_>, text: &[u8]) -> Result<Option<Span>, Stop>
     requires of { IsBuiltFromSome query.now.searcher.now }
     requires some { 0 < length text.now }
     ensures ordered { IfOk result (λ line. IfSome line (λ line. line.start ≤ line.end)) }
