@@ -13,6 +13,7 @@ use Rattle.aho_core.specs.Cover.{IsCovered}
 use Rattle.aho_core.specs.Occurs.{OccursIn}
 use Rattle.secret_forms.proofs.EachLaw.{Contains-flat_map}
 use Rattle.secret_forms.specs.Forms.{HidesForm, HidesNested, form_patterns}
+use Rattle.secret_forms.specs.Joined.{HidesJoined, joinings}
 use Rattle.secret_forms.specs.Json.{HidesCharacters, json_spellings, json_ways}
 use Rattle.secret_forms.specs.Law.{HidesBits, HidesEach, IsHidden}
 use Rattle.secret_forms.specs.Lines.{HidesLine, line_patterns}
@@ -22,7 +23,7 @@ use Rattle.secret_forms.specs.declared.form.Form.{Form}
 use Rattle.secret_forms.specs.declared.form.Form.TheVariants.{Base64, Hex, Url, Json, Xml, Shell, Lines}
 use Rattle.acredact.specs.Files.{AreRedacted, Work}
 use Rattle.acredact.specs.Forms.{AskedForms, HideSecrets, HidesNestedForm, HidesSecret, filled, form_secret, forms_from, forms_of, once_patterns, asked_form_patterns, twice_patterns, with_forms}
-use Rattle.acredact.specs.Hidden.{AreHidden, HidesForms, NoneShowsOnce, NoneShowsTwice, ShowsBits, SpellsEach, ShowsForm, SpellsForm}
+use Rattle.acredact.specs.Hidden.{AreHidden, HidesForms, NoneShowsOnce, NoneShowsTwice, JoinsShell, ShowsBits, SpellsEach, ShowsForm, SpellsForm}
 use Rattle.acredact.specs.Secrets.{IsRedaction, NoByteIsKept, NoneIsWhole, Redactor}
 use Rattle.acredact.specs.Tables.{Secret, patterns_in}
 use Rattle.aho_cover.specs.Words.{CountsIn}
@@ -47,6 +48,10 @@ module _ (patterns : List (List ℕ)) (secret text : List ℕ) (place : ℕ) whe
   spelled_hidden : (spellings : List Spelling) → All (HidesSpelled patterns secret) spellings → SpellsForm spellings secret text place → IsHidden patterns text place
   spelled_hidden spellings law (spelling, listed, shows) = each_hidden _ secret (All-contains (HidesSpelled patterns secret) spellings spelling law listed) shows
 
+  joined_hidden : (shows : JoinsShell secret text place) → HidesJoined patterns secret shows.joining → IsHidden patterns text place
+  joined_hidden shows law =
+      hidden_at _ _ shows.stands shows.there (law shows.first shows.before shows.after shows.ahead shows.behind shows.at shows.after_start shows.before_end)
+
   form_hidden : (form : Form) → HidesForm patterns secret form → ShowsForm form secret text place → IsHidden patterns text place
   form_hidden Base64 (a, b, c, d) (inl shows) = bits_hidden 6 (encode_of standard) a shows
   form_hidden Base64 (a, b, c, d) (inr (inl shows)) = bits_hidden 6 (encode_of standard_no_pad) b shows
@@ -54,11 +59,13 @@ module _ (patterns : List (List ℕ)) (secret text : List ℕ) (place : ℕ) whe
   form_hidden Base64 (a, b, c, d) (inr (inr (inr shows))) = bits_hidden 6 (encode_of url_safe_no_pad) d shows
   form_hidden Hex (a, b) (inl shows) = bits_hidden 4 encode_lower a shows
   form_hidden Hex (a, b) (inr shows) = bits_hidden 4 encode_upper b shows
-  form_hidden Url law shows = spelled_hidden url_spellings law shows
+  form_hidden Url (law, others) (inl shows) = spelled_hidden url_spellings law shows
+  form_hidden Url (law, others) (inr (utf8, shows)) = each_hidden _ (chars secret) (others utf8) shows
   form_hidden Json (law, others) (inl shows) = spelled_hidden json_spellings law shows
   form_hidden Json (law, others) (inr (utf8, way, listed, shows)) = each_hidden _ (chars secret) (All-contains (HidesCharacters patterns secret) json_ways way (others utf8) listed) shows
   form_hidden Xml law shows = spelled_hidden xml_spellings law shows
-  form_hidden Shell law shows = spelled_hidden shell_spellings law shows
+  form_hidden Shell (law, others) (inl shows) = spelled_hidden shell_spellings law shows
+  form_hidden Shell (law, others) (inr shows) = joined_hidden shows (All-contains (HidesJoined patterns secret) joinings shows.joining others shows.listed)
   form_hidden Lines law (line, listed, shows) = each_hidden _ line (All-contains (HidesLine patterns) (line_patterns secret) line law listed) shows
 
 -- a pattern that stands in a text occurs there

@@ -5,7 +5,9 @@ use Rattle.base64.specs.Engines.{standard, standard_no_pad, url_safe, url_safe_n
 use Rattle.base64.specs.GeneralPurpose.{encode_of}
 use Rattle.hex.specs.Hex.{encode_lower, encode_upper}
 use Rattle.aho_core.specs.Cover.{IsCovered}
+use Rattle.secret_forms.specs.Escape.{escape_char}
 use Rattle.secret_forms.specs.Forms.{form_patterns}
+use Rattle.secret_forms.specs.Joined.{joined_word, joined_from, joinings}
 use Rattle.secret_forms.specs.Json.{json_char, json_spellings, json_ways}
 use Rattle.secret_forms.specs.Law.{HoldsBit, IsOfBytes}
 use Rattle.secret_forms.specs.Lines.{line_patterns}
@@ -13,6 +15,7 @@ use Rattle.secret_forms.specs.Spelling.{shell_spellings, spelled_byte, url_spell
 use Rattle.secret_forms.specs.declared.bytewise.Json.{Json as JsonWay}
 use Rattle.secret_forms.specs.declared.bytewise.Spelling.{Spelling}
 use Rattle.secret_forms.specs.declared.form.Form.{Form}
+use Rattle.secret_forms.specs.declared.joined_form.Joining.{Joining}
 use Rattle.secret_forms.specs.declared.form.Form.TheVariants.{Base64, Hex, Url, Json, Xml, Shell, Lines}
 use Rattle.acredact.specs.Files.{Work, WritesNamed}
 use Rattle.acredact.specs.Forms.{AskedForms}
@@ -50,6 +53,21 @@ abbrev pub SpellsForm : List Spelling → (secret text : List ℕ) (place : ℕ)
 SpellsForm spellings secret text place =
     (spelling : Spelling) × Contains spellings spelling × SpellsEach (spelled_byte spelling) secret text place
 
+-- or by one that looks at the byte before each
+pub record JoinsShell (secret text : List ℕ) (place : ℕ) : Type 0 where
+  pub joining : Joining
+  pub listed : Contains joinings joining
+  pub first : Option ℕ
+  pub before : List ℕ
+  pub after : List ℕ
+  pub ahead : List ℕ
+  pub behind : List ℕ
+  pub at : ℕ
+  pub after_start : length (joined_from joining first (before ++ secret)) ≤ at + length (joined_word joining secret)
+  pub before_end : at < length (joined_from joining first (before ++ secret))
+  pub stands : text ≡ ahead ++ (joined_from joining first (before ++ (secret ++ after)) ++ behind)
+  pub there : place ≡ length ahead + at
+
 -- base64 with padding or without, of either alphabet
 abbrev pub ShowsBase64 : (secret text : List ℕ) (place : ℕ) → Type 0
 ShowsBase64 secret text place =
@@ -60,12 +78,13 @@ ShowsBase64 secret text place =
 abbrev pub ShowsForm : Form → (secret text : List ℕ) (place : ℕ) → Type 0
 ShowsForm Base64 secret text place = ShowsBase64 secret text place
 ShowsForm Hex secret text place = ShowsBits 4 encode_lower secret text place ⊎ ShowsBits 4 encode_upper secret text place
-ShowsForm Url secret text place = SpellsForm url_spellings secret text place
+ShowsForm Url secret text place =
+    SpellsForm url_spellings secret text place ⊎ (IsUtf8 secret × SpellsEach escape_char (chars secret) text place)
 ShowsForm Json secret text place =
     SpellsForm json_spellings secret text place
     ⊎ (IsUtf8 secret × (way : JsonWay) × Contains json_ways way × SpellsEach (json_char way) (chars secret) text place)
 ShowsForm Xml secret text place = SpellsForm xml_spellings secret text place
-ShowsForm Shell secret text place = SpellsForm shell_spellings secret text place
+ShowsForm Shell secret text place = SpellsForm shell_spellings secret text place ⊎ JoinsShell secret text place
 ShowsForm Lines secret text place =
     (line : List ℕ) × Contains (line_patterns secret) line × SpellsEach (λ byte. byte ∷ []) line text place
 

@@ -1,7 +1,7 @@
 //! The forms in which a secret gets into a log, as patterns: what the crate `secret_forms` has for callers.
 
 pub use secret_forms::{
-    Beyond, Digits, Form, FormError, Json, Kept, Marks, Quotes, Quoting, Space, Spelling,
+    Beyond, Digits, Form, FormError, Joining, Json, Kept, Marks, Quotes, Quoting, Space, Spelling,
     base64_forms, forms, hex_forms, json_forms, lines_forms, nested_forms, shell_forms,
     spelled_forms, url_forms, xml_forms,
 };

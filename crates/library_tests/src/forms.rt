@@ -77,7 +77,7 @@ fn url_of_a_password_and_a_segment(rt: HostRuntime) {
     let text = shown(rt.alloc(), url_forms(rt.alloc(), b"!&:/@")).expect(&rt, "memory");
     let row: &[u8] = b"\
         %21%26%3A%2F%40 %21%26%3a%2f%40 %21%26%3A/%40 %21%26%3a/%40 !%26%3A%2F%40 !%26%3a%2f%40 !&:/@ \
-        !&%3A%2F%40 !&%3a%2f%40 %21&%3A%2F%40 %21&%3a%2f%40 %21&:%2F@ %21&:%2f@ %21%26%3A/@ %21%26%3a/@ \
+        !&%3A%2F%40 !&%3a%2f%40 %21&%3A%2F%40 %21&%3a%2f%40 %21&:%2F@ %21&:%2f@ %21&:/@ %21%26%3A/@ %21%26%3a/@ \
         !&:%2F%40 !&:%2f%40 ";
     assert_eq!(rt; text.as_slice(), row);
 }
@@ -91,26 +91,38 @@ fn url_of_bytes_that_are_kept(rt: HostRuntime) {
 }
 
 #[test]
+fn url_by_characters(rt: HostRuntime) {
+    let secret = b"p\xc3\xa4 \xc5\xbc\xf0\x9f\x98\x80";
+    let text = shown(rt.alloc(), url_forms(rt.alloc(), secret)).expect(&rt, "memory");
+    let row: &[u8] = b"\
+        p%C3%A4%20%C5%BC%F0%9F%98%80 p%c3%a4%20%c5%bc%f0%9f%98%80 p%C3%A4+%C5%BC%F0%9F%98%80 \
+        p%c3%a4+%c5%bc%f0%9f%98%80 %70%C3%A4%20%C5%BC%F0%9F%98%80 %70%c3%a4%20%c5%bc%f0%9f%98%80 \
+        p\xc3\xa4%20\xc5\xbc\xf0\x9f\x98\x80 p%E4%20%u017C%uD83D%uDE00 ";
+    assert_eq!(rt; text.as_slice(), row);
+}
+
+#[test]
 fn json_by_each_encoder(rt: HostRuntime) {
     let text = shown(rt.alloc(), json_forms(rt.alloc(), b"\xc3\xa9/\"\\<\x01")).expect(
         &rt, "memory",
     );
     let row: &[u8] = b"\
         \xc3\xa9/\\\"\\\\<\\u0001 \xc3\xa9\\/\\\"\\\\<\\u0001 \xc3\xa9/\\\"\\\\\\u003c\\u0001 \
-        \xc3\xa9/\\\"\\\\\\u003C\\u0001 \xc3\xa9\\/\\\"\\\\\\u003c\\u0001 \
-        \xc3\xa9\\/\\\"\\\\\\u003C\\u0001 \xc3\xa9/\\u0022\\\\\\u003c\\u0001 \
-        \xc3\xa9/\\u0022\\\\\\u003C\\u0001 \\u00e9/\\\"\\\\<\\u0001 \\u00E9/\\\"\\\\<\\u0001 \
-        \\u00e9\\/\\\"\\\\<\\u0001 \\u00E9\\/\\\"\\\\<\\u0001 \\u00e9/\\\"\\\\\\u003c\\u0001 \
-        \\u00E9/\\\"\\\\\\u003C\\u0001 \\u00e9\\/\\\"\\\\\\u003c\\u0001 \\u00E9\\/\\\"\\\\\\u003C\\u0001 \
-        \\u00e9/\\u0022\\\\\\u003c\\u0001 \\u00E9/\\u0022\\\\\\u003C\\u0001 ";
+        \xc3\xa9/\\\"\\\\\\u003C\\u0001 \xc3\xa9\\/\\\"\\\\\\u003c\\u0001 \xc3\xa9\\/\\\"\\\\\\u003C\\u0001 \
+        \xc3\xa9/\\u0022\\\\\\u003c\\u0001 \xc3\xa9/\\u0022\\\\\\u003C\\u0001 \
+        \xc3\xa9\\/\\u0022\\\\\\u003c\\u0001 \xc3\xa9\\/\\u0022\\\\\\u003C\\u0001 \\u00e9/\\\"\\\\<\\u0001 \
+        \\u00E9/\\\"\\\\<\\u0001 \\u00e9\\/\\\"\\\\<\\u0001 \\u00E9\\/\\\"\\\\<\\u0001 \
+        \\u00e9/\\\"\\\\\\u003c\\u0001 \\u00E9/\\\"\\\\\\u003C\\u0001 \\u00e9\\/\\\"\\\\\\u003c\\u0001 \
+        \\u00E9\\/\\\"\\\\\\u003C\\u0001 \\u00e9/\\u0022\\\\\\u003c\\u0001 \\u00E9/\\u0022\\\\\\u003C\\u0001 \
+        \\u00e9\\/\\u0022\\\\\\u003c\\u0001 \\u00E9\\/\\u0022\\\\\\u003C\\u0001 ";
     assert_eq!(rt; text.as_slice(), row);
 }
 
 #[test]
 fn json_by_each_set_of_marks(rt: HostRuntime) {
     let text = shown(rt.alloc(), json_forms(rt.alloc(), b"'=+`")).expect(&rt, "memory");
-    let row: &[u8] =
-        b"'=+` \\u0027\\u003d+` \\u0027\\u003D+` \\u0027=\\u002b\\u0060 \\u0027=\\u002B\\u0060 ";
+    let row: &[u8] = b"\
+        '=+` \\u0027\\u003d+` \\u0027\\u003D+` \\u0027=\\u002b\\u0060 \\u0027=\\u002B\\u0060 \\u0027=+` ";
     assert_eq!(rt; text.as_slice(), row);
 }
 
@@ -122,8 +134,8 @@ fn json_of_a_surrogate_pair(rt: HostRuntime) {
     )
     .expect(&rt, "memory");
     let row: &[u8] = b"\
-        key\xf0\x9f\x98\x80\x7f key\xf0\x9f\x98\x80\\u007f key\xf0\x9f\x98\x80\\u007F \
-        key\\ud83d\\ude00\\u007f key\\uD83D\\uDE00\\u007F ";
+        key\xf0\x9f\x98\x80\x7f key\xf0\x9f\x98\x80\\u007f key\xf0\x9f\x98\x80\\u007F key\\ud83d\\ude00\\u007f \
+        key\\uD83D\\uDE00\\u007F ";
     assert_eq!(rt; text.as_slice(), row);
 }
 
@@ -164,7 +176,7 @@ fn shell_as_bash_writes(rt: HostRuntime) {
     let row: &[u8] = b"\
         a,~\x01\x07\n\x1b\x7f\xff a,\\~\\\x01\\\x07\\\n\\\x1b\\\x7f\xff a\\,~\x01\x07\n\x1b\x7f\xff \
         a\\,\\~\x01\x07\n\x1b\x7f\xff \\a\\,\\~\x01\\\x07\\\n\\\x1b\x7f\\\xff a,~\\001\\a\\n\\E\\177\xff \
-        a,~\\001\\a\\n\\E\\177\\377 ";
+        a,~\\001\\a\\n\\E\\177\\377 a,~'$'\\001\\a\\n\\033\\177''\xff a,~'$'\\001\\a\\n\\033\\177\\377 ";
     assert_eq!(rt; text.as_slice(), row);
 }
 
@@ -181,7 +193,17 @@ fn shell_as_bash_traces(rt: HostRuntime) {
     let text = shown(rt.alloc(), shell_forms(rt.alloc(), b"p\xc3\xa4.[]")).expect(&rt, "memory");
     let row: &[u8] = b"\
         p\xc3\xa4.[] p\xc3\xa4.\\[\\] \\p\\\xc3\\\xa4\\.\\[\\] \\p\\\xc3\xa4\\.\\[\\] p\xc3\xa4\\.\\[] \
-        p\\303\\244.[] ";
+        p\\303\\244.[] p'$'\\303\\244''.[] ";
+    assert_eq!(rt; text.as_slice(), row);
+}
+
+#[test]
+fn shell_by_the_byte_before(rt: HostRuntime) {
+    let text = shown(rt.alloc(), shell_forms(rt.alloc(), b"~a~=~\t'\xffb")).expect(&rt, "memory");
+    let row: &[u8] = b"\
+        ~a~=~\t'\\''\xffb ~a~=~\t'\"'\"'\xffb ~a~=~\t'\xffb \\~a\\~=\\~\\\t\\'\xffb ~a~=~\t\\'\xffb \
+        \\~a\\~=\\~\t\\'\xffb \\~\\a\\~\\=\\~\\\t\\'\\\xff\\b ~a~=~\\t\\'\xffb ~a~=~\\t\\'\\377b \
+        ~a~=\\~\t\\'\xffb ~a~=~'$'\\t'\\''\xffb ~a~=~'$'\\t'\\'''$'\\377''b ";
     assert_eq!(rt; text.as_slice(), row);
 }
 

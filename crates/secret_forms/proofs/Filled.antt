@@ -1,6 +1,6 @@
 -- No pattern of a form is empty.
 use Rattle.std.proofs.Common.{◌≡◌, ℕ, zero, suc, ◌-◌, ◌≤◌, Bool, true, false, cond, List, [], ◌∷◌, ◌++◌, length, nat_lt, drop, refl, ap, ◌∙◌, arith}
-use Rattle.std.specs.Prelude.{◌==◌, All, IsUtf8, chars, encode_utf8_all, flat_map}
+use Rattle.std.specs.Prelude.{◌==◌, All, IsUtf8, Some, chars, encode_utf8_all, flat_map}
 use Rattle.std.specs.List.{list_any, range_with_len, slice_split}
 use Rattle.std.specs.Str.{is_utf8}
 use Rattle.std.specs.Str.Lines.{strip_carriage_return}
@@ -16,7 +16,9 @@ use Rattle.base64.proofs.RoundTrip.{length-encode_symbols}
 use Rattle.hex.specs.Hex.{encode_with, lower_digits, upper_digits}
 use Rattle.hex.proofs.HexLemmas.{length-encode_with}
 use Rattle.secret_forms.specs.Base64.{secret_within, trimmed, front_of, rest_of, back_of, byte_behind, values_ahead, values_behind, core_of, with_ahead, with_behind, all_ahead, all_behind, shift_patterns, alphabet_patterns, base64_patterns}
+use Rattle.secret_forms.specs.Escape.{escape_char, escaped, url_patterns}
 use Rattle.secret_forms.specs.Forms.{form_patterns}
+use Rattle.secret_forms.specs.Joined.{alone_byte, joined_word, joined_words, joined_from, joinings, named_byte}
 use Rattle.secret_forms.specs.Json.{json_char, json_patterns, json_spellings, json_ways, numbered, numbered_by}
 use Rattle.secret_forms.specs.Lines.{ends_line, long_line}
 use Rattle.secret_forms.specs.Spelling.{ampersand, dollar_byte, double_quote, greater_than, json_byte, json_no_letter, less_than, octal_unless, shell_byte, shell_spellings, single_quote, spelled, spelled_by, spelled_byte, url_byte, url_spellings, xml_byte, xml_spellings}
@@ -33,6 +35,8 @@ use Rattle.secret_forms.specs.declared.bytewise.Spelling.{Spelling}
 use Rattle.secret_forms.specs.declared.bytewise.Spelling.TheVariants.{Url, Json as JsonString, Xml, Shell}
 use Rattle.secret_forms.specs.declared.form.Form.{Form}
 use Rattle.secret_forms.specs.declared.form.Form.TheVariants.{Base64, Hex, Url as UrlForm, Json as JsonForm, Xml as XmlForm, Shell as ShellForm, Lines}
+use Rattle.secret_forms.specs.declared.joined_form.Joining.{Joining}
+use Rattle.secret_forms.specs.declared.joined_form.Joining.TheVariants.{Bash, Coreutils, CoreutilsAscii}
 use Rattle.secret_forms.proofs.Base64Law.{length_within}
 
 -- there is a byte
@@ -197,6 +201,39 @@ maybe_numbered s false is some = none
 json_all : (s : List ℕ) → IsFilled s → All IsFilled (json_patterns s)
 json_all s some = both (spelled_by json_spellings s) _ (spelled_filled json_spellings s some) (maybe_numbered s (is_utf8 s) refl some)
 
+-- the same of `escape`
+escape_filled : (c : ℕ) → IsFilled (escape_char c)
+unfolding escape_char
+escape_filled c = search (either, filled, url_filled)
+
+maybe_escaped : (s : List ℕ) (b : Bool) → is_utf8 s ≡ b → IsFilled s → All IsFilled (cond b (escaped (chars s) ∷ []) [])
+maybe_escaped s true is some = one (escaped (chars s)) (each escape_char (chars s) escape_filled (chars_filled s (chars s) some (encodes-chars s (IsUtf8-from_is_utf8 s is))))
+maybe_escaped s false is some = none
+
+url_all : (s : List ℕ) → IsFilled s → All IsFilled (url_patterns s)
+url_all s some = both (spelled_by url_spellings s) _ (spelled_filled url_spellings s some) (maybe_escaped s (is_utf8 s) refl some)
+
+-- of what looks at the byte before each
+named_filled : (is_kept : Bool) (b : ℕ) → IsFilled (named_byte is_kept b)
+unfolding named_byte
+named_filled is_kept b = search (either, octal_filled, filled) depth 12
+
+alone_filled : (joining : Joining) (b : ℕ) → IsFilled (alone_byte joining b)
+unfolding alone_byte
+alone_filled Bash b = search (either, filled)
+alone_filled Coreutils b = named_filled _ b
+alone_filled CoreutilsAscii b = named_filled _ b
+
+joined_filled : (joining : Joining) (s : List ℕ) → IsFilled s → IsFilled (joined_word joining s)
+joined_filled joining [] has = absurd (omega (arith, has.some))
+joined_filled joining (b ∷ bs) has =
+    let here : 1 ≤ length (alone_byte joining b) = (alone_filled joining b).some in
+    record { some = rw (length-append (alone_byte joining b) (joined_from joining (Some b) bs)) (omega (arith, here)) }
+
+shell_all : (s : List ℕ) → IsFilled s → All IsFilled (spelled_by shell_spellings s ++ joined_words joinings s)
+shell_all s some = both (spelled_by shell_spellings s) (joined_words joinings s) (spelled_filled shell_spellings s some)
+    (All-map IsFilled (λ (u : Joining). joined_word u s) joinings (λ k d below. joined_filled _ s some))
+
 -- lines
 line_filled : (line : List ℕ) (b : Bool) → nat_lt (length line) 8 ≡ b → All IsFilled (cond b [] (line ∷ []))
 line_filled line true is = none
@@ -258,8 +295,8 @@ digits_filled t s long = record { some = rw (length-encode_with t s) (omega (ari
 pub All-filled : (s : List ℕ) (form : Form) → 4 ≤ length s → All IsFilled (form_patterns s form)
 All-filled s Base64 long = base64_filled s long
 All-filled s Hex long = both (encode_with lower_digits s ∷ []) (encode_with upper_digits s ∷ []) (one _ (digits_filled lower_digits s long)) (one _ (digits_filled upper_digits s long))
-All-filled s UrlForm long = spelled_filled url_spellings s (record { some = omega (arith, long) })
+All-filled s UrlForm long = url_all s (record { some = omega (arith, long) })
 All-filled s JsonForm long = json_all s (record { some = omega (arith, long) })
 All-filled s XmlForm long = spelled_filled xml_spellings s (record { some = omega (arith, long) })
-All-filled s ShellForm long = spelled_filled shell_spellings s (record { some = omega (arith, long) })
+All-filled s ShellForm long = shell_all s (record { some = omega (arith, long) })
 All-filled s Lines long = some_or_none (list_any ends_line s) (flat_map long_line (slice_split ends_line s)) (parts_filled (slice_split ends_line s))

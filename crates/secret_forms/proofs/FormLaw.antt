@@ -10,7 +10,9 @@ use Rattle.base64.specs.Engines.{standard, standard_no_pad, url_safe, url_safe_n
 use Rattle.base64.specs.Rfc4648.{encode, encode_symbols}
 use Rattle.hex.specs.Hex.{lower_digits, upper_digits}
 use Rattle.secret_forms.specs.Base64.{alphabet_patterns, base64_patterns}
+use Rattle.secret_forms.specs.Escape.{HidesUrl, escape_char, escape_patterns, escaped, url_patterns}
 use Rattle.secret_forms.specs.Forms.{HidesForm, HidesBase64, HidesJson, form_patterns}
+use Rattle.secret_forms.specs.Joined.{HidesJoined, HidesShell, joined_word, joined_words, joinings, shell_patterns}
 use Rattle.secret_forms.specs.Json.{HidesCharacters, json_char, json_patterns, json_spellings, json_ways, numbered, numbered_by}
 use Rattle.secret_forms.specs.Law.{HidesBits}
 use Rattle.secret_forms.specs.Lines.{HidesLine, line_patterns}
@@ -18,12 +20,14 @@ use Rattle.secret_forms.specs.Patterns.{added_all}
 use Rattle.secret_forms.specs.Spelling.{HidesSpelled, shell_spellings, spelled, spelled_by, spelled_byte, url_spellings, xml_spellings}
 use Rattle.secret_forms.specs.declared.bytewise.Json.{Json}
 use Rattle.secret_forms.specs.declared.bytewise.Spelling.{Spelling}
+use Rattle.secret_forms.specs.declared.joined_form.Joining.{Joining}
 use Rattle.secret_forms.specs.declared.form.Form.{Form}
 use Rattle.secret_forms.specs.declared.form.Form.TheVariants.{Base64, Hex, Url, Json as JsonForm, Xml, Shell, Lines}
 use Rattle.secret_forms.proofs.Alphabets.{HasShifts-alphabet}
 use Rattle.secret_forms.proofs.Base64Law.{HidesBits-base64, HasShifts}
 use Rattle.secret_forms.proofs.EachLaw.{All-held, Contains-flat_map, Contains-map, HidesEach-listed}
 use Rattle.secret_forms.proofs.HexLaw.{HidesBits-hex}
+use Rattle.secret_forms.proofs.JoinedLaw.{HidesJoined-listed}
 use Rattle.secret_forms.proofs.Members.{Contains-added_all_new}
 
 -- each of some patterns is among others
@@ -75,6 +79,28 @@ HidesJson-held patterns s has = (
   λ text. HidesCharacters-held patterns s json_ways (λ x held. has x (whole_characters s x (is_utf8-from_IsUtf8 s text) held)),
 )
 
+has_escape : (s : List ℕ) → is_utf8 s ≡ true → Contains (url_patterns s) (escaped (chars s))
+has_escape s valid =
+    Contains-append_right (spelled_by url_spellings s) (escape_patterns s) (escaped (chars s)) (rw valid (0, omega arith, refl))
+
+pub HidesUrl-held : (patterns : List (List ℕ)) (s : List ℕ) → Has patterns (url_patterns s) → HidesUrl patterns s
+HidesUrl-held patterns s has = (
+  HidesSpelled-held patterns s url_spellings (λ x held. has x (Contains-append_left (spelled_by url_spellings s) (escape_patterns s) x held)),
+  λ text. HidesEach-listed escape_char patterns (chars s) (has (escaped (chars s)) (has_escape s (is_utf8-from_IsUtf8 s text))),
+)
+
+-- of encoders that look at the byte before each
+HidesJoined-held : (patterns : List (List ℕ)) (s : List ℕ) (all : List Joining) → 1 ≤ length s → Has patterns (joined_words all s)
+    → All (HidesJoined patterns s) all
+HidesJoined-held patterns s all some has = All-held (HidesJoined patterns s) all
+    (λ one there. HidesJoined-listed one patterns s some (has (joined_word one s) (Contains-map (λ (u : Joining). joined_word u s) all one there)))
+
+HidesShell-held : (patterns : List (List ℕ)) (s : List ℕ) → 1 ≤ length s → Has patterns (shell_patterns s) → HidesShell patterns s
+HidesShell-held patterns s some has = (
+  HidesSpelled-held patterns s shell_spellings (λ x held. has x (Contains-append_left (spelled_by shell_spellings s) (joined_words joinings s) x held)),
+  HidesJoined-held patterns s joinings some (λ x held. has x (Contains-append_right (spelled_by shell_spellings s) (joined_words joinings s) x held)),
+)
+
 -- of lines
 pub HidesLine-held : (patterns lines : List (List ℕ)) → Has patterns lines → All (HidesLine patterns) lines
 HidesLine-held patterns lines has = All-held (HidesLine patterns) lines
@@ -88,10 +114,10 @@ pub HidesForm-held : (patterns : List (List ℕ)) (s : List ℕ) (form : Form) �
 HidesForm-held patterns s Base64 some has = HidesBase64-held patterns s some has
 HidesForm-held patterns s Hex some has =
     (HidesBits-hex lower_digits patterns s (has _ (0, omega arith, refl)), HidesBits-hex upper_digits patterns s (has _ (1, omega arith, refl)))
-HidesForm-held patterns s Url some has = HidesSpelled-held patterns s url_spellings has
+HidesForm-held patterns s Url some has = HidesUrl-held patterns s has
 HidesForm-held patterns s JsonForm some has = HidesJson-held patterns s has
 HidesForm-held patterns s Xml some has = HidesSpelled-held patterns s xml_spellings has
-HidesForm-held patterns s Shell some has = HidesSpelled-held patterns s shell_spellings has
+HidesForm-held patterns s Shell some has = HidesShell-held patterns s some has
 HidesForm-held patterns s Lines some has = HidesLine-held patterns (line_patterns s) has
 
 pub HidesForm-all : (patterns : List (List ℕ)) (s : List ℕ) (forms : List Form) → 1 ≤ length s

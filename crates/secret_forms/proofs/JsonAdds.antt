@@ -18,7 +18,7 @@ added-characters ps one two s text valid same first second =
     added_all_both ps one two words more first here
     ∙ ap (λ (b : Bool). added_all ps (words ++ cond b more [])) (sym (is_utf8-from_IsUtf8 s valid))
 
-none_of : (s : List ℕ) (b : Bool) → is_utf8 s ≡ b → (IsUtf8 s → ⊥) → is_utf8 s ≡ false
+pub none_of : (s : List ℕ) (b : Bool) → is_utf8 s ≡ b → (IsUtf8 s → ⊥) → is_utf8 s ≡ false
 none_of s true is not = absurd (not (IsUtf8-from_is_utf8 s is))
 none_of s false is not = is
 

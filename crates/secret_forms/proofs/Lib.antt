@@ -5,7 +5,9 @@ pub mod HexLaw
 pub mod Sextets
 pub mod Base64Law
 pub mod Alphabets
+pub mod JoinedLaw
 pub mod FormLaw
+pub mod EscapeAdds
 pub mod JsonAdds
 pub mod Filled
 pub mod NestedLaw

@@ -4,12 +4,14 @@ use Rattle.base64.specs.Engines.{standard, standard_no_pad, url_safe, url_safe_n
 use Rattle.base64.specs.GeneralPurpose.{encode_of}
 use Rattle.hex.specs.Hex.{encode_lower, encode_upper}
 use Rattle.secret_forms.specs.Base64.{base64_patterns}
+use Rattle.secret_forms.specs.Escape.{HidesUrl, url_patterns}
 use Rattle.secret_forms.specs.Hex.{hex_patterns}
+use Rattle.secret_forms.specs.Joined.{HidesShell, shell_patterns}
 use Rattle.secret_forms.specs.Json.{HidesCharacters, json_patterns, json_spellings, json_ways}
 use Rattle.secret_forms.specs.Law.{HidesBits}
 use Rattle.secret_forms.specs.Lines.{HidesLine, line_patterns}
 use Rattle.secret_forms.specs.Patterns.{added_all}
-use Rattle.secret_forms.specs.Spelling.{HidesSpelled, shell_spellings, spelled_by, url_spellings, xml_spellings}
+use Rattle.secret_forms.specs.Spelling.{HidesSpelled, spelled_by, xml_spellings}
 use Rattle.secret_forms.specs.declared.form.Form.{Form}
 use Rattle.secret_forms.specs.declared.form.Form.TheVariants.{Base64, Hex, Url, Json, Xml, Shell, Lines}
 
@@ -35,10 +37,10 @@ form_of_name name =
 abbrev pub form_patterns : List ℕ → Form → List (List ℕ)
 form_patterns secret Base64 = base64_patterns secret
 form_patterns secret Hex = hex_patterns secret
-form_patterns secret Url = spelled_by url_spellings secret
+form_patterns secret Url = url_patterns secret
 form_patterns secret Json = json_patterns secret
 form_patterns secret Xml = spelled_by xml_spellings secret
-form_patterns secret Shell = spelled_by shell_spellings secret
+form_patterns secret Shell = shell_patterns secret
 form_patterns secret Lines = line_patterns secret
 
 -- the patterns of a secret by each of some forms
@@ -68,10 +70,10 @@ HidesJson patterns secret =
 abbrev pub HidesForm : List (List ℕ) → List ℕ → Form → Type 0
 HidesForm patterns secret Base64 = HidesBase64 patterns secret
 HidesForm patterns secret Hex = HidesBits 4 encode_lower patterns secret × HidesBits 4 encode_upper patterns secret
-HidesForm patterns secret Url = All (HidesSpelled patterns secret) url_spellings
+HidesForm patterns secret Url = HidesUrl patterns secret
 HidesForm patterns secret Json = HidesJson patterns secret
 HidesForm patterns secret Xml = All (HidesSpelled patterns secret) xml_spellings
-HidesForm patterns secret Shell = All (HidesSpelled patterns secret) shell_spellings
+HidesForm patterns secret Shell = HidesShell patterns secret
 HidesForm patterns secret Lines = All (HidesLine patterns) (line_patterns secret)
 
 -- what an inner form makes of a secret is hidden as a secret of the outer form is

@@ -6,7 +6,7 @@ use Rattle.secret_forms.specs.Spelling.{json_byte, json_unit, spelled_by}
 use Rattle.secret_forms.specs.declared.bytewise.Digits.{Digits}
 use Rattle.secret_forms.specs.declared.bytewise.Digits.TheVariants.{Upper, Lower}
 use Rattle.secret_forms.specs.declared.bytewise.Marks.{Marks}
-use Rattle.secret_forms.specs.declared.bytewise.Marks.TheVariants.{Kept, Slash, Markup, SlashAndMarkup, Gson, Dotnet}
+use Rattle.secret_forms.specs.declared.bytewise.Marks.TheVariants.{Kept, Slash, Markup, SlashAndMarkup, Gson, Dotnet, Html, SlashAndHtml}
 use Rattle.secret_forms.specs.declared.bytewise.Json.{Json}
 use Rattle.secret_forms.specs.declared.bytewise.Spelling.{Spelling}
 use Rattle.secret_forms.specs.declared.bytewise.Spelling.TheVariants.{Json as JsonString}
@@ -43,7 +43,7 @@ ways_of marks = record { marks = marks; digits = Lower } ∷ record { marks = ma
 
 -- the encoders of JSON
 abbrev pub json_ways : List Json
-json_ways = flat_map ways_of (Kept ∷ Slash ∷ Markup ∷ SlashAndMarkup ∷ Gson ∷ Dotnet ∷ [])
+json_ways = flat_map ways_of (Kept ∷ Slash ∷ Markup ∷ SlashAndMarkup ∷ Gson ∷ Dotnet ∷ Html ∷ SlashAndHtml ∷ [])
 
 -- the same encoders, where characters beyond ASCII stand as they are
 abbrev pub json_spellings : List Spelling

@@ -1,6 +1,8 @@
 pub mod Base64
+pub mod Escape
 pub mod Forms
 pub mod Hex
+pub mod Joined
 pub mod Json
 pub mod Law
 pub mod Lines

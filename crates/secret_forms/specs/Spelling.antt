@@ -4,7 +4,7 @@ use Rattle.std.specs.Char.{is_ascii_alphanumeric}
 use Rattle.std.specs.List.{flat_map, list_any}
 use Rattle.secret_forms.specs.Law.{HidesEach}
 use Rattle.secret_forms.specs.declared.bytewise.Kept.{Kept}
-use Rattle.secret_forms.specs.declared.bytewise.Kept.TheVariants.{Nothing, Unreserved, Slash, Component, Uri, Form, Fewest, Dotnet, Query, Path, User, GoUser, GoSegment, Escape, PlainPath, PlainQuery, JavaQuery, JavaUser, Fragment}
+use Rattle.secret_forms.specs.declared.bytewise.Kept.TheVariants.{Nothing, Unreserved, Slash, Component, Uri, Form, Fewest, Dotnet, Query, Path, User, GoUser, GoSegment, GoPath, Escape, PlainPath, PlainQuery, JavaQuery, JavaUser, Fragment}
 use Rattle.secret_forms.specs.declared.bytewise.Beyond.{Beyond}
 use Rattle.secret_forms.specs.declared.bytewise.Beyond.TheVariants.{Encoded as EncodedBeyond, Kept as KeptBeyond}
 use Rattle.secret_forms.specs.declared.bytewise.Space.{Space}
@@ -12,7 +12,7 @@ use Rattle.secret_forms.specs.declared.bytewise.Space.TheVariants.{Encoded, Plus
 use Rattle.secret_forms.specs.declared.bytewise.Digits.{Digits}
 use Rattle.secret_forms.specs.declared.bytewise.Digits.TheVariants.{Upper, Lower}
 use Rattle.secret_forms.specs.declared.bytewise.Marks.{Marks}
-use Rattle.secret_forms.specs.declared.bytewise.Marks.TheVariants.{Kept as KeptMarks, Slash as SlashMark, Markup, SlashAndMarkup, Gson, Dotnet as DotnetMarks}
+use Rattle.secret_forms.specs.declared.bytewise.Marks.TheVariants.{Kept as KeptMarks, Slash as SlashMark, Markup, SlashAndMarkup, Gson, Dotnet as DotnetMarks, Html, SlashAndHtml}
 use Rattle.secret_forms.specs.declared.bytewise.Json.{Json}
 use Rattle.secret_forms.specs.declared.bytewise.Quotes.{Quotes}
 use Rattle.secret_forms.specs.declared.bytewise.Quotes.TheVariants.{Kept as KeptQuotes, Mixed, Named, DoubleAlone, Canonical, Padded, Decimal, Hexadecimal, DecimalMarks, HexadecimalMarks}
@@ -36,6 +36,7 @@ kept_marks Path = codes "-._~!'()*;,/:@&=+$%[\\]^|"
 kept_marks User = codes "-._~!'()*,&+$%"
 kept_marks GoUser = codes "-._~$&+,;="
 kept_marks GoSegment = codes "-._~$&+:=@"
+kept_marks GoPath = codes "-._~$&+,/:;=@"
 kept_marks Escape = codes "-._*@+/"
 kept_marks (PlainPath beyond) = codes "-._~!'()*;,/:@&=+$"
 kept_marks (PlainQuery beyond) = codes "-._~!'()*;,/?:@&=+$"
@@ -96,6 +97,7 @@ json_unit digits unit =
 abbrev pub escapes_slash : Marks → Bool
 escapes_slash SlashMark = true
 escapes_slash SlashAndMarkup = true
+escapes_slash SlashAndHtml = true
 escapes_slash _ = false
 
 -- the bytes beside control characters that JSON writes by their numbers
@@ -106,6 +108,8 @@ numbered_marks Markup = codes "<>&"
 numbered_marks SlashAndMarkup = codes "<>&"
 numbered_marks Gson = codes "<>&='"
 numbered_marks DotnetMarks = codes "<>&+'\"`" ++ (127 ∷ [])
+numbered_marks Html = codes "<>&'\""
+numbered_marks SlashAndHtml = codes "<>&'\""
 
 -- whether JSON writes a byte by its number
 abbrev pub is_by_number : Marks → ℕ → Bool
@@ -308,7 +312,7 @@ url_beyond kept = url_without_plus (kept EncodedBeyond) ++ url_without_plus (kep
 abbrev pub url_spellings : List Spelling
 url_spellings =
     flat_map url_of (Unreserved ∷ Slash ∷ Component ∷ Uri ∷ Form ∷ Fewest ∷ Dotnet ∷ Query ∷ Path ∷ [])
-    ++ (flat_map url_without_plus (User ∷ GoUser ∷ GoSegment ∷ Escape ∷ Nothing ∷ [])
+    ++ (flat_map url_without_plus (User ∷ GoUser ∷ GoSegment ∷ GoPath ∷ Escape ∷ Nothing ∷ [])
     ++ (url_beyond PlainPath ++ (url_beyond PlainQuery ++ (url_beyond JavaQuery ++ (url_beyond JavaUser ++ url_beyond Fragment)))))
 
 -- the encoders of XML and HTML

@@ -36,6 +36,8 @@ pub enum Kept {
     GoUser,
     /// What Go leaves in a segment of a path: the unreserved ones and `$&+:=@`.
     GoSegment,
+    /// What Go leaves in a path: the unreserved ones and `$&+,/:;=@`.
+    GoPath,
     /// What `escape` of JavaScript leaves: letters, digits and `@*_+-./`.
     Escape,
     /// What RFC 3986 leaves in a path, as Java does: the unreserved ones and `!'()*;,/:@&=+$`.
@@ -146,6 +148,10 @@ pub enum Marks {
     Gson,
     /// What .NET escapes: `<`, `>`, `&`, `+`, both quotes, backquotes and the byte 127, by their numbers.
     Dotnet,
+    /// What Newtonsoft's Json.NET escapes for HTML: `<`, `>`, `&` and both quotes, by their numbers.
+    Html,
+    /// These and `/`, as PHP does.
+    SlashAndHtml,
 }
 
 /// How an encoder of JSON writes what it escapes.
@@ -188,6 +194,7 @@ fn kept_marks(kept: Kept) -> &'static [u8]
         Kept::User => b"-._~!'()*,&+$%",
         Kept::GoUser => b"-._~$&+,;=",
         Kept::GoSegment => b"-._~$&+:=@",
+        Kept::GoPath => b"-._~$&+,/:;=@",
         Kept::Escape => b"-._*@+/",
         Kept::PlainPath(_) => b"-._~!'()*;,/:@&=+$",
         Kept::PlainQuery(_) => b"-._~!'()*;,/?:@&=+$",
@@ -231,7 +238,7 @@ fn is_unencoded(kept: Kept, byte: u8) -> bool
 }
 
 /// A hexadecimal digit.
-fn digit(digits: Digits, value: u8) -> u8
+pub(crate) fn digit(digits: Digits, value: u8) -> u8
     requires { value < 16 }
     ensures { result ≡ spec.digit digits value }
 {
@@ -255,7 +262,7 @@ fn is_plus(space: Space, byte: u8) -> bool
 }
 
 /// Writes a byte of a URL.
-fn push_url(
+pub(crate) fn push_url(
     out: &mut Vec<u8>,
     kept: Kept,
     space: Space,
@@ -289,7 +296,7 @@ fn escapes_slash(marks: Marks) -> bool
     ensures { result ≡ spec.escapes_slash marks }
 {
     match marks {
-        Marks::Slash | Marks::SlashAndMarkup => true,
+        Marks::Slash | Marks::SlashAndMarkup | Marks::SlashAndHtml => true,
         _ => false,
     }
 }
@@ -303,6 +310,7 @@ fn numbered_marks(marks: Marks) -> &'static [u8]
         Marks::Markup | Marks::SlashAndMarkup => b"<>&",
         Marks::Gson => b"<>&='",
         Marks::Dotnet => b"<>&+'\"`\x7f",
+        Marks::Html | Marks::SlashAndHtml => b"<>&'\"",
     }
 }
 
@@ -433,7 +441,7 @@ fn is_plain(byte: u8) -> bool
 }
 
 /// Writes a byte with a backslash before it, unless it stands as it is.
-fn push_escaped(out: &mut Vec<u8>, is_kept: bool, byte: u8) -> Result<(), AllocError>
+pub(crate) fn push_escaped(out: &mut Vec<u8>, is_kept: bool, byte: u8) -> Result<(), AllocError>
     ensures escaped { Writes result out.old out.new (spec.escaped_unless is_kept byte) }
 {
     if is_kept {
@@ -443,7 +451,7 @@ fn push_escaped(out: &mut Vec<u8>, is_kept: bool, byte: u8) -> Result<(), AllocE
 }
 
 /// Whether bash puts a backslash before a byte, by which it quotes a word.
-fn is_bash_mark(byte: u8) -> bool
+pub(crate) fn is_bash_mark(byte: u8) -> bool
     ensures { result ≡ spec.is_bash_mark byte }
 {
     b" !\"$&'()*,;<>?[\\]^`{|}".contains(&byte)
@@ -485,21 +493,21 @@ fn is_regex_mark(byte: u8) -> bool
 }
 
 /// Whether a byte is a control character of ASCII.
-fn is_control(byte: u8) -> bool
+pub(crate) fn is_control(byte: u8) -> bool
     ensures { result ≡ spec.is_control byte }
 {
     byte < 32 || byte == 127
 }
 
 /// Whether a byte is one of ASCII, and no control character.
-fn is_printable(byte: u8) -> bool
+pub(crate) fn is_printable(byte: u8) -> bool
     ensures { result ≡ spec.is_printable byte }
 {
     !is_control(byte) && byte < 128
 }
 
 /// Writes a byte by its number, a backslash and three octal digits, unless it stands as it is.
-fn push_octal(out: &mut Vec<u8>, is_kept: bool, byte: u8) -> Result<(), AllocError>
+pub(crate) fn push_octal(out: &mut Vec<u8>, is_kept: bool, byte: u8) -> Result<(), AllocError>
     ensures octal { Writes result out.old out.new (spec.octal_unless is_kept byte) }
 {
     if is_kept {

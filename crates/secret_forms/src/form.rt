@@ -8,10 +8,12 @@ ghost use Rattle.secret_forms.specs.declared.error.FormError.TheVariants.{TooSho
 use crate::base64_form::add_base64;
 use crate::bytewise::add_spelled;
 use crate::error::{FormError, SHORTEST};
+use crate::escape_form::add_url;
 use crate::hex_form::add_hex;
+use crate::joined_form::add_shell;
 use crate::json_form::add_json;
 use crate::lines_form::add_lines;
-use crate::spelled_form::{shell_encoders, url_encoders, xml_encoders};
+use crate::spelled_form::xml_encoders;
 use std::alloc::{AllocError, Global};
 
 /// How a secret is encoded.
@@ -79,10 +81,10 @@ fn add_form(
     match form {
         Form::Base64 => add_base64(alloc, secret, patterns),
         Form::Hex => add_hex(alloc, secret, patterns),
-        Form::Url => add_spelled(alloc, secret, &url_encoders(), patterns),
+        Form::Url => add_url(alloc, secret, patterns),
         Form::Json => add_json(alloc, secret, patterns),
         Form::Xml => add_spelled(alloc, secret, &xml_encoders(), patterns),
-        Form::Shell => add_spelled(alloc, secret, &shell_encoders(), patterns),
+        Form::Shell => add_shell(alloc, secret, patterns),
         Form::Lines => add_lines(alloc, secret, patterns),
     }
 }

@@ -72,7 +72,7 @@ fn add_numbered(alloc: Global, text: &str, patterns: &mut Vec<Vec<u8>>) -> Resul
 }
 
 /// The encoders of JSON: with each choice of what is escaped beside what has to be, and with digits in both cases.
-fn encoders() -> [Json; 12]
+fn encoders() -> [Json; 16]
     ensures { result ≡ json_ways }
 {
     let (upper, lower) = (Digits::Upper, Digits::Lower);
@@ -125,14 +125,30 @@ fn encoders() -> [Json; 12]
             marks: Marks::Dotnet,
             digits: upper,
         },
+        Json {
+            marks: Marks::Html,
+            digits: lower,
+        },
+        Json {
+            marks: Marks::Html,
+            digits: upper,
+        },
+        Json {
+            marks: Marks::SlashAndHtml,
+            digits: lower,
+        },
+        Json {
+            marks: Marks::SlashAndHtml,
+            digits: upper,
+        },
     ]
 }
 
 /// The same encoders, where characters beyond ASCII stand as they are.
-fn spellings() -> [Spelling; 12]
+fn spellings() -> [Spelling; 16]
     ensures { result ≡ json_spellings }
 {
-    let [a, b, c, d, e, f, g, h, i, j, k, l] = encoders();
+    let [a, b, c, d, e, f, g, h, i, j, k, l, m, n, o, p] = encoders();
     [
         Spelling::Json(a),
         Spelling::Json(b),
@@ -146,6 +162,10 @@ fn spellings() -> [Spelling; 12]
         Spelling::Json(j),
         Spelling::Json(k),
         Spelling::Json(l),
+        Spelling::Json(m),
+        Spelling::Json(n),
+        Spelling::Json(o),
+        Spelling::Json(p),
     ]
 }
 
@@ -164,8 +184,8 @@ pub(crate) fn add_json(
     }
 }
 
-/// A secret within a JSON string, by the shortest escapes, with `/`, `<`, `>` and `&` escaped too, or with what Gson or .NET escapes,
-/// in the encoding of the text or in ASCII alone.
+/// A secret within a JSON string, by the shortest escapes, with `/`, `<`, `>` and `&` escaped too, with what Gson or .NET escapes,
+/// or with quotes escaped too, as PHP and Json.NET do for HTML, in the encoding of the text or in ASCII alone.
 ///
 /// The last two clauses say that no character of the secret is shown outside these patterns. In ASCII alone that holds of a secret of
 /// whole characters.

@@ -33,9 +33,9 @@ pub fn spelled_forms(
     Ok(patterns)
 }
 
-/// The encoders of URLs: nine that leave some bytes, each with a space as any other byte and as `+`, four that write no `+` for a space,
+/// The encoders of URLs: nine that leave some bytes, each with a space as any other byte and as `+`, five that write no `+` for a space,
 /// one that encodes each byte, and five more without `+`, with bytes above 127 encoded and as they are; with digits in both cases.
-pub(crate) fn url_encoders() -> [Spelling; 66]
+pub(crate) fn url_encoders() -> [Spelling; 68]
     ensures { result ≡ url_spellings }
 {
     let (encoded, plus) = (Space::Encoded, Space::Plus);
@@ -83,6 +83,8 @@ pub(crate) fn url_encoders() -> [Spelling; 66]
         Spelling::Url(Kept::GoUser, encoded, lower),
         Spelling::Url(Kept::GoSegment, encoded, upper),
         Spelling::Url(Kept::GoSegment, encoded, lower),
+        Spelling::Url(Kept::GoPath, encoded, upper),
+        Spelling::Url(Kept::GoPath, encoded, lower),
         Spelling::Url(Kept::Escape, encoded, upper),
         Spelling::Url(Kept::Escape, encoded, lower),
         Spelling::Url(Kept::Nothing, encoded, upper),
@@ -108,16 +110,6 @@ pub(crate) fn url_encoders() -> [Spelling; 66]
         Spelling::Url(Kept::Fragment(Beyond::Kept), encoded, upper),
         Spelling::Url(Kept::Fragment(Beyond::Kept), encoded, lower),
     ]
-}
-
-/// A secret as a URL shows it, percent-encoded, and as a form that is sent does, where `+` stands for a space.
-pub fn url_forms(alloc: Global, secret: &[u8]) -> Result<Vec<Vec<u8>>, FormError>
-    ensures short { length secret.now < 4 → result ≡ Err TooShort }
-    ensures long { IfErr result (λ e. e ≡ TooShort → length secret.now < 4) }
-    ensures value { ListsPatterns result (spelled_by url_spellings secret.now) }
-    ensures law { IfOk result (λ v. All (HidesSpelled (pattern_bytes v.items) secret.now) url_spellings) }
-{
-    spelled_forms(alloc, secret, &url_encoders())
 }
 
 /// The encoders of XML and HTML: with both quotes or one as they are, as canonical XML has it, with quotes by named, decimal and
@@ -168,15 +160,4 @@ pub(crate) fn shell_encoders() -> [Spelling; 12]
         Spelling::Shell(Quoting::DollarAscii),
         Spelling::Shell(Quoting::Git),
     ]
-}
-
-/// A secret as it is quoted for a shell: within single quotes, as git does too, within double quotes, or `$'` and `'`, or by backslashes,
-/// also by those that bash writes when it traces `[[ ]]`.
-pub fn shell_forms(alloc: Global, secret: &[u8]) -> Result<Vec<Vec<u8>>, FormError>
-    ensures short { length secret.now < 4 → result ≡ Err TooShort }
-    ensures long { IfErr result (λ e. e ≡ TooShort → length secret.now < 4) }
-    ensures value { ListsPatterns result (spelled_by shell_spellings secret.now) }
-    ensures law { IfOk result (λ v. All (HidesSpelled (pattern_bytes v.items) secret.now) shell_spellings) }
-{
-    spelled_forms(alloc, secret, &shell_encoders())
 }
