@@ -1,17 +1,17 @@
 //! Searching a text, also where the lines around selected ones are written.
 
-ghost use Rattle.std.specs.Prelude.{◌≡◌, ◌≤◌, ◌<◌, [], IfOk, IsTrue, OnOk, false, length};
+ghost use Rattle.std.specs.Prelude.{◌≡◌, ◌+◌, ◌%◌, ◌^◌, ◌≤◌, ◌<◌, [], IfOk, IsTrue, OnOk, false, length};
+ghost use Rattle.memchr.specs.Find.{is_byte, places};
 ghost use Rattle.aho_core.specs.Patterns.{Patterns};
 ghost use Rattle.chromesquid.specs.Searcher.{IsBuiltFromSome};
 ghost use Rattle.acgrep.specs.Contexts.{IsChosenBy, WalksUpTo, walk_of};
 ghost use Rattle.acgrep.specs.Filled.{held_lines};
 ghost use Rattle.acgrep.specs.Likely.{IsFrontPassed};
-ghost use Rattle.acgrep.specs.Lines.{EndsLine, lines};
 ghost use Rattle.acgrep.specs.Printed.{Puts};
 ghost use Rattle.acgrep.specs.Searched.{BeginsTextBy, SearchesTextBy, ShowsEachBy, StepsBy, between_by};
 ghost use Rattle.acgrep.specs.Searchers.{ForQuery, Seeks};
 ghost use Rattle.acgrep.specs.Selected.{IsNoneSelected};
-ghost use Rattle.acgrep.specs.Written.{IsMatched, after_lines};
+ghost use Rattle.acgrep.specs.Written.{IsMatched};
 
 use crate::failure::Stop;
 use crate::held::Held;
@@ -133,7 +133,8 @@ fn likely_start(query: &Query<'_>, text: &[u8]) -> Result<usize, Stop>
 
 /// The place behind whole lines.
 fn behind_lines(place: Place, text: &[u8], ending: u8) -> Place
-    ensures behind { EndsLine ending text.now → result ≡ after_lines place (lines ending text.now) }
+    ensures lines { result.lines ≡ (place.lines + length (places (is_byte ending) text.now)) % 2 ^ 64 }
+    ensures bytes { result.bytes ≡ (place.bytes + length text.now) % 2 ^ 64 }
 {
     Place {
         lines: place

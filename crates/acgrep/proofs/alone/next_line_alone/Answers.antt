@@ -22,10 +22,10 @@ returns-clause-next c = λ p is plain.
     let long = length-take-le place text within in
     alone_around ending c.requires.apart p plain text c.in-Some.found best _
     (line_of_parts ending text rest place c.line_start-start.result c.line_end-rest.result within same low front.none front.ends back.within back.none back.ends)
-    (omega (arith, low, c.start-place.ensures.start, long)) (omega (arith, c.start-place.ensures.start)) (omega (arith, low, long, within, c.if-start.false))
+    (omega (arith, low, c.start-place.ensures.start, long)) (omega (arith, c.start-place.ensures.start)) (omega (arith, low, long, within, c.if-start-text.false))
 
-pub returns-then-start-clause-next : goal.returns-then-start-clause-next
-returns-then-start-clause-next c = λ p is plain.
+pub returns-then-start-text-clause-next : goal.returns-then-start-text-clause-next
+returns-then-start-text-clause-next c = λ p is plain.
     let text = c.args.text.now in
     let ending = c.args.ending in
     let place = c.start-place.result in
@@ -34,7 +34,7 @@ returns-then-start-clause-next c = λ p is plain.
     let front = c.line_start-start.ensures in
     let low : c.line_start-start.result ≤ length (take place text) = front.within in
     let long = length-take-le place text within in
-    let whole : c.line_start-start.result ≡ length text = c.if-start.true in
+    let whole : c.line_start-start.result ≡ length text = c.if-start-text.true in
     let ends : EndsLine ending text = λ some.
     newline_front ending text place (length text - 1) (omega (arith, low, long, whole, some)) (rw whole at front.ends (omega (arith, whole, some))) in
     none_before_end ending c.requires.apart p plain text c.in-Some.found best (omega (arith, low, long, whole, c.start-place.ensures.start)) ends

@@ -12,7 +12,7 @@ returns g c =
     let named : codes "{\"bytes\":\"" ++ (encode_of shown.engine.now shown.bytes.now ++ codes "\"}") ≡ json_name c.args.name.now =
     rw (sym c.is_text.ensures.text ∙ c.if-is_text.false) (ap (λ (text : List ℕ). codes "{\"bytes\":\"" ++ (text ++ codes "\"}")) c.new.ensures) in
     record {
-      written = subst (Appends (held c.args.output.now) (held c.write_all-4.new.self)) named
-          (Appends-trans _ (held c.write_all-3.new.self) _ _ _ c.in_ok-write_all-3.ensures.bytes
-          (Appends-trans _ (held c.write.new.self) _ _ _ c.in_ok-write.ensures.bytes c.in_ok-write_all-4.ensures.bytes));
+      written = subst (Appends (held c.args.output.now) (held c.write_all-3.new.self)) named
+          (Appends-trans _ (held c.write_all-2.new.self) _ _ _ c.in_ok-write_all-2.ensures.bytes
+          (Appends-trans _ (held c.write.new.self) _ _ _ c.in_ok-write.ensures.bytes c.in_ok-write_all-3.ensures.bytes));
     }
