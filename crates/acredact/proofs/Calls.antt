@@ -1,17 +1,16 @@
 -- What comes of a call, by what comes of its files; what may be told before these, and why it may end there.
-use Rattle.acredact.proofs.Common.{All, All-append, All-cons, All-head, All-nil, All-tail, Errors, Failure, Folders, FromWrite, IsMember, Memory, Other, PositionLimit, Read, Readers, SinkGhosts, StreamError, Streams, Strict, Tells, TellsBytes, TellsSome, Write, WriteZero, Writers, concat, failure_of_stream}
+use Rattle.acredact.proofs.Common.{All, All-append, All-cons, All-head, All-nil, All-tail, Errors, Failure, Folders, FromWrite, IsMember, Memory, Other, Readers, SinkGhosts, StreamError, Streams, Strict, Tells, TellsBytes, TellsSome, Write, WriteZero, Writers, concat, failure_of_stream}
 use Rattle.std.proofs.Common.{List, Option, [], false, inl, inr, refl, subst, sym, true, ℕ, ◌∙◌, ◌∷◌, ◌≡◌}
 use Rattle.std.specs.Prelude.{Bool, Err, None, Some, is_some, ◌⊎◌}
 use Rattle.std.proofs.lemmas.List.Elements.{All-weaker}
-use Rattle.aho_core.specs.declared.error.stream.StreamError.TheVariants.{Match}
 use Rattle.tool_parts.proofs.Lines.{some-one, some-tells, tells-none}
-use Rattle.acredact.specs.Arguments.{Given, counts_asked, has}
-use Rattle.acredact.specs.Calls.{Call, CallOutcome, IsCountsFailure, IsLineOf, IsRunFailure, IsUnreadLine, IsWarningLine, IsWordLine, LoadsCall, MayFail, OutputFails, WarnsLoaded, call_of, reading_by, redactor_by_given, work_by}
+use Rattle.acredact.specs.Arguments.{Given, has}
+use Rattle.acredact.specs.Calls.{Call, CallOutcome, CannotPrepare, IsRunFailure, IsUnreadLine, IsWarningLine, IsWordLine, MayFail, OutputFails, WarnsLoaded, call_of, reading_by, work_by}
 use Rattle.acredact.specs.Builds.{patterns_by_given}
 use Rattle.acredact.specs.Files.{AreCut, FilesOutcome, IsDone, Task, Work, are_none, redactor_of, unread_line, work_of}
 use Rattle.acredact.specs.Messages.{output_line, unclean_line}
 use Rattle.acredact.specs.Loading.{AreLoaded, Loaded}
-use Rattle.acredact.specs.Ready.{CannotPrepare, IsJobFor}
+use Rattle.acredact.specs.Ready.{IsJobFor}
 use Rattle.acredact.specs.Tables.{Secret, patterns_in}
 use Rattle.acredact.specs.declared.files.Job.{Job}
 use Rattle.secret_rules.proofs.Owners.{member-get_or}
@@ -29,20 +28,17 @@ none_are [] none = refl
 none_are (line ∷ lines) none = absurd (cc)
 
 -- the lines that are told of files tell each why one of them was not read to its end
-module _ (task : Task) where
-  unread_one : (name : List ℕ) (names lines : List (List ℕ)) (left left' held held' : Option (List ℕ)) → IsDone task name lines left left' held held' → All (IsUnreadLine (name ∷ names)) lines
-  unread_one name names lines left left' held held' (inl is) = subst (All (IsUnreadLine (name ∷ names))) (sym is.0) (All-nil (IsUnreadLine (name ∷ names)))
-  unread_one name names lines left left' held held' (inr (inl is)) =
-      subst (All (IsUnreadLine (name ∷ names))) (sym is.1) (All-cons (IsUnreadLine (name ∷ names)) (unread_line name is.0) [] (name, inl refl, inl (is.0, refl)) (All-nil (IsUnreadLine (name ∷ names))))
-  unread_one name names lines left left' held held' (inr (inr is)) =
-      subst (All (IsUnreadLine (name ∷ names))) (sym is.0) (All-cons (IsUnreadLine (name ∷ names)) (output_line name) [] (name, inl refl, inr refl) (All-nil (IsUnreadLine (name ∷ names))))
-
-  pub unread_of : (names lines : List (List ℕ)) (left left' held held' : Option (List ℕ)) → AreCut task names lines left left' held held' → All (IsUnreadLine names) lines
-  unread_of [] lines left left' held held' cut = subst (All (IsUnreadLine [])) (sym cut.0) (All-nil (IsUnreadLine []))
-  unread_of (name ∷ names) lines left left' held held' (inl cut) = subst (All (IsUnreadLine (name ∷ names))) (sym cut.0) (All-nil (IsUnreadLine (name ∷ names)))
-  unread_of (name ∷ names) lines left left' held held' (inr (first, rest, are, between, meanwhile, is, others)) =
-      subst (All (IsUnreadLine (name ∷ names))) (sym are) (All-append (IsUnreadLine (name ∷ names)) first rest (unread_one name names first left between held meanwhile is)
-      (All-weaker (IsUnreadLine names) (IsUnreadLine (name ∷ names)) (λ line is. (is.0, inr is.1, is.2)) rest (unread_of names rest between left' meanwhile held' others)))
+pub unread_of : (task : Task) (names lines : List (List ℕ)) (left left' held held' : Option (List ℕ)) → AreCut task names lines left left' held held' → All (IsUnreadLine names) lines
+unread_of task [] lines left left' held held' cut = rw cut.0 (All-nil (IsUnreadLine []))
+unread_of task (name ∷ names) lines left left' held held' (inl cut) = rw cut.0 (All-nil (IsUnreadLine (name ∷ names)))
+unread_of task (name ∷ names) lines left left' held held' (inr (first, rest, are, between, meanwhile, is, others)) =
+    let later = All-weaker (IsUnreadLine names) (IsUnreadLine (name ∷ names)) (λ line is. (is.0, inr is.1, is.2)) rest (unread_of task names rest between left' meanwhile held' others) in
+    rw are (All-append (IsUnreadLine (name ∷ names)) first rest (one is) later)
+  where
+    one : IsDone task name first left between held meanwhile → All (IsUnreadLine (name ∷ names)) first
+    one (inl is) = rw is.0 (All-nil (IsUnreadLine (name ∷ names)))
+    one (inr (inl is)) = rw is.1 (All-cons (IsUnreadLine (name ∷ names)) (unread_line name is.0) [] (name, inl refl, inl (is.0, refl)) (All-nil (IsUnreadLine (name ∷ names))))
+    one (inr (inr is)) = rw is.0 (All-cons (IsUnreadLine (name ∷ names)) (output_line name) [] (name, inl refl, inr refl) (All-nil (IsUnreadLine (name ∷ names))))
 
 -- nothing was told, where nothing has changed
 pub tells_same : {E : Type 0} (K : SinkGhosts E) (IsLine : List ℕ → Type 0) (old new : Errors E) → new ≡ old → Tells K IsLine old new
@@ -64,27 +60,19 @@ pub some_told : {E : Type 0} (K : SinkGhosts E) (IsLine : List ℕ → Type 0) (
 some_told K IsLine old new [] are told none = absurd (cc)
 some_told K IsLine old new (line ∷ lines) are told none = record { first = line; is_line = All-head IsLine line lines are; more = lines; are_lines = All-tail IsLine line lines are; written = told }
 
--- what is so of patterns and a key that were loaded
-pub loads_so : {call : Call} {left : Option (List ℕ)} {Is : Loaded → Option (List ℕ) → Type 0} (load : Loaded) (between : Option (List ℕ)) → AreLoaded (reading_by call) call.given load left between → Is load between → LoadsCall call left Is
-loads_so load between loaded is = record { load = load; between = between; loaded = loaded; is = is }
-
 -- why files are not redacted
 pub run_failure : {R : Type 0} {Reads : Readers R} {W E : Type 0} (Writes : Writers W) (K : SinkGhosts E) (work : Work) (error : StreamError) (old new : Streams R W E Reads) → FilesOutcome Writes K work (Err error) old new
     → IsRunFailure (OutputFails old.output new.output) (Other (failure_of_stream error))
-run_failure Writes K work (Match cause) old new files = absurd files.fails.only
-run_failure Writes K work (Read fault) old new files = absurd files.fails.only
 run_failure Writes K work (Write fault) old new files = inr (inl refl, inl files.fails.write_failed)
 run_failure Writes K work WriteZero old new files = inr (inr refl, inr files.fails.took_nothing)
 run_failure Writes K work Memory old new files = inl refl
-run_failure Writes K work PositionLimit old new files = absurd files.fails.only
+run_failure Writes K work error old new files = absurd files.fails.only
 
 -- what comes of a call that ends before its files
 pub call_ended : {W E : Type 0} (Writes : Writers W) (K : SinkGhosts E) (call : Call) (left left' : Option (List ℕ)) (failure : Failure) (output : FromWrite W) (errors errors' : Errors E) → MayFail call (OutputFails output output) failure
     → Tells K (IsWordLine call) errors errors' → CallOutcome Writes K call left left' (Err failure) output output errors errors'
-call_ended Writes K call left left' failure output errors errors' fails words = record {
-  comes = record { whole = tt; begun = inl refl; told = tells_weaker K (IsWordLine call) (IsLineOf call (OutputFails output output)) errors errors' (λ line is. inl is) words; partly = tt; notes = tt; fails = fails };
-  numbers = inl words;
-}
+call_ended Writes K call left left' failure output errors errors' fails words =
+    record { comes = record { whole = tt; begun = inl refl; told = tells_weaker K _ _ errors errors' (λ line is. inl is) words; partly = tt; notes = tt; fails = fails }; numbers = inl words }
 
 -- nothing was told
 pub call_refused : {W E : Type 0} (Writes : Writers W) (K : SinkGhosts E) (call : Call) (left left' : Option (List ℕ)) (failure : Failure) (output : FromWrite W) (errors : Errors E) → MayFail call (OutputFails output output) failure
@@ -94,18 +82,12 @@ call_refused Writes K call left left' failure output errors fails =
 
 -- what may be told, and why
 pub may_fail : (call : Call) (fails : Type 0) (failure : Failure) → IsRunFailure fails failure → MayFail call fails failure
-may_fail call fails failure is = inr (inr (inr (inr (inr (inl is)))))
-
--- the counts are not told
-pub counts_fail : (call : Call) (fails : Type 0) (failure : Failure) → IsCountsFailure (counts_asked call.given) failure → MayFail call fails failure
-counts_fail call fails failure (asked, inl counts) = inr (inr (inl (counts, asked)))
-counts_fail call fails failure (asked, inr memory) = may_fail call fails failure (inl memory)
+may_fail call fails failure is = inr (inr (inr (inl is)))
 
 -- what holds of the work of a job holds of what a call asks for
 pub job_does : {F X : Type 0} (D : Folders F X) (folder : F) (given : List Given) (load : Loaded) (job : Job F) → IsJobFor folder given load job
     → (P : Work → Type 0) → P (work_of D job (redactor_of job (patterns_by_given given (patterns_in load.secrets)))) → P (work_by (call_of D folder given) load)
-job_does D folder given load job is P done =
-    rw (is.names, is.redactor, is.opens) at done
+job_does D folder given load job is P done = rw (is.names, is.redactor, is.opens) at done
 
 -- where they are to be refused, nothing is told and they are clean
 pub clean_pieces : {E : Type 0} (K : SinkGhosts E) (strict : Bool) (r : Redactor) (old new : Errors E) → strict ≡ true → TellsOfPieces K strict r old new → r.covers ≡ true → AreCleanBy (is_some r.key) r.patterns r.pieces
@@ -121,27 +103,20 @@ doubts_tell K IsLine false given secrets old new may doubts = record { told = al
 -- it may be told, where such a line may be
 module _ {E : Type 0} (K : SinkGhosts E) (call : Call) (IsLine : List ℕ → Type 0) (may : (line : List ℕ) → IsWarningLine call line → IsLine line)
     (load : Loaded) (left between : Option (List ℕ)) (loaded : AreLoaded (reading_by call) call.given load left between) where
-  doubts_may : (strict : Bool) → has Strict call.given ≡ strict → (old new : Errors E) → TellsDoubts K strict call.given load.secrets old new → Tells K IsLine old new
-  doubts_may strict is old new doubts = doubts_tell K IsLine strict call.given load.secrets old new (λ lax line member. may line (is ∙ lax, (load, left, between, loaded, inl member))) doubts
+  doubts_may : (old new : Errors E) → TellsDoubts K (has Strict call.given) call.given load.secrets old new → Tells K IsLine old new
+  doubts_may old new doubts = doubts_tell K IsLine (has Strict call.given) call.given load.secrets old new (λ lax line member. may line (lax, (load, left, between, loaded, inl member))) doubts
 
   pub unready_may : (old new : Errors E) → (new ≡ old) ⊎ TellsDoubts K (has Strict call.given) call.given load.secrets old new → Tells K IsLine old new
   unready_may old new (inl same) = tells_same K IsLine old new same
-  unready_may old new (inr doubts) = doubts_may (has Strict call.given) refl old new doubts
+  unready_may old new (inr doubts) = doubts_may old new doubts
 
-  -- and so may what is told of pieces
-  pieces_may : (old new : Errors E) → TellsOfPieces K (has Strict call.given) (redactor_by_given call.given load) old new → Tells K IsLine old new
-  pieces_may old new (None, judged, same) = tells_same K IsLine old new same
-  pieces_may old new (Some unclean, judged, (lax, told)) =
-      tells_line K IsLine old new (unclean_line unclean) (may (unclean_line unclean) (lax, (load, left, between, loaded, inr (unclean, judged.0, judged.1, refl)))) told
-
-  -- one after the other
+  -- and so may what is told of pieces behind it
   pub warnings_may : (old new : Errors E) → WarnsLoaded K call load old new → Tells K IsLine old new
-  warnings_may old new (mid, doubts, pieces) = tells_both K IsLine old mid new (doubts_may (has Strict call.given) refl old mid doubts) (pieces_may mid new pieces)
+  warnings_may old new (mid, doubts, (None, judged, same)) = rw same (doubts_may old mid doubts)
+  warnings_may old new (mid, doubts, (Some unclean, judged, (lax, told))) =
+      let line = may (unclean_line unclean) (lax, (load, left, between, loaded, inr (unclean, judged.0, judged.1, refl))) in
+      tells_both K IsLine old mid new (doubts_may old mid doubts) (tells_line K IsLine mid new (unclean_line unclean) line told)
 
--- why nothing is ready may end a call, and where it is a piece it is to be refused
-module _ (call : Call) (load : Loaded) (left between : Option (List ℕ)) (loaded : AreLoaded (reading_by call) call.given load left between) where
-  pub may_prepare : (fails : Type 0) (failure : Failure) → CannotPrepare call.given load failure → MayFail call fails failure
-  may_prepare fails failure (inl doubted) = inr (inr (inr (inr (inr (inr (load, left, between, loaded, doubted))))))
-  may_prepare fails failure (inr (inl strict)) = inr (inr (inr (inl (load, left, between, loaded, strict))))
-  may_prepare fails failure (inr (inr (inl refused))) = inr (inr (inr (inr (inl (load, left, between, loaded, refused)))))
-  may_prepare fails failure (inr (inr (inr memory))) = may_fail call fails failure (inl memory)
+-- why nothing is ready may end a call
+pub may_prepare : (call : Call) (load : Loaded) (left between : Option (List ℕ)) → AreLoaded (reading_by call) call.given load left between → (fails : Type 0) (failure : Failure) → CannotPrepare call.given load failure → MayFail call fails failure
+may_prepare call load left between loaded fails failure cannot = inr (inr (inr (inr (load, left, between, loaded, cannot))))

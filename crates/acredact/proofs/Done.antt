@@ -44,10 +44,8 @@ pub told_line : {R W E : Type 0} {Reads : Readers R} (Writes : Writers W) (K : S
 told_line Writes K task name line {old} {new} is tells fails files most = record {
   done = (line ∷ [], refl, (is, subst (TellsBytes K old.errors new.errors) (sym (append-nil line)) tells));
   cut = tt;
-  quiet = λ (is : Ok false ≡ Ok true). absurd (cc);
+  whole = λ (is : Ok false ≡ Ok true). absurd (cc);
   fails = fails;
-  ranges = λ (is : Ok false ≡ Ok true). absurd (cc);
-  read = λ (is : Ok false ≡ Ok true). absurd (cc);
   files = files;
   most = most;
 }

@@ -3,9 +3,10 @@
 use Rattle.acredact.proofs.Common.{common_steps, All, All-cons, All-head, All-nil, All-tail, ArePatterns, Bor, IsCleanPiece, IsMember, NoneHolds, Occurrence, Patterns, PieceRule, folded_by, folded_word, get_or-map, get_or-replicate, pattern_at, pieces_of, take_all}
 use Rattle.std.proofs.Common.{◌≡◌, inl, inr, ℕ, suc, ◌+◌, ◌-◌, ◌<◌, List, [], ◌∷◌, ◌++◌, Option, true, false, length, get_or, refl, sym, ap, subst, ◌∙◌, append_assoc, arith, below_more, map, take, ◌%◌, drop}
 use Rattle.std.specs.List.{list_all}
-use Rattle.std.specs.Prelude.{Bool, None, Some, if◌then◌else◌, nat_eq, ◌||◌, replicate, slice_index_or, slice_range}
+use Rattle.std.specs.Prelude.{Bool, MatchOption, None, Some, if◌then◌else◌, nat_eq, ◌||◌, replicate, slice_index_or, slice_range}
 use Rattle.std.proofs.Math.Nat.{mod-lt}
-use Rattle.std.proofs.lemmas.Bool.{and_parts, eqb-true, or_parts}
+use Rattle.std.proofs.lemmas.Bool.Decides.{nat_tests}
+use Rattle.std.proofs.lemmas.Bool.{and_parts, both_ways, eqb-true, or_parts}
 use Rattle.std.proofs.lemmas.List.{drop_more, take_more}
 use Rattle.std.proofs.lemmas.List.Elements.{All-weaker, All-drop, All-take}
 use Rattle.std.proofs.lemmas.List.Folds.{Any-from_list_any, list_all-map, list_any_none}
@@ -16,24 +17,18 @@ use Rattle.aho_core.specs.Replacement.{replaced, replaced_by, replaced_from}
 use Rattle.aho_cover.specs.Pieces.{piece_in}
 use Rattle.aho_laws.proofs.CoverClean.{cover-free}
 use Rattle.aho_laws.proofs.JoinedPieces.{clear_joined}
+use Rattle.aho_laws.proofs.Replacements.{replaced_from-same}
 use Rattle.aho_laws.proofs.SpanTexts.{Occurs-left, Occurs-of_left, Occurs-of_right, Occurs-right, moved_back}
-use Rattle.aho_laws.specs.CoverLaws.{AreClean}
-use Rattle.aho_laws.specs.CutLaws.{moved}
 use Rattle.secret_rules.proofs.Owners.{member-get_or}
 use Rattle.acredact.specs.Hmac.{hmac_sha256}
-use Rattle.acredact.specs.Pieces.{IsFlaw, IsMarked, IsUnclean, WordsAreMarked}
-use Rattle.acredact.specs.Pseudonyms.{as_compared, digit_at, hex_digit, piece_of_digest, pseudonym_rule}
+use Rattle.acredact.specs.Pieces.{IsFlaw, IsMarked, IsUnclean, Spoils, WordsAreMarked}
+use Rattle.acredact.specs.Pseudonyms.{as_compared, hex_digit, piece_of_digest, pseudonym_rule}
 use Rattle.acredact.specs.Secrets.{NoneOccurs}
 use Rattle.acredact.specs.Spelling.{first_number, holder_in, holds_byte, NoneAreSpelled, is_inside, lies_inside, may_be_spelled}
 use Rattle.acredact.specs.declared.clean.Flaw.{Flaw}
 use Rattle.acredact.specs.declared.clean.Flaw.TheVariants.{Empty, Pseudonym, Spells}
 
--- a byte that a word holds is a member of it, but for the case rule
-held_member : (ignore_case : Bool) (word : List ℕ) (byte : ℕ) → holds_byte ignore_case word byte ≡ true → (other : ℕ) × IsMember word other × (folded_by ignore_case other ≡ folded_by ignore_case byte)
-held_member ignore_case word byte held =
-    let (at, other, below, is, same) = Any-from_list_any (λ other. nat_eq (folded_by ignore_case other) (folded_by ignore_case byte)) word held in
-    (other, subst (IsMember word) is (member-get_or word at other below), eqb-true (folded_by ignore_case other) (folded_by ignore_case byte) same)
-
+-- a byte that a word does not hold is no member of it, but for the case rule
 not_held : (ignore_case : Bool) (word : List ℕ) (other byte : ℕ) → holds_byte ignore_case word byte ≡ false → IsMember word other → folded_by ignore_case other ≡ folded_by ignore_case byte → ⊥
 not_held ignore_case [] other byte none member same = absurd member
 not_held ignore_case (x ∷ word) other byte none (inl is) same = grind arith
@@ -41,8 +36,7 @@ not_held ignore_case (x ∷ word) other byte none (inr there) same = not_held ig
 
 -- what the first of some words is, and what they are where there is none
 abbrev IsFirst : (List ℕ → Bool) → ℕ → List (List ℕ) → Option ℕ → Type 0
-IsFirst test number words None = All (λ word. test word ≡ false) words
-IsFirst test number words (Some told) = (at : ℕ) × (told ≡ at + number) × (at < length words) × (test (get_or words at []) ≡ true)
+IsFirst test number words first = MatchOption first (All (λ word. test word ≡ false) words) (λ told. (at : ℕ) × (told ≡ at + number) × (at < length words) × (test (get_or words at []) ≡ true))
 
 first_so : (test : List ℕ → Bool) (number : ℕ) (words : List (List ℕ)) → IsFirst test number words (first_number test number words)
 first_so test number [] = All-nil (λ word. test word ≡ false)
@@ -63,8 +57,8 @@ module _ (ignore_case : Bool) (byte place : ℕ) (marks : List Bool) (is : place
   pub unmarked : (number : ℕ) (words : List (Bor (List ℕ))) → WordsAreMarked ignore_case words marks → first_number (λ word. holds_byte ignore_case word byte) number (pieces_of words) ≡ None
   unmarked number [] marked = refl
   unmarked number (word ∷ words) marked =
-      ap (λ (b : Bool). if b then Some number else first_number (λ w. holds_byte ignore_case w byte) (number + 1) (pieces_of words)) (not_marked word.now (All-head (λ w. IsMarked ignore_case w.now marks) word words marked))
-      ∙ unmarked (number + 1) words (All-tail (λ w. IsMarked ignore_case w.now marks) word words marked)
+      rw (not_marked word.now (All-head (λ w. IsMarked ignore_case w.now marks) word words marked))
+      (unmarked (number + 1) words (All-tail (λ w. IsMarked ignore_case w.now marks) word words marked))
 
 -- the last byte of a piece stands behind the others
 last_of : (piece : List ℕ) → 0 < length piece → (front : List ℕ) × (piece ≡ front ++ get_or piece (length piece - 1) 0 ∷ [])
@@ -76,7 +70,9 @@ module _ (p : Patterns) where
   none_hold byte none number other numbered member same = not_held p.ignore_case (pattern_at p number) other byte (none number numbered) member same
 
   one_holds : (byte number : ℕ) → number < length p.words → holds_byte p.ignore_case (pattern_at p number) byte ≡ true → NoneHolds p byte → ⊥
-  one_holds byte number numbered held none = let (other, member, same) = held_member p.ignore_case (pattern_at p number) byte held in none number other numbered member same
+  one_holds byte number numbered held none =
+      let (at, other, below, is, same) = Any-from_list_any (λ other. nat_eq (folded p other) (folded p byte)) (pattern_at p number) held in
+      none number other numbered (subst (IsMember (pattern_at p number)) is (member-get_or (pattern_at p number) at other below)) (eqb-true (folded p other) (folded p byte) same)
 
   clean_from : (piece : List ℕ) → 0 < length piece → NoneHolds p (get_or piece 0 0) → NoneHolds p (get_or piece (length piece - 1) 0) → NoneOccurs p piece → IsCleanPiece p piece
   clean_from piece some first last none = record {
@@ -96,55 +92,42 @@ module _ (p : Patterns) where
 
   module _ (ignore_case : Bool) (words : List (List ℕ)) (are : ArePatterns p ignore_case words) where
     -- what is said of words holds of the patterns
-    none_holds : (byte : ℕ) → None ≡ holder_in ignore_case words byte → NoneHolds p byte
-    none_holds byte none =
-        let free : All (λ word. holds_byte p.ignore_case word byte ≡ false) p.words =
-        rw (are.rule, are.words_are) (subst (IsFirst (λ word. holds_byte ignore_case word byte) 1 words) (sym none) (first_so (λ word. holds_byte ignore_case word byte) 1 words)) in
-        none_hold byte (λ number numbered. free number [] numbered)
+    first_is : (byte : ℕ) (answer : Option ℕ) → answer ≡ holder_in ignore_case words byte → IsFirst (λ word. holds_byte p.ignore_case word byte) 1 p.words answer
+    first_is byte answer is = rw (are.rule, are.words_are) (subst (IsFirst (λ word. holds_byte ignore_case word byte) 1 words) (sym is) (first_so (λ word. holds_byte ignore_case word byte) 1 words))
 
-    holder_is : (byte told : ℕ) → Some told ≡ holder_in ignore_case words byte → (number : ℕ) × (told ≡ number + 1) × (number < length p.words) × (holds_byte p.ignore_case (pattern_at p number) byte ≡ true)
-    holder_is byte told is = rw (are.rule, are.words_are) (subst (IsFirst (λ word. holds_byte ignore_case word byte) 1 words) (sym is) (first_so (λ word. holds_byte ignore_case word byte) 1 words))
-
-    -- a pattern holds the first byte, or the last
-    pub spells_first : (piece : List ℕ) (told : ℕ) → 0 < length piece → Some told ≡ holder_in ignore_case words (get_or piece 0 0) → IsFlaw p piece (Spells told)
-    spells_first piece told some is = let (number, is_told, numbered, held) = holder_is (get_or piece 0 0) told is in (some, number, is_told, numbered, inl held)
-
-    pub spells_last : (piece : List ℕ) (told : ℕ) → 0 < length piece → Some told ≡ holder_in ignore_case words (get_or piece (length piece - 1) 0) → IsFlaw p piece (Spells told)
-    spells_last piece told some is = let (number, is_told, numbered, held) = holder_is (get_or piece (length piece - 1) 0) told is in (some, number, is_told, numbered, inr (inl held))
+    -- a pattern holds a byte, and so spoils a piece
+    pub spells : (piece : List ℕ) (byte told : ℕ) → 0 < length piece → Some told ≡ holder_in ignore_case words byte → ((number : ℕ) → holds_byte p.ignore_case (pattern_at p number) byte ≡ true → Spoils p piece number)
+        → IsFlaw p piece (Spells told)
+    spells piece byte told some is spoils =
+        let (number, is_told, numbered, held) = first_is byte (Some told) is in (some, number, is_told, numbered, spoils number held)
 
     -- none holds either, and nothing occurs
     pub clean_by : (piece : List ℕ) → 0 < length piece → None ≡ holder_in ignore_case words (get_or piece 0 0) → None ≡ holder_in ignore_case words (get_or piece (length piece - 1) 0) → NoneOccurs p piece → IsCleanPiece p piece
-    clean_by piece some first last none = clean_from piece some (none_holds (get_or piece 0 0) first) (none_holds (get_or piece (length piece - 1) 0) last) none
+    clean_by piece some first last none =
+        let free : (byte : ℕ) → None ≡ holder_in ignore_case words byte → NoneHolds p byte = λ byte is. none_hold byte (λ number. first_is byte None is number []) in
+        clean_from piece some (free (get_or piece 0 0) first) (free (get_or piece (length piece - 1) 0) last) none
 
 module _ (p : Patterns) (pieces : List (Bor (List ℕ))) where
   -- the pieces before a place are clean
   abbrev pub AreCleanTo : ℕ → Type 0
   AreCleanTo at = (number : ℕ) → number < at → IsCleanPiece p (get_or (pieces_of pieces) number [])
 
-  piece_at : (at : ℕ) (d : Bor (List ℕ)) → at < length pieces → (get_or pieces at d).now ≡ get_or (pieces_of pieces) at []
-  piece_at at d below = sym (get_or-map (λ (piece : Bor (List ℕ)). piece.now) pieces at d [] below)
-
   pub clean_next : (at : ℕ) (d : Bor (List ℕ)) → at < length pieces → AreCleanTo at → IsCleanPiece p (get_or pieces at d).now → AreCleanTo (at + 1)
-  clean_next at d below before here = below_more _ at before (subst (IsCleanPiece p) (piece_at at d below) here)
+  clean_next at d below before here = below_more _ at before (subst (IsCleanPiece p) (sym (get_or-map (λ (piece : Bor (List ℕ)). piece.now) pieces at d [] below)) here)
 
   -- the first that is not
   pub unclean_at : (at : ℕ) (d : Bor (List ℕ)) (flaw : Flaw) → at < length pieces → length pieces ≡ length p.words → AreCleanTo at → IsFlaw p (get_or pieces at d).now flaw
       → IsUnclean p (pieces_of pieces) (record { number = at + 1; flaw = flaw })
   unclean_at at d flaw below count before of =
-      let here : IsFlaw p (get_or (pieces_of pieces) at []) flaw = subst (λ (piece : List ℕ). IsFlaw p piece flaw) (piece_at at d below) of in
+      let here : IsFlaw p (get_or (pieces_of pieces) at []) flaw = subst (λ (piece : List ℕ). IsFlaw p piece flaw) (sym (get_or-map (λ (piece : Bor (List ℕ)). piece.now) pieces at d [] below)) of in
       record { number = at; told = refl; numbered = omega (arith, below, count); before = before; flaw = here; is_not = flawed p (get_or (pieces_of pieces) at []) flaw here }
 
 -- each byte of a pseudonym, as it is compared, is its first, its last or one inside
 abbrev is_of_piece : ℕ → Bool
 is_of_piece byte = nat_eq byte 91 || nat_eq byte 93 || is_inside byte
 
-digit_of_piece : (ignore_case : Bool) (value : ℕ) → value < 16 → is_of_piece (folded_by ignore_case (digit_at value)) ≡ true
-digit_of_piece ignore_case (suc (suc (suc (suc (suc (suc (suc (suc (suc (suc (suc (suc (suc (suc (suc (suc n)))))))))))))))) below = absurd (omega arith)
-digit_of_piece true value below = refl
-digit_of_piece false value below = refl
-
 hex_of_piece : (ignore_case : Bool) (byte : ℕ) → is_of_piece (folded_by ignore_case (hex_digit byte)) ≡ true
-hex_of_piece ignore_case byte = digit_of_piece ignore_case (byte % 16) (mod-lt byte (omega arith))
+hex_of_piece ignore_case byte = let below : byte % 16 < 16 = mod-lt byte (omega arith) in grind (arith, nat_tests)
 
 piece_all : (ignore_case : Bool) (digest : List ℕ) → list_all (λ byte. is_of_piece (folded_by ignore_case byte)) (piece_of_digest digest) ≡ true
 piece_all true digest = simp (hex_of_piece true) refl
@@ -169,11 +152,10 @@ module _ (p : Patterns) (unlike : NoneAreSpelled p.ignore_case p.words) where
   none_within piece are m occurs =
       let part = slice_range piece m.start m.end in
       let (no_first, no_last, outside) = unlike_each m.pattern occurs.numbered in
-      let test = λ (byte : ℕ). is_of_piece (folded p byte) in
-      let IsOf = λ (byte : ℕ). test byte ≡ true in
-      let of_part = list_all-from_AllPass test part (All-take IsOf (m.end - m.start) (drop m.start piece) (All-drop IsOf m.start piece (AllPass-from_list_all test piece are))) in
-      let all : list_all is_of_piece (folded_word p (pattern_at p m.pattern)) ≡ true = ap (list_all is_of_piece) occurs.same ∙ list_all-map is_of_piece (folded p) part ∙ of_part in
-      let clash : false ≡ true = sym outside ∙ all_inside p.ignore_case (pattern_at p m.pattern) no_first no_last all in cc
+      let IsOf = λ (byte : ℕ). is_of_piece (folded p byte) ≡ true in
+      let of_part = All-take IsOf (m.end - m.start) (drop m.start piece) (All-drop IsOf m.start piece (AllPass-from_list_all (λ byte. is_of_piece (folded p byte)) piece are)) in
+      let all : list_all is_of_piece (folded_word p (pattern_at p m.pattern)) ≡ true = ap (list_all is_of_piece) occurs.same ∙ list_all-map is_of_piece (folded p) part ∙ list_all-from_AllPass (λ byte. is_of_piece (folded p byte)) part of_part in
+      both_ways _ outside (all_inside p.ignore_case (pattern_at p m.pattern) no_first no_last all)
 
   -- each pseudonym is clean
   pub pseudonyms_clean : (ignore_case : Bool) (key : List ℕ) (number : ℕ) (bytes : List ℕ) → number < length p.words → IsCleanPiece p (pseudonym_rule ignore_case key number bytes)
@@ -182,50 +164,34 @@ module _ (p : Patterns) (unlike : NoneAreSpelled p.ignore_case p.words) where
       clean_from p (piece_of_digest digest) (omega arith) (none_hold p 91 (λ other there. (unlike_each other there).0)) (none_hold p 93 (λ other there. (unlike_each other there).1)) (none_within _ (piece_all p.ignore_case digest))
 
 module _ (p : Patterns) where
-  -- what occurs in a part of a text occurs in it
-  free_left : (left right : List ℕ) → NoneOccurs p (left ++ right) → NoneOccurs p left
-  free_left left right free m occurs = free m (Occurs-of_left p left right m occurs)
-
-  free_right : (left right : List ℕ) → NoneOccurs p (left ++ right) → NoneOccurs p right
-  free_right left right free m occurs = free (moved (length left) m) (Occurs-of_right p left right m occurs)
-
-  -- one clean piece for all patterns
-  abbrev alike : List ℕ → List (List ℕ)
-  alike piece = replicate (length p.words) piece
-
-  alike_clean : (piece : List ℕ) → IsCleanPiece p piece → AreClean p (alike piece)
-  alike_clean piece is number numbered = subst (IsCleanPiece p) (sym (get_or-replicate (length p.words) number piece [] numbered)) is
-
-  abbrev alike_in : List ℕ → Occurrence → List ℕ
-  alike_in piece run = slice_index_or (alike piece) run.pattern []
-
-  module _ (rule : PieceRule) (clean : (number : ℕ) (bytes : List ℕ) → number < length p.words → IsCleanPiece p (rule number bytes)) (haystack some : List ℕ) (some_clean : IsCleanPiece p some) where
-    -- where nothing occurs by one piece, whichever it is, nothing does by those of the runs
-    free-from : (runs : List Occurrence) (at : ℕ) → ((run : Occurrence) → IsMember runs run → run.pattern < length p.words)
-        → ((piece : List ℕ) → IsCleanPiece p piece → NoneOccurs p (replaced_from haystack at runs (alike_in piece))) → NoneOccurs p (replaced_from haystack at runs (piece_in rule haystack))
-    free-from [] at numbered free = free some some_clean
-    free-from (run ∷ runs) at numbered free =
+  module _ (haystack some : List ℕ) (some_clean : IsCleanPiece p some) where
+    -- where nothing occurs by one clean piece, whichever it is, nothing does by those of the runs
+    free-from : (runs : List Occurrence) (at : ℕ) (piece : Occurrence → List ℕ) → ((run : Occurrence) → IsMember runs run → IsCleanPiece p (piece run))
+        → ((same : List ℕ) → IsCleanPiece p same → NoneOccurs p (replaced_from haystack at runs (λ run. same))) → NoneOccurs p (replaced_from haystack at runs piece)
+    free-from [] at piece clean free = free some some_clean
+    free-from (run ∷ runs) at piece clean free =
         let front = slice_range haystack at run.start in
-        let piece = piece_in rule haystack run in
-        let rest = replaced_from haystack run.end runs (piece_in rule haystack) in
-        let alone = replaced_from haystack run.end runs (alike_in piece) in
-        let here = clean run.pattern (slice_range haystack run.start run.end) (numbered run (inl refl)) in
-        let same : alike_in piece run ≡ piece = get_or-replicate (length p.words) run.pattern piece [] (numbered run (inl refl)) in
-        let whole : NoneOccurs p (front ++ (piece ++ alone)) = subst (λ (l : List ℕ). NoneOccurs p (front ++ (l ++ alone))) same (free piece here) in
-        let before = free_left (front ++ piece) alone (subst (NoneOccurs p) (sym (append_assoc front piece alone)) whole) in
-        let later = free-from runs run.end (λ x there. numbered x (inr there)) (λ other is. free_right (alike_in other run) _ (free_right front _ (free other is))) in
-        let end = last_of piece here.some in
-        let seam = clear_joined p _ (front ++ piece) rest (here.last _ end.0 end.1) (front ++ end.0, ap (λ (l : List ℕ). front ++ l) end.1 ∙ sym (append_assoc front end.0 _)) in
-        subst (NoneOccurs p) (append_assoc front piece rest) (λ m occurs.
+        let rest = replaced_from haystack run.end runs piece in
+        let alone = replaced_from haystack run.end runs (λ other. piece run) in
+        let here = clean run (inl refl) in
+        let before : NoneOccurs p ((front ++ piece run) ++ alone) = subst (NoneOccurs p) (sym (append_assoc front (piece run) alone)) (free (piece run) here) in
+        let later = free-from runs run.end piece (λ other there. clean other (inr there)) (λ same is m occurs. free same is _ (Occurs-of_right p front _ _ (Occurs-of_right p same _ m occurs))) in
+        let end = last_of (piece run) here.some in
+        let seam = clear_joined p _ (front ++ piece run) rest (here.last _ end.0 end.1) (front ++ end.0, ap (λ (l : List ℕ). front ++ l) end.1 ∙ sym (append_assoc front end.0 _)) in
+        subst (NoneOccurs p) (append_assoc front (piece run) rest) (λ m occurs.
         elim (seam m occurs) [
-          | inl first ↦ before m (Occurs-left p (front ++ piece) rest m first occurs)
-          | inr behind ↦ later (moved_back (length (front ++ piece)) m) (Occurs-right p (front ++ piece) rest m behind occurs)
+          | inl first ↦ before m (Occurs-of_left p (front ++ piece run) alone m (Occurs-left p (front ++ piece run) rest m first occurs))
+          | inr behind ↦ later (moved_back (length (front ++ piece run)) m) (Occurs-right p (front ++ piece run) rest m behind occurs)
         ])
 
   -- nothing occurs in the cover
   pub made-free : (rule : PieceRule) → ((number : ℕ) (bytes : List ℕ) → number < length p.words → IsCleanPiece p (rule number bytes)) → (haystack : List ℕ) (runs : List Occurrence) → AreRuns p haystack runs
       → NoneOccurs p (replaced_by haystack runs (piece_in rule haystack))
   made-free rule clean haystack runs are m occurs =
-      free-from rule clean haystack (rule m.pattern []) (clean m.pattern [] occurs.numbered) runs 0
-      (λ x there. let is_run = (are.members x).0 there in omega (arith, is_run.named, is_run.longest_is.0.0.numbered))
-      (λ piece is n there. cover-free p (alike piece) (alike_clean piece is) haystack (replaced haystack runs (alike piece)) (runs, are, refl) n there) m occurs
+      let numbered : (run : Occurrence) → IsMember runs run → run.pattern < length p.words = λ run there. (let is_run = (are.members run).0 there in omega (arith, is_run.named, is_run.longest_is.0.0.numbered)) in
+      free-from haystack (rule m.pattern []) (clean m.pattern [] occurs.numbered) runs 0 (piece_in rule haystack) (λ run there. clean run.pattern (slice_range haystack run.start run.end) (numbered run there))
+      (λ same is.
+      let alike = replicate (length p.words) same in
+      let there : (number : ℕ) → number < length p.words → get_or alike number [] ≡ same = λ number below. get_or-replicate (length p.words) number same [] below in
+      subst (NoneOccurs p) (replaced_from-same haystack runs 0 (λ run. slice_index_or alike run.pattern []) (λ run. same) (λ run member. there run.pattern (numbered run member)))
+      (cover-free p alike (λ number below. subst (IsCleanPiece p) (sym (there number below)) is) haystack (replaced haystack runs alike) (runs, are, refl))) m occurs

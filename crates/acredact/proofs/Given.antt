@@ -27,19 +27,16 @@ none_of : (b : Bool) (mixture : Mixture) (rest : Option Mixture) → (if b then 
 none_of b mixture rest none = grind arith
 
 -- forms are those of covers, and do not go with words
-of_mixture : (given : List Given) → mixture_of given ≡ None → has Forms given ≡ true → (covers_asked given ≡ true) × (has AsWord given ≡ false)
-of_mixture given none forms = (grind arith, grind (arith, none_of))
+of_mixture : (given : List Given) → mixture_of given ≡ None → has Forms given ≡ true → (covers_asked given ≡ true) × (words_asked given ≡ false)
+of_mixture given none forms =
+    let no_words : has AsWord given ≡ false = grind (arith, none_of) in
+    (grind arith, ap (λ (b : Bool). covers_asked given && b) no_words ∙ and-false (covers_asked given))
 
 pub forms_fit : (arguments : List (List ℕ)) (given : List Given) → all_asked arguments ≡ Some given → has Forms given ≡ true → (covers_asked given ≡ true) × (words_asked given ≡ false)
-forms_fit arguments given asked forms =
-    let (covered, no_words) = of_mixture given (read_fits (result_ok (given_by arguments)) given asked) forms in
-    (covered, ap (λ (b : Bool). covers_asked given && b) no_words ∙ and-false (covers_asked given))
+forms_fit arguments given asked = of_mixture given (read_fits (result_ok (given_by arguments)) given asked)
 
 -- nothing is wrong with right arguments but that memory runs out
 pub memory_alone : (arguments : List (List ℕ)) (given : List Given) (mistake : Mistake) → all_asked arguments ≡ Some given → IsMistakeOfCall arguments mistake → mistake ≡ OutOfMemory
 memory_alone arguments given mistake asked (inl (inl memory)) = memory
 memory_alone arguments given mistake asked (inl (inr wrong)) = let clash : None ≡ Some given = rw wrong at asked in absurd (cc)
-memory_alone arguments given mistake asked (inr (items, mixture, read, mixed, is)) =
-    let fit : fitting_by (mixture_of items) items ≡ Some given = rw read at asked in
-    let clash : None ≡ Some given = rw mixed at fit in
-    absurd (cc)
+memory_alone arguments given mistake asked (inr (items, mixture, read, mixed, is)) = let clash : None ≡ Some given = rw (read, mixed) at asked in absurd (cc)

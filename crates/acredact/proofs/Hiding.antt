@@ -1,11 +1,11 @@
--- What shows a secret in a form lies in a replaced range.
-use Rattle.acredact.proofs.Common.{FromWrite, IsMember, Occurrence, Patterns, Writers, folded_word, pattern_at, plain_search, take_rest}
-use Rattle.std.proofs.Common.{◌≡◌, inl, inr, ℕ, zero, suc, ◌≤◌, Bool, true, false, cond, List, [], ◌∷◌, ◌++◌, Option, get_or, length, refl, sym, ap, subst, ◌∙◌, arith}
+-- What is so of the redaction of each file: no pattern occurs where the pieces are clean, and what shows a secret in a form lies in a replaced range.
+use Rattle.acredact.proofs.Common.{FromWrite, IsMember, Occurrence, Patterns, Writers, folded_word, is_input, pattern_at, plain_search}
+use Rattle.std.proofs.Common.{◌≡◌, inl, inr, ℕ, zero, suc, ◌+◌, ◌-◌, ◌≤◌, Bool, true, false, cond, List, [], ◌∷◌, ◌++◌, Option, get_or, length, refl, sym, ap, ◌∙◌, arith, length-append, slice_range, take, subst}
 use Rattle.std.specs.List.{enumerate_from}
-use Rattle.std.specs.Prelude.{All, Contains, MatchBool, chars, nat_lt}
+use Rattle.std.specs.Prelude.{All, Contains, MatchBool, chars, is_some, nat_lt, None, Some, if◌then◌else◌}
 use Rattle.std.proofs.lemmas.Bool.{le-ltb, lt-ltb}
 use Rattle.std.proofs.lemmas.List.Elements.{All-contains, Contains-append_left, Contains-append_right}
-use Rattle.std.proofs.lemmas.List.{get_or_default}
+use Rattle.std.proofs.lemmas.List.{drop_at, get_or_default, take_at}
 use Rattle.std.proofs.lemmas.Simd.{map-map}
 use Rattle.std.proofs.lemmas.List.FromFn.{get_or-enumerate_from, length-enumerate_from}
 use Rattle.base64.specs.Engines.{standard, standard_no_pad, url_safe, url_safe_no_pad}
@@ -13,8 +13,6 @@ use Rattle.base64.specs.GeneralPurpose.{encode_of}
 use Rattle.hex.specs.Hex.{encode_lower, encode_upper}
 use Rattle.aho_core.specs.Cover.{IsCovered}
 use Rattle.aho_core.specs.Occurs.{OccursIn}
-use Rattle.aho_laws.proofs.SpanTexts.{Occurs-of_left, Occurs-of_right}
-use Rattle.aho_laws.specs.CutLaws.{moved}
 use Rattle.secret_forms.proofs.EachLaw.{Contains-flat_map, Contains-map}
 use Rattle.secret_forms.specs.Forms.{HidesForm, HidesNested, form_patterns, forms_patterns, inner_patterns}
 use Rattle.secret_forms.proofs.FormLaw.{HidesForm-all}
@@ -28,17 +26,43 @@ use Rattle.secret_forms.specs.Spelling.{HidesSpelled, shell_spellings, url_spell
 use Rattle.secret_forms.specs.declared.bytewise.Spelling.{Spelling}
 use Rattle.secret_forms.specs.declared.form.Form.{Form}
 use Rattle.secret_forms.specs.declared.form.Form.TheVariants.{Base64, Hex, Url, Json, Xml, Shell, Lines}
+use Rattle.acredact.specs.Files.{AreFree, AreRedacted, Work, WritesNamed, WritesText}
 use Rattle.acredact.specs.Forms.{AskedForms, HideSecrets, HidesNestedForm, HidesSecret, asked_form_patterns, each_twice, filled, form_secret, forms_from, forms_of, once_patterns, twice_patterns, with_forms}
-use Rattle.acredact.specs.Hidden.{HidesForms, NoneShowsOnce, NoneShowsTwice, JoinsShell, ShowsBits, SpellsEach, ShowsForm, SpellsForm}
-use Rattle.acredact.specs.Secrets.{IsRedaction, NoByteIsKept, NoneIsWhole, Redactor}
+use Rattle.acredact.specs.Hidden.{HidesForms, NoneShowsOnce, NoneShowsTwice, ShowsBits, SpellsEach, ShowsForm, SpellsForm}
+use Rattle.acredact.specs.Reads.{EachName, OfName}
+use Rattle.acredact.specs.Secrets.{AreCleanBy, IsRedaction, NoByteIsKept, NoneIsWhole, Redactor}
 use Rattle.acredact.specs.Tables.{Secret, patterns_in}
-use Rattle.aho_cover.specs.Words.{CountsIn}
-use Rattle.acredact.specs.Arguments.{covers_asked, words_asked}
+use Rattle.acredact.specs.Arguments.{covers_asked, words_asked, Given, has}
 use Rattle.acredact.specs.Calls.{Call, HidesCall, RedactsCall, names_asked, work_by}
-use Rattle.acredact.specs.Loading.{Loaded}
-use Rattle.acredact.specs.Named.{named_secret}
-use Rattle.acredact.proofs.Free.{each_written_as}
-use Rattle.acredact.proofs.Naming.{either_way}
+use Rattle.acredact.specs.Loading.{Loaded, secrets_by}
+use Rattle.acredact.specs.Named.{named_secret, all_named}
+use Rattle.acredact.specs.Pseudonyms.{pseudonym_rule}
+use Rattle.acredact.specs.declared.options.Word.TheVariants.{Forms, IgnoreCase}
+
+-- what is so of a text is so of that of a name
+pub named_as : (holds : List ℕ → Option (List ℕ)) (name : List ℕ) (One Other : Option (List ℕ) → Option (List ℕ) → Type 0) → ((l l' : Option (List ℕ)) → One l l' → Other l l')
+    → (left left' : Option (List ℕ)) → OfName holds name One left left' → OfName holds name Other left left'
+named_as holds name One Other to left left' is = by (is_input name) is
+  where
+    by : (b : Bool) → MatchBool b (One left left') ((left' ≡ left) × (rest : Option (List ℕ)) × One (holds name) rest) → MatchBool b (Other left left') ((left' ≡ left) × (rest : Option (List ℕ)) × Other (holds name) rest)
+    by true here = to left left' here
+    by false (same, rest, there) = (same, rest, to (holds name) rest there)
+
+-- what is written of each file is this too, where the redaction of a text is
+pub each_written_as : (work : Work) {Other : List ℕ → List ℕ → Type 0} → ((text redaction : List ℕ) → IsRedaction work.redactor text redaction → Other text redaction)
+    → (names : List (List ℕ)) (left left' held held' : Option (List ℕ)) → AreRedacted work names left left' held held' → EachName (WritesNamed work.holds Other) names left left' held held'
+each_written_as work to [] left left' held held' are = are
+each_written_as work {Other} to (name ∷ names) left left' held held' (between, meanwhile, (apart, is), others) = (
+  between,
+  meanwhile,
+  named_as work.holds name (λ l l'. WritesText (IsRedaction work.redactor) l l' held meanwhile) (λ l l'. WritesText Other l l' held meanwhile)
+      (λ l l' of. record { text = of.text; reads = of.reads; is = (of.is.0, to of.text of.is.0 of.is.1, of.is.2) }) left between is,
+  each_written_as work to names between left' meanwhile held' others,
+)
+
+-- where the pieces of a cover are clean no pattern occurs in what was written
+pub free_of : (work : Work) → work.redactor.covers ≡ true → work.redactor.words ≡ false → AreCleanBy (is_some work.redactor.key) work.redactor.patterns work.redactor.pieces → (names : List (List ℕ)) (left left' held held' : Option (List ℕ)) → AreRedacted work names left left' held held' → AreFree work names left left' held held'
+free_of work covers all clean = each_written_as work (λ text redaction is. (is, is.clean covers all clean))
 
 -- the patterns of all forms that are asked for hide what they are of
 pub hide_secrets : (asked : AskedForms) (secrets : List Secret) → HideSecrets asked secrets
@@ -61,9 +85,6 @@ module _ (patterns : List (List ℕ)) (secret text : List ℕ) (place : ℕ) whe
   spelled_hidden : (spellings : List Spelling) → All (HidesSpelled patterns secret) spellings → SpellsForm spellings secret text place → IsHidden patterns text place
   spelled_hidden spellings law (spelling, listed, shows) = each_hidden _ secret (All-contains (HidesSpelled patterns secret) spellings spelling law listed) shows
 
-  joined_hidden : (shows : JoinsShell secret text place) → HidesJoined patterns secret shows.joining → IsHidden patterns text place
-  joined_hidden shows law = rw (shows.stands, shows.there) (law shows.first shows.before shows.after shows.ahead shows.behind shows.at shows.after_start shows.before_end)
-
   form_hidden : (form : Form) → HidesForm patterns secret form → ShowsForm form secret text place → IsHidden patterns text place
   form_hidden Base64 (a, b, c, d) (inl shows) = bits_hidden 6 (encode_of standard) a shows
   form_hidden Base64 (a, b, c, d) (inr (inl shows)) = bits_hidden 6 (encode_of standard_no_pad) b shows
@@ -77,7 +98,9 @@ module _ (patterns : List (List ℕ)) (secret text : List ℕ) (place : ℕ) whe
   form_hidden Json (law, others) (inr (utf8, way, listed, shows)) = each_hidden _ (chars secret) (All-contains (HidesCharacters patterns secret) json_ways way (others utf8) listed) shows
   form_hidden Xml law shows = spelled_hidden xml_spellings law shows
   form_hidden Shell (law, others) (inl shows) = spelled_hidden shell_spellings law shows
-  form_hidden Shell (law, others) (inr shows) = joined_hidden shows (All-contains (HidesJoined patterns secret) joinings shows.joining others shows.listed)
+  form_hidden Shell (law, others) (inr shows) =
+      let joined = All-contains (HidesJoined patterns secret) joinings shows.joining others shows.listed in
+      rw (shows.stands, shows.there) (joined shows.first shows.before shows.after shows.ahead shows.behind shows.at shows.after_start shows.before_end)
   form_hidden Lines law (line, listed, shows) = each_hidden _ line (All-contains (HidesLine patterns) (line_patterns secret) line law listed) shows
 
 -- a pattern that stands in a text occurs there, so what is hidden by some of the patterns that are searched for is covered
@@ -86,29 +109,28 @@ hidden_covered : (p : Patterns) (patterns : List (List ℕ)) (text : List ℕ) (
 hidden_covered p patterns text place within hidden =
     let (number, below, is) = within hidden.pattern (omega (arith, hidden.after_start, hidden.before_end)) hidden.listed in
     let at : pattern_at p number ≡ hidden.pattern = get_or_default p.words number [] hidden.pattern below ∙ is in
-    let alone : Occurrence = record { pattern = number; start = 0; end = length hidden.pattern } in
-    let here : OccursIn p (plain_search hidden.pattern) alone = record {
-      numbered = below;
-      after_start = omega arith;
-      before_end = omega arith;
-      sized = omega (arith, ap length at);
-      same = ap (folded_word p) (at ∙ sym (take_rest hidden.pattern 0));
-      admitted = λ yes. absurd (cc);
-    } in
-    let there = Occurs-of_right p hidden.ahead (hidden.pattern ++ hidden.behind) alone (Occurs-of_left p hidden.pattern hidden.behind alone here) in
+    let from = length hidden.ahead in
+    let upto = from + length hidden.pattern in
+    let there : slice_range text from upto ≡ hidden.pattern =
+    ap (λ (l : List ℕ). slice_range l from upto) hidden.occurs ∙ ap (take (upto - from)) (drop_at hidden.ahead (hidden.pattern ++ hidden.behind) from refl) ∙ take_at hidden.pattern hidden.behind (upto - from) (omega arith) in
     record {
-      found = moved (length hidden.ahead) alone;
-      member = subst (λ (l : List ℕ). OccursIn p (plain_search l) (moved (length hidden.ahead) alone)) (sym hidden.occurs) there;
-      after_start = omega (arith, hidden.after_start);
-      before_end = omega (arith, hidden.before_end);
+      found = record { pattern = number; start = from; end = upto };
+      member = record {
+        numbered = below;
+        after_start = omega arith;
+        before_end = omega (arith, ap length hidden.occurs, length-append hidden.ahead (hidden.pattern ++ hidden.behind), length-append hidden.pattern hidden.behind);
+        sized = omega (arith, ap length at);
+        same = ap (folded_word p) (at ∙ sym there);
+        admitted = λ yes. absurd (cc);
+      };
+      after_start = hidden.after_start;
+      before_end = hidden.before_end;
     }
 
 -- one that is not empty stays among those that are not
 contains_filled : (patterns : List (List ℕ)) (pattern : List ℕ) → 1 ≤ length pattern → Contains patterns pattern → Contains (filled patterns) pattern
 contains_filled [] pattern some (k, below, is) = absurd (omega (arith, below))
-contains_filled (p ∷ patterns) pattern some (zero, below, is) =
-    let long : nat_lt 0 (length p) ≡ true = lt-ltb _ _ (omega (arith, some, ap length is)) in
-    subst (λ (b : Bool). Contains (cond b (p ∷ filled patterns) (filled patterns)) pattern) (sym long) (0, omega arith, is)
+contains_filled (p ∷ patterns) pattern some (zero, below, is) = rw (lt-ltb 0 (length p) (omega (arith, some, ap length is))) (0, omega arith, is)
 contains_filled (p ∷ patterns) pattern some (suc k, below, is) = by (nat_lt 0 (length p)) (contains_filled patterns pattern some (k, omega (arith, below), is))
   where
     by : (b : Bool) → Contains (filled patterns) pattern → Contains (cond b (p ∷ filled patterns) (filled patterns)) pattern
@@ -133,8 +155,7 @@ module _ (asked : AskedForms) (secrets : List Secret) (r : Redactor) (covers : r
     none_kept : (secret : Secret) (place : ℕ) (patterns : List (List ℕ)) → Contains secrets secret → 4 ≤ length secret.pattern → ((pattern : List ℕ) → Contains patterns pattern → Contains (asked_form_patterns asked secret.pattern) pattern)
         → IsHidden patterns text place → IsCovered (IsMember ranges) place
     none_kept secret place patterns listed long within hidden =
-        let covered = hidden_covered r.patterns patterns text place (λ pattern some one. subst (λ (l : List (List ℕ)). Contains l pattern) (sym words) (form_among asked secrets secret pattern listed long some (within pattern one))) hidden in
-        kept.hidden place (subst (λ (b : Bool). IsCovered (CountsIn b r.patterns text) place) (sym all) covered)
+        kept.hidden place (rw all (hidden_covered r.patterns patterns text place (λ pattern some one. rw words (form_among asked secrets secret pattern listed long some (within pattern one))) hidden))
 
     none_once : NoneShowsOnce asked.forms secrets text ranges
     none_once form secret place among listed long shows =
@@ -155,13 +176,22 @@ module _ (asked : AskedForms) (secrets : List Secret) (r : Redactor) (covers : r
       let kept : NoByteIsKept r text is.ranges = subst (λ (b : Bool). MatchBool b (NoByteIsKept r text is.ranges) (NoneIsWhole r.patterns text is.ranges)) covers is.safe in
       record { redacts = is; none = record { once = none_once text is.ranges kept; twice = none_twice text is.ranges kept } }
 
--- so no form shows a secret that a call redacts by a cover: a name changes no pattern
-pub call_hides : {W : Type 0} (Writes : Writers W) (call : Call) (left left' : Option (List ℕ)) (output output' : FromWrite W) → covers_asked call.given ≡ true → words_asked call.given ≡ false
+-- a name changes no pattern
+same_patterns : (given : List Given) (secrets : List Secret) (key : Option (List ℕ)) → patterns_in (secrets_by given key secrets) ≡ patterns_in secrets
+same_patterns given secrets None = refl
+same_patterns given secrets (Some key) = by (has Forms given)
+  where
+    by : (forms : Bool) → patterns_in (if forms then all_named (pseudonym_rule (has IgnoreCase given) key) secrets else secrets) ≡ patterns_in secrets
+    by true = map-map (λ (secret : Secret). secret.pattern) (named_secret (pseudonym_rule (has IgnoreCase given) key) secrets) secrets
+    by false = refl
+
+-- so no form shows a secret that a call redacts by a cover
+pub call_hides : {W : Type 0} (Writes : Writers W) (call : Call) (left left' : Option (List ℕ)) (output output' : FromWrite W) → (covers_asked call.given ≡ true) × (words_asked call.given ≡ false)
     → RedactsCall Writes call left left' output output' → HidesCall Writes call left left' output output'
-call_hides Writes call left left' output output' covers every of =
+call_hides Writes call left left' output output' (covers, every) of =
     let all = of.loaded.given_all in
     let secrets = of.loaded.secrets in
-    let words = ap (λ (l : Loaded). patterns_in l.secrets) of.loaded.is ∙ either_way (λ named. patterns_in named ≡ patterns_in secrets) call.given secrets of.loaded.key refl (λ rule. map-map (λ (secret : Secret). secret.pattern) (named_secret rule secrets) secrets) ∙ ap patterns_in all.are in
+    let words = ap (λ (l : Loaded). patterns_in l.secrets) of.loaded.is ∙ same_patterns call.given secrets of.loaded.key ∙ ap patterns_in all.are in
     record {
       load = of.load;
       between = of.between;

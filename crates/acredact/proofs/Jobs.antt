@@ -82,17 +82,17 @@ module _ {R W E : Type 0} {Reads : Readers R} (Writes : Writers W) (K : SinkGhos
                 ),
               );
               cut = tt;
-              quiet = λ is. let both = all_so whole all (Ok (whole && all)) refl is in more.outcome.quiet (ap Ok both.1) ∙ told.quiet (ap Ok both.0);
+              quiet = λ is. let both = all_so whole all (Ok (whole && all)) refl is in more.outcome.quiet (ap Ok both.1) ∙ (told.whole (ap Ok both.0)).0;
               fails = record { write_failed = more.outcome.fails.write_failed ∙ told.fails.write_failed; took_nothing = more.outcome.fails.took_nothing ∙ told.fails.took_nothing; only = tt };
             };
             counted = λ is.
                 let both = all_so whole all (Ok (whole && all)) refl is in
-                let (ranges, has, grown) = told.ranges (ap Ok both.0) in
+                let (ranges, has, grown) = (told.whole (ap Ok both.0)).1 in
                 let (behind, have, further) = more.counted (ap Ok both.1) in
                 (ranges ++ behind, (ranges, behind, refl, bytes_left mid.0.input, has, have), counts_then ranges behind old.1 mid.1 end.1 grown further);
             read = λ is.
                 let both = all_so whole all (Ok (whole && all)) refl is in
-                volume_more task.holds name names old.2 mid.2 end.2 _ _ _ (told.read (ap Ok both.0)) (told.files ∙ ap (λ (b : Bool). files_with b old.2.files) both.0) (more.read (ap Ok both.1));
+                volume_more task.holds name names old.2 mid.2 end.2 _ _ _ (told.whole (ap Ok both.0)).2 (told.files ∙ ap (λ (b : Bool). files_with b old.2.files) both.0) (more.read (ap Ok both.1));
             most = λ measured. numbers_more task.holds name names old.1 mid.1 end.1 old.2 mid.2 end.2 _ _ _ whole (told.most measured) told.files (more.most measured);
             flushed = more.flushed;
           };

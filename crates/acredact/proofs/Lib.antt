@@ -18,7 +18,6 @@ mod Loaded
 mod Jobs
 -- which pieces are clean, and what follows
 mod Flaws
-mod Free
 mod Hiding
 mod Calls
 -- what comes of files that are redacted, to the output or in place
@@ -33,8 +32,6 @@ mod Readings
 mod Ready
 -- what a searcher holds can do what it can
 mod Standing
-mod Naming
 -- calls with rules
-mod RuledText
 mod RuledCalls
 mod LookedFiles

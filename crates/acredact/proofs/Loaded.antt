@@ -1,12 +1,10 @@
 -- The patterns that options give, one after another.
-use Rattle.acredact.proofs.Common.{Failure, get_or-map, is_input, length-map, take_all, Folders}
-use Rattle.std.proofs.Common.{◌≡◌, inr, ℕ, ◌+◌, ◌<◌, ◌≤◌, List, [], ◌∷◌, ◌++◌, Option, refl, sym, ap, subst, ◌∙◌, append-nil, append_assoc, arith, get_or, length, map, take}
-use Rattle.std.specs.Prelude.{Bool, MatchBool, IfSome, false}
-use Rattle.std.proofs.KnownBytes.{Consumes-all}
+use Rattle.acredact.proofs.Common.{Failure, common_steps, get_or-map, length-map, take_all, Folders}
+use Rattle.std.proofs.Common.{◌≡◌, inr, ℕ, ◌+◌, ◌<◌, ◌≤◌, List, [], ◌∷◌, ◌++◌, Option, refl, sym, ap, ◌∙◌, append-nil, append_assoc, arith, get_or, length, map, take}
 use Rattle.std.proofs.lemmas.List.{map_more}
 use Rattle.acredact.specs.declared.options.Item.{Item}
 use Rattle.acredact.specs.Arguments.{all_given, given_of}
-use Rattle.acredact.specs.Loading.{CannotLoad, CannotLoadOne, IsFileFailure, IsListedFailure, Reading, Rules, reading_of_lists, rules_for}
+use Rattle.acredact.specs.Loading.{CannotLoad, CannotLoadOne, IsFileFailure, IsListText, IsListedFailure, Reading, Rules, reading_of_lists, rules_for}
 use Rattle.acredact.specs.declared.load.Listed.{Listed}
 use Rattle.acredact.specs.declared.load.Lists.{Lists}
 use Rattle.acredact.specs.Parts.{IsAddedSome}
@@ -43,10 +41,9 @@ module _ {I X S : Type 0} {Gives : I → List X → (left left' : S) → Type 0}
     given_all past far = record { more = far.more; grown = far.grown; of = rw (take_all at ys past) at far.of }
 
 -- lists are read alike
-pub reading_from : {F X : Type 0} (D : Folders F X) (lists : Lists F) (folder : F) (rules : Rules) → lists.folder.now ≡ folder → rules_for lists ≡ rules → (P : Reading → Type 0)
+pub reading_from : {F X : Type 0} (D : Folders F X) (lists : Lists F) {folder : F} {rules : Rules} → lists.folder.now ≡ folder → rules_for lists ≡ rules → (P : Reading → Type 0)
     → P (reading_of_lists D lists) → P (record { holds = D.holds folder; refuses = D.refuses folder; environment = D.environment folder; rules = rules })
-reading_from {F} D lists folder rules same alike P is =
-    rw (← same, ← alike) is
+reading_from D lists same alike P is = rw (← same, ← alike) is
 
 -- one of the items cannot be loaded
 pub fails_at : (reading : Reading) (items : List Item) (at : ℕ) (d : Item) (failure : Failure) → at < length items → CannotLoad reading (given_of (get_or items at d)) failure → CannotLoadOne reading (all_given items) failure
@@ -54,13 +51,8 @@ fails_at reading items at d failure below fails =
     let it = given_of (get_or items at d) in
     (at, it, omega (arith, below, length-map items given_of), get_or-map given_of items at d it below, fails)
 
--- the text that is read is what the folder tells
-text_told : (holds : List ℕ → Option (List ℕ)) (name text : List ℕ) (left left' : Option (List ℕ)) → OfName holds name (ReadsText text) left left' → is_input name ≡ false → IfSome (holds name) (λ bytes. text ≡ bytes)
-text_told holds name text left left' reads is =
-    let read = subst (λ (b : Bool). MatchBool b (ReadsText text left left') ((left' ≡ left) × (rest : Option (List ℕ)) × ReadsText text (holds name) rest)) is reads in
-    Consumes-all (holds name) read.1 text [] text read.2.read read.2.ended refl
-
--- where the text of a list gives none the list does not
+-- where the text of a list gives none the list does not: the text is what the folder tells
 pub file_fails : (reading : Reading) (listed : Listed) (name text : List ℕ) (left left' : Option (List ℕ)) (failure : Failure) → OfName reading.holds name (ReadsText text) left left'
     → IsListedFailure reading.rules listed name text failure → IsFileFailure reading listed name failure
-file_fails reading listed name text left left' failure reads fails = inr (text, text_told reading.holds name text left left' reads, fails)
+file_fails reading listed name text left left' failure reads fails =
+    let told : IsListText reading name text = grind (arith, common_steps) in inr (text, told, fails)

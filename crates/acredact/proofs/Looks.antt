@@ -1,16 +1,13 @@
 -- What a look at a text says: for patterns by what the first call of an iterator over its matches answers, or by what a cover of its words counts; for
 -- lines by what a visitor of them leaves.
-use Rattle.acredact.proofs.Common.{Appends, Appends-nil, Appends-trans, AreSearchedFor, Automata, Consumes-nil, CountsRunsWith, CountsThese, Covering, Ghosts, IsMember, Line, LineError, Look, Memory, MutBor, Occurrence, Patterns, PieceRule, Refused, SinkGhosts, SourceGhosts, StartsWith, StreamError, Write, WriteZero, all-covers, all-made, all_runs, common_steps, counted, covering_by, get_or-replicate, is_write_fault, is_write_of_nothing, length-replicate, most_of, or-false, or_assoc, plain_search, rules_of, runs_named, searched_automaton, shortest, stream_lines, words_of}
+use Rattle.acredact.proofs.Common.{Appends, Appends-nil, Appends-trans, AreSearchedFor, Automata, Consumes-nil, CountsRunsWith, Covering, Failure, Ghosts, Line, LineError, Look, Memory, MutBor, Occurrence, Patterns, Refused, SinkGhosts, SourceGhosts, StartsWith, StreamError, Write, WriteZero, all-made, all_runs, common_steps, counted, covering_by, is_write_fault, is_write_of_nothing, most_of, or-false, or_assoc, plain_search, rules_of, runs_named, searched_automaton, shortest, stream_lines, words_of}
 use Rattle.std.proofs.Common.{◌≡◌, inl, inr, ℕ, ◌<◌, ◌≤◌, ◌++◌, List, [], ◌∷◌, Option, true, false, drop, length, map, refl, sym, ap, subst, take, ◌∙◌, append-nil, append_assoc, arith, le_refl}
 use Rattle.std.specs.Prelude.{Bool, MatchBool, None, Some, Result, Ok, Err, IfOk, OnErr, OnOk, ◌||◌, replicate, slice_index}
 use Rattle.std.proofs.lemmas.List.{take-append-drop}
 use Rattle.aho_core.specs.Answer.{IsAnswer}
 use Rattle.aho_core.specs.Iteration.{IsNextFind}
 use Rattle.aho_cover.proofs.Copied.{begins_with}
-use Rattle.aho_cover.specs.Covers.{CountsWrittenWith}
 use Rattle.aho_cover.specs.Words.{AreRunsWith}
-use Rattle.aho_devices.specs.Errors.{CountsErrors}
-use Rattle.aho_devices.specs.contracts.write.NowhereSink.TheImpl.{ghosts as of_nowhere}
 use Rattle.aho_stream.specs.FindRuns.{FindsAll, FindsAlong, FindsSoFar}
 use Rattle.aho_stream.specs.Finds.{FindsError, FindsNextInStream}
 use Rattle.aho_stream.specs.Iterators.{CanGoOn}
@@ -19,8 +16,10 @@ use Rattle.aho_stream.specs.declared.finds.StreamFindIter.{StreamFindIter}
 use Rattle.aho_stream.specs.declared.progress.StreamProgress.{StreamProgress}
 use Rattle.aho_stream.proofs.FindRuns.{find_steps}
 use Rattle.acredact.specs.Looks.{CountsInGiven, IsLookEnd, LooksAt, LooksSo, SomeCounts, occurs_of, sought, Sought}
-use Rattle.acredact.specs.Secrets.{Redactor, CountsFor}
-use Rattle.acredact.proofs.Redactions.{all_of, occurs_some}
+use Rattle.acredact.specs.Secrets.{Redactor}
+use Rattle.acredact.specs.Totals.{AreTotals}
+use Rattle.acredact.proofs.Redactions.{all_of, occurs_some, runs_hide}
+use Rattle.acredact.proofs.Totals.{totals_of}
 use Rattle.secret_rules.specs.Covering.{AreLineRuns}
 use Rattle.secret_rules.specs.Visits.{LeavesVisited, StopsWithin, VisitsEach, taken_line}
 use Rattle.secret_rules.specs.declared.line_cover.LineCover.{LineCover}
@@ -30,10 +29,6 @@ use Rattle.acredact.specs.Findings.{BeginsFindings, StopsTelling, TellsLine, Tel
 use Rattle.acredact.specs.RuledChecks.{IsByLines}
 use Rattle.acredact.specs.declared.legend.Findings.{Findings}
 use Rattle.acredact.specs.declared.teller.Teller.{Teller}
-
--- the first find is the answer of the search
-first_answer : (p : Patterns) (bytes : List ℕ) (found : Option Occurrence) → IsNextFind p (plain_search bytes) None found → IsAnswer p (plain_search bytes) found
-first_answer p bytes found (answer, is, same) = subst (IsAnswer p (plain_search bytes)) (sym same) is
 
 -- an error of the iterator is one of a look
 error_ends : (p : Patterns) (s s' : StreamProgress) (given : List ℕ) (error : StreamError) → FindsError p s s' given error → IsLookEnd error
@@ -47,14 +42,16 @@ module _ {A R : Type 0} (G : Ghosts A) (S : SourceGhosts R) (p : Patterns) (it r
   pub looks_first : (first : Option (Result Occurrence StreamError)) → FindsNextInStream G S it.chunks rest.chunks first → LooksAt S (sought p false) (occurs_of first) it.chunks.source.now rest.chunks.source.now
   looks_first None step =
       let all : FindsAll S p it.chunks.source.now rest.chunks.source.now [] = along.all [] rest (it, refl, step) refl in
-      record { given = all.given; ended = true; gives = all.gives; seen = (refl, first_answer p all.given None all.all); only = tt }
+      record { given = all.given; ended = true; gives = all.gives; seen = (refl, subst (IsAnswer p (plain_search all.given)) (sym all.all.2) all.all.1); only = tt }
   looks_first (Some (Ok m)) step =
       let so : FindsSoFar S p it.chunks.source.now rest.chunks.source.now (Ok m ∷ []) = along.so_far (Ok m ∷ []) rest (rest, step, refl) in
       record {
         given = so.given;
         ended = so.ended;
         gives = so.gives;
-        seen = λ bytes may. (m, (first_answer p bytes (Some m) (subst (λ (l : List ℕ). IsNextFind p (plain_search l) None (Some m)) (sym may.1) (so.first may.0 may.2).0)).0);
+        seen = λ bytes may.
+            let next : IsNextFind p (plain_search bytes) None (Some m) = subst (λ (l : List ℕ). IsNextFind p (plain_search l) None (Some m)) (sym may.1) (so.first may.0 may.2).0 in
+            (m, (subst (IsAnswer p (plain_search bytes)) (sym next.2) next.1).0);
         only = tt;
       }
   looks_first (Some (Err error)) step =
@@ -71,62 +68,49 @@ looks_memory S r source = record {
   only = tt;
 }
 
--- a look for words says what the counts do, which began at zero
-module _ {R : Type 0} (S : SourceGhosts R) (p : Patterns) (AreSearched : Patterns → Type 0) (of : AreSearched p) (some : 1 ≤ shortest (map length p.words)) (source source' : R) (size : ℕ) (counts : List ℕ)
-    (sized : size ≡ length p.words) (whole : CountsRunsWith S AreSearched true source source' (replicate size 0) counts) where
+-- a look for words says what the counts do
+module _ (p : Patterns) (some : 1 ≤ shortest (map length p.words)) (counts : List ℕ) where
   abbrev SomeCounted : Bool → Type 0
   SomeCounted found = MatchBool found ((number : ℕ) × (number < length counts) × (1 ≤ slice_index counts number)) ((number : ℕ) → number < length counts → slice_index counts number ≡ 0)
 
-  pub looks_counted : (found : Bool) → SomeCounted found → LooksAt S (sought p true) (Ok found) source source'
-  looks_counted found tells = record {
-    given = whole.given;
-    ended = true;
-    gives = whole.gives;
-    seen = by found (all_runs true p whole.given) runs_are (whole.counted p (all_runs true p whole.given) of runs_are) covered tells;
-    only = tt;
-  }
-    where
-      runs_are : AreRunsWith true p whole.given (all_runs true p whole.given)
-      runs_are = all-made p whole.given true
+  counts_say : (given : List ℕ) (runs : List Occurrence) → AreRunsWith true p given runs → AreTotals (length p.words) runs counts → (found : Bool) → SomeCounted found → CountsInGiven (sought p true) found given true
+  counts_say given [] are totals true (number, within, one) =
+      let none : runs_named number [] ≡ 0 = refl in
+      absurd (omega (arith, one, none, totals.each number (omega (arith, within, totals.one_each))))
+  counts_say given (run ∷ runs) are totals true counted = λ bytes may.
+      let is_run = (are.members run).0 (inl refl) in
+      subst (λ (l : List ℕ). SomeCounts (sought p true) l) (sym (all_of given bytes may)) (is_run.longest, is_run.longest_is.0.0)
+  counts_say given [] are totals false none =
+      (refl, λ m word. ((runs_hide (sought p true) given [] are).hidden m.start (record { found = m; member = word; after_start = le_refl m.start; before_end = occurs_some p some given 0 m word.occurs })).member)
+  counts_say given (run ∷ runs) are totals false none =
+      let is_run = (are.members run).0 (inl refl) in
+      let within : run.pattern < length p.words = omega (arith, is_run.named, is_run.longest_is.0.0.occurs.numbered) in
+      let one : 1 ≤ runs_named run.pattern (run ∷ runs) = grind (arith, common_steps) in
+      absurd (omega (arith, one, totals.each run.pattern within, none run.pattern (omega (arith, within, totals.one_each))))
 
-      -- what counts lies in a run
-      covered : (m : Occurrence) → CountsFor (sought p true) whole.given m → (run : Occurrence) × IsMember (all_runs true p whole.given) run
-      covered m word =
-          let full = occurs_some p some whole.given 0 m word.occurs in
-          let run = (all-covers p whole.given true).has m.start (record { found = m; member = word; after_start = le_refl m.start; before_end = full }) in
-          (run.found, run.member)
-
-      by : (found : Bool) (runs : List Occurrence) → AreRunsWith true p whole.given runs → CountsThese runs (replicate size 0) counts → ((m : Occurrence) → CountsFor (sought p true) whole.given m → (run : Occurrence) × IsMember runs run)
-          → SomeCounted found → CountsInGiven (sought p true) found whole.given true
-      by true [] are these has (number, within, one) =
-          let many : length counts ≡ size = these.as_many ∙ length-replicate {A = ℕ} size 0 in
-          let none : runs_named number [] ≡ 0 = refl in
-          absurd (omega (arith, one, none, these.grown number (omega (arith, within, these.as_many)), get_or-replicate {A = ℕ} size number 0 0 (omega (arith, within, many))))
-      by true (run ∷ runs) are these has some_counted = λ bytes may.
-          let is_run = (are.members run).0 (inl refl) in
-          subst (λ (l : List ℕ). SomeCounts (sought p true) l) (sym (all_of whole.given bytes may)) (is_run.longest, is_run.longest_is.0.0)
-      by false [] are these has none = (refl, λ m word. (has m word).1)
-      by false (run ∷ runs) are these has none =
-          let is_run = (are.members run).0 (inl refl) in
-          let within : run.pattern < size = omega (arith, is_run.named, is_run.longest_is.0.0.occurs.numbered, sized) in
-          let many : length counts ≡ size = these.as_many ∙ length-replicate {A = ℕ} size 0 in
-          let one : 1 ≤ runs_named run.pattern (run ∷ runs) = grind (arith, common_steps) in
-          absurd (omega (arith, one, these.grown run.pattern (omega (arith, within, many, these.as_many)), get_or-replicate {A = ℕ} size run.pattern 0 0 within, none run.pattern (omega (arith, within, many))))
+  -- which began at zero
+  pub looks_counted : {R : Type 0} (S : SourceGhosts R) (AreSearched : Patterns → Type 0) {source source' : R} {size : ℕ} {zeros : List ℕ} → AreSearched p → zeros ≡ replicate size 0 → size ≡ length p.words
+      → CountsRunsWith S AreSearched true source source' zeros counts → (found : Bool) → SomeCounted found → LooksAt S (sought p true) (Ok found) source source'
+  looks_counted S AreSearched {size = size} {zeros = zeros} of are sized whole found tells =
+      let runs = all_runs true p whole.given in
+      let made = all-made p whole.given true in
+      record {
+        given = whole.given;
+        ended = true;
+        gives = whole.gives;
+        seen = counts_say whole.given runs made (subst (λ (n : ℕ). AreTotals n runs counts) sized (totals_of size runs zeros counts are (whole.counted p runs of made))) found tells;
+        only = tt;
+      }
 
 -- why a cover that writes to nowhere ends early
-fault_looks : (error : StreamError) → IsStreamFault error → 0 ≡ counted (is_write_fault {A = Unit {0}} (Err error)) 0 → 0 ≡ counted (is_write_of_nothing {A = Unit {0}} (Err error)) 0 → IsLookEnd error
+pub fault_looks : (error : StreamError) → IsStreamFault error → 0 ≡ counted (is_write_fault {A = Unit {0}} (Err error)) 0 → 0 ≡ counted (is_write_of_nothing {A = Unit {0}} (Err error)) 0 → IsLookEnd error
 fault_looks (Refused cause) is failed nothing = absurd is
 fault_looks (Write fault) is failed nothing = absurd (omega (arith, failed))
 fault_looks WriteZero is failed nothing = absurd (omega (arith, nothing))
 fault_looks error is failed nothing = tt
 
-pub looks_cut : {R : Type 0} (S : SourceGhosts R) (p : Patterns) {AreSearched : Patterns → Type 0} {rule : PieceRule} {source source' : R} {sink sink' : _} {counts counts' : List ℕ} (error : StreamError)
-    → CountsWrittenWith S of_nowhere AreSearched true rule source source' sink sink' counts counts' → CountsErrors {A = Unit {0}} S of_nowhere source source' sink sink' (Err error) → IsStreamFault error → LooksAt S (sought p true) (Err error) source source'
-looks_cut S p error written errors is =
-    record { given = written.given; ended = written.ended; gives = written.gives; seen = tt; only = fault_looks error is errors.write_failed errors.took_nothing }
-
 -- what a look at a stream means for its file
-pub looked_stream : {R X : Type 0} (S : SourceGhosts R) {r : Redactor} (name : List ℕ) (held : Option (List ℕ)) {source source' : R} (occurs : Result Bool StreamError) (result : Result Look X)
+pub looked_stream : {R : Type 0} (S : SourceGhosts R) {r : Redactor} (name : List ℕ) (held : Option (List ℕ)) {source source' : R} (occurs : Result Bool StreamError) (result : Result Look Failure)
     → ((given : List ℕ) (ended : Bool) → IfOk occurs (λ found. CountsInGiven r found given ended) → LooksSo (inl r) name result given ended []) → LooksAt S r occurs source source'
     → SomeStream S (BegunAs (λ given ended part. LooksSo (inl r) name result given ended part) held held) source source'
 looked_stream S name held occurs result so looks = record { given = looks.given; ended = looks.ended; gives = looks.gives; is = ([], so looks.given looks.ended looks.seen, Appends-nil held) }
@@ -194,7 +178,7 @@ module _ {A W : Type 0} (K : SinkGhosts W) (L : VisitorGhosts (Teller W)) (cover
     are_by lines runs are = subst (λ (c : Covering). AreLineRuns c [] lines runs) (sym by.covers) are
 
     -- what comes of a text, by what the visits of its lines leave
-    pub looked_lines : {X : Type 0} (done : Result (Unit {0}) LineError) (result : Result Look X)
+    pub looked_lines : (done : Result (Unit {0}) LineError) (result : Result Look Failure)
         → ((given part : List ℕ) (ended : Bool) → OnOk done (TellsText by.lines visitor.findings.name.now visitor'.findings.found given ended part) → OnErr done (BeginsFindings by.lines visitor.findings.name.now given ended part)
         → LooksSo (inr by.lines) visitor.findings.name.now result given ended part) → LeavesVisited S L (AreSearchedFor G (searched_automaton cover)) (words_of cover) (rules_of cover) (most_of cover) source source' visitor visitor' done
         → (visitor'.output.ghost_name ≡ visitor.output.ghost_name)

@@ -1,7 +1,8 @@
 -- What comes of one file, by what comes of its stream.
-use Rattle.acredact.proofs.Common.{Appends-nil, Consumes, Consumes-nil, FromWrite, IsAtEnd, Keeps, Keeps-refl, PositionLimit, Read, SinkGhosts, SourceGhosts, StreamError, counted, is_input, is_write_fault, is_write_of_nothing}
-use Rattle.std.proofs.Common.{◌≡◌, ◌≢◌, inl, ℕ, List, [], ◌∷◌, Option, true, false, refl, sym, ap, subst, ◌∙◌, arith}
-use Rattle.std.specs.Prelude.{Bool, None, Some, Result, Ok, Err, IfErr, OnOk}
+use Rattle.acredact.proofs.Common.{Appends-nil, Consumes, Consumes-nil, FromWrite, IsAtEnd, Keeps, Keeps-refl, PositionLimit, Read, SinkGhosts, SourceGhosts, StreamError, counted, is_input, is_write_fault, is_write_of_nothing, at_end}
+use Rattle.std.proofs.Common.{◌≡◌, ◌≢◌, inl, ℕ, List, [], ◌∷◌, Option, true, false, refl, ap, subst, ◌∙◌, arith}
+use Rattle.std.specs.Prelude.{Bool, None, Result, Ok, Err, IfErr, OnOk, Some}
+use Rattle.std.proofs.KnownBytes.{Consumes-kept, Consumes-trans}
 use Rattle.aho_core.specs.declared.error.stream.StreamError.TheVariants.{Match}
 use Rattle.acredact.specs.Deeds.{Deed, SomeStream, SomeText, WholeStream, WholeText}
 use Rattle.acredact.specs.Faults.{IsStreamEnd, reading_of}
@@ -45,13 +46,11 @@ module _ {R : Type 0} (S : SourceGhosts R) (source source' : R) (known left' : O
   comes_by K d sink sink' (Err PositionLimit) of = inl (tt, some_text of.begun, some_text (of.near tt))
   comes_by K d sink sink' (Err error) of = some_text of.begun
 
-module _ {R : Type 0} (S : SourceGhosts R) (source source' : R) (before : Option (List ℕ)) (left : S.remaining source ≡ before) (none : S.empty_reads source ≡ 0) (ends : S.empty_reads source' ≢ 0 → IsAtEnd (S.remaining source')) where
-  reads_before : (text : List ℕ) → Consumes (S.remaining source) (S.remaining source') text → Consumes before (S.remaining source') text
-  reads_before text read = subst (λ bytes. Consumes bytes (S.remaining source') text) left read
-
-  -- what is so of what it gave is so of what was read
-  pub begun_writing : {Is : List ℕ → Bool → Type 0} → SomeStream S Is source source' → SomeText Is before (S.remaining source')
-  begun_writing = some_text S source source' before (S.remaining source') reads_before none ends
+-- what is so of what it gave is so of what was read
+pub begun_writing : {R : Type 0} (S : SourceGhosts R) (source source' : R) (before : Option (List ℕ)) → S.remaining source ≡ before → S.empty_reads source ≡ 0
+    → ((bytes : List ℕ) → S.empty_reads source' ≢ 0 → S.remaining source' ≡ Some bytes → bytes ≡ []) → {Is : List ℕ → Bool → Type 0} → SomeStream S Is source source' → SomeText Is before (S.remaining source')
+begun_writing S source source' before left none ended =
+    some_text S source source' before (S.remaining source') (λ text read. subst (λ bytes. Consumes bytes (S.remaining source') text) left read) none (λ some. at_end (S.remaining source') (λ bytes known. ended bytes some known))
 
 -- what an end of a stream means
 pub reading_whole : {P : Type 0} (done : Result (Unit {0}) StreamError) → reading_of done ≡ Ok None → OnOk done P → P
@@ -67,10 +66,7 @@ reading_fails done output output' failed nothing only = record { write_failed = 
 
 -- the texts of what is known
 pub known_read : (told left left' : Option (List ℕ)) (text : List ℕ) → Keeps told left → Consumes left left' text → Consumes told left' text
-known_read None left left' text kept read = tt
-known_read (Some xs) None left' text kept read = absurd kept
-known_read (Some xs) (Some ys) None text kept read = absurd read
-known_read (Some xs) (Some ys) (Some zs) text kept read = sym kept ∙ read
+known_read told left left' text kept read = Consumes-trans told left left' [] text (Consumes-kept told told left [] (Consumes-nil told) kept) read
 
 pub known_begun : (told left left' held held' : Option (List ℕ)) → Keeps told left → {Begins : List ℕ → Bool → List ℕ → Type 0} → BeginsWriting Begins left left' held held' → BeginsWriting Begins told left' held held'
 known_begun told left left' held held' kept begun =

@@ -1,6 +1,6 @@
 -- What comes of a call by what comes of its files, and what its exit status says.
 use Rattle.acredact.proofs.Common.{Errors, Failure, SinkGhosts, Tells, TellsSome}
-use Rattle.std.proofs.Common.{◌≡◌, ℕ, List, true, false, refl, sym, arith}
+use Rattle.std.proofs.Common.{◌≡◌, ◌∙◌, ℕ, List, true, false, refl, subst, sym, arith}
 use Rattle.std.specs.Prelude.{Bool, Result, Ok, Err, IfErr, IfOk, OnOk}
 use Rattle.acredact.specs.Calls.{TellsUnlessAll}
 use Rattle.acredact.specs.Failures.{EndsCall, IsFailureLine}
@@ -23,16 +23,14 @@ module _ {E : Type 0} (X : Type 0) (K : SinkGhosts E) (IsTold IsLine : List ℕ 
   all_told : Tells K IsTold first new
   all_told = tells_both K IsTold first old new before (tells_both K IsTold old mid new (told_by {X = X} K IsLine IsTold (Ok all) old mid may told) later)
 
-  pub files_then : {Whole : Bool → Type 0} {Begun Notes : Type 0} {MayEnd : Failure → Type 0} → Begun → (result : Result Bool Failure) → IfOk result (λ done. done ≡ all) → IfErr result MayEnd → (all ≡ true → OnOk result (Whole true × Notes))
-      → ComesOf K IsTold (λ all. all) Whole (TellsSome K IsTold first new) Begun Notes MayEnd result first new
-  files_then begun (Ok true) same fails whole =
-      record { whole = λ is. (whole (sym same)).0; begun = begun; told = all_told; partly = λ (is : true ≡ false). absurd (cc); notes = λ is. (whole (sym same)).1; fails = tt }
-  files_then begun (Ok false) same fails whole = record {
-    whole = λ (is : false ≡ true). absurd (cc);
+  pub files_then : {V : Type 0} {all_of : V → Bool} {Whole : V → Type 0} {Begun Notes : Type 0} {MayEnd : Failure → Type 0} → Begun → (result : Result V Failure) → IfOk result (λ done. all_of done ≡ all) → IfErr result MayEnd
+      → (all ≡ true → IfOk result (λ done. Whole done × Notes)) → ComesOf K IsTold all_of Whole (TellsSome K IsTold first new) Begun Notes MayEnd result first new
+  files_then begun (Ok done) same fails whole = record {
+    whole = λ is. (whole (sym same ∙ is)).0;
     begun = begun;
     told = all_told;
-    partly = λ is. some_behind K IsTold first old new before (some_then K IsTold old mid new (some_weaker K IsLine IsTold old mid may (rw (sym same) at told)) later);
-    notes = λ (is : false ≡ true). absurd (cc);
+    partly = λ is. some_behind K IsTold first old new before (some_then K IsTold old mid new (some_weaker K IsLine IsTold old mid may (subst (λ (b : Bool). TellsUnlessAll {X = X} K IsLine (Ok b) old mid) (sym same ∙ is) told)) later);
+    notes = λ is. (whole (sym same ∙ is)).1;
     fails = tt;
   }
   files_then begun (Err failure) same fails whole = comes_early begun all_told fails

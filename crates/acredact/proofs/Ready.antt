@@ -55,9 +55,8 @@ module _ (given : List Given) (rules : List Rule) (ready : Ready) (is : IsReadyF
   -- it redacts files
   pub ready_redacts : (covers : Bool) → covers ≡ covers_asked given → (replacements : List (Bor (List ℕ))) → pieces_of replacements ≡ pieces_of ready.replacements.items → CanRedact of_searcher ready.searcher covers replacements
   ready_redacts covers same replacements pieces =
-      let many = λ (l : List (Bor (List ℕ))). sym (length-map l (λ piece. piece.now)) in
       searches covers (λ asked. sym same ∙ asked)
-      (many replacements ∙ ap length (pieces ∙ is.pieces) ∙ length-map (secrets_of rules) _ ∙ sym (length-map (secrets_of rules) _) ∙ sym (count_of (patterns_by_given given (patterns_in (secrets_of rules))) ready.searcher is.of))
+      (sym (length-map replacements (λ piece. piece.now)) ∙ ap length (pieces ∙ is.pieces) ∙ length-map (secrets_of rules) _ ∙ sym (length-map (secrets_of rules) _) ∙ sym (count_of (patterns_by_given given (patterns_in (secrets_of rules))) ready.searcher is.of))
 
   -- and looks at them
   pub ready_looks : (words : Bool) → words ≡ words_asked given → IsByTexts of_searcher ready.searcher words (texts_looked_for given (secrets_of rules))

@@ -1,9 +1,9 @@
 -- What a cover or a replacement of a stream writes is a redaction, and what it begins is begun. Where no pattern is empty each that occurs shares a byte with a find.
-use Rattle.acredact.proofs.Common.{AreFinds, CanBegin, Ghosts, IfErr-weaker, Memory, No, Occurrence, Patterns, Refused, SinkGhosts, SourceGhosts, Standard, StartsWith, StreamError, all-covers, all-made, all_runs, cases_lt, finds-exist, on_ok_weaker, plain_search, shortest}
-use Rattle.std.proofs.Common.{◌≡◌, ◌≢◌, ◌⊎◌, inl, inr, ℕ, ◌+◌, ◌<◌, ◌≤◌, ◌∷◌, ◌++◌, List, [], true, false, length, map, refl, sym, ap, subst, ◌∙◌, append-nil, arith, le_refl, length-append}
+use Rattle.acredact.proofs.Common.{AreFinds, CanBegin, CountsThese, Ghosts, IfErr-weaker, IsCleanPiece, Memory, No, Occurrence, Patterns, Refused, SinkGhosts, SourceGave, SourceGhosts, Standard, StartsWith, StreamError, all-covers, all-made, all_runs, cases_lt, finds-exist, on_ok_weaker, plain_search, shortest}
+use Rattle.std.proofs.Common.{◌≡◌, ◌≢◌, ◌⊎◌, inl, inr, ℕ, ◌+◌, ◌<◌, ◌≤◌, ◌∷◌, ◌++◌, List, [], true, false, length, map, refl, sym, ap, ◌∙◌, append-nil, arith, le_refl, length-append}
 use Rattle.std.specs.Prelude.{Bool, MatchBool, Option, None, Some, Result, Ok, Err, IfErr, OnErr, OnOk, is_some}
 use Rattle.std.proofs.lemmas.Result.{on_err_weaker}
-use Rattle.aho_core.specs.Cover.{AreRuns, AreRunsOf}
+use Rattle.aho_core.specs.Cover.{AreRunsOf}
 use Rattle.aho_core.specs.Occurs.{Occurs}
 use Rattle.aho_core.specs.Order.{IsBefore}
 use Rattle.aho_core.specs.Replacement.{replaced, replaced_by}
@@ -12,7 +12,6 @@ use Rattle.aho_core.specs.declared.search.MatchKind.{MatchKind}
 use Rattle.aho_devices.specs.Errors.{CountsErrors}
 use Rattle.aho_laws.specs.CutLaws.{NoneIsEmpty}
 use Rattle.aho_laws.proofs.ClearCuts.{Occurs-full, Occurs-in, find-best}
-use Rattle.aho_laws.proofs.CoverClean.{cover-free}
 use Rattle.aho_laws.proofs.CoverKept.{kept-uncovered}
 use Rattle.aho_laws.proofs.CoverRuns.{Covers}
 use Rattle.aho_stream.proofs.PatternLengths.{shortest_bounds}
@@ -22,13 +21,10 @@ use Rattle.aho_stream.specs.Replacing.{BeginsReplacing, GaveAsMany, IsStreamFaul
 use Rattle.acredact.specs.Bounds.{Bounded}
 use Rattle.acredact.specs.Faults.{IsStreamEnd}
 use Rattle.acredact.specs.Files.{deed_of}
-use Rattle.aho_cover.specs.Covers.{IsUnbegunWith, LeavesCoveredWith, LeavesCountedWith}
-use Rattle.aho_cover.specs.declared.progress.CoverProgress.{CoverProgress}
+use Rattle.aho_cover.specs.Covers.{LeavesCoveredWith, LeavesCountedWith}
 use Rattle.aho_cover.specs.Pieces.{piece_in}
-use Rattle.aho_cover.specs.Words.{AreRunsWith}
 use Rattle.aho_cover.proofs.Chosen.{all-are}
-use Rattle.acredact.specs.Pseudonyms.{pseudonym_rule}
-use Rattle.acredact.specs.Secrets.{AreCleanBy, AreReplaced, BeginsRedaction, CountsFor, IsRedaction, IsTouched, Keyed, NoByteIsKept, NoneIsWhole, NoneOccurs, Redactor, rule_by, rule_of}
+use Rattle.acredact.specs.Secrets.{AreCleanBy, AreReplaced, BeginsRedaction, CountsFor, IsRedaction, IsTouched, Keyed, NoByteIsKept, NoneIsWhole, Redactor, rule_by, rule_of}
 use Rattle.acredact.specs.Streams.{DoesStream, StreamOutcome}
 use Rattle.acredact.proofs.Flaws.{made-free, pseudonyms_clean}
 use Rattle.acredact.specs.Deeds.{Deed}
@@ -36,10 +32,11 @@ use Rattle.acredact.proofs.Totals.{grow_few, grow_none}
 use Rattle.aho_laws.specs.CoverLaws.{AreInOrder}
 use Rattle.aho_laws.proofs.SettledRuns.{few-open}
 
--- what is before another does not start after the other ends: both have a byte
-not_after : (kind : MatchKind) (m o : Occurrence) → m.start < m.end → o.start < o.end → IsBefore kind m o → m.start < o.end
-not_after Standard m o some_m some_o before = grind arith
-not_after kind m o some_m some_o before = grind arith
+-- what is another, or is before it, does not start after the other ends: both have a byte
+not_after : (kind : MatchKind) (m o : Occurrence) → m.start < m.end → o.start < o.end → (o ≡ m) ⊎ IsBefore kind m o → m.start < o.end
+not_after kind m o some_m some_o (inl same) = omega (arith, some_o, ap (λ (x : Occurrence). x.start) same)
+not_after Standard m o some_m some_o (inr before) = grind arith
+not_after kind m o some_m some_o (inr before) = grind arith
 
 module _ (p : Patterns) (no_empty : 1 ≤ shortest (map length p.words)) (bytes : List ℕ) where
   full : NoneIsEmpty p
@@ -54,19 +51,8 @@ module _ (p : Patterns) (no_empty : 1 ≤ shortest (map length p.words)) (bytes 
   touched_from [] from last finds o occurs = absurd (find-best p full bytes from (length bytes) last None finds o occurs)
   touched_from (m ∷ ms) from last finds o occurs =
       let best = find-best p full bytes from (length bytes) last (Some m) finds.0 in
-      let some_m = occurs_some from m best.0 in
       elim (cases_lt o.start m.end) [
-        | inl early ↦ (
-          m,
-          inl refl,
-          (
-            elim (best.1 o occurs) [
-              | inl same ↦ omega (arith, some_m, ap (λ (x : Occurrence). x.end) same)
-              | inr before ↦ not_after p.kind m o some_m (occurs_some from o occurs) before
-            ],
-            early,
-          ),
-        )
+        | inl early ↦ (m, inl refl, (not_after p.kind m o (occurs_some from m best.0) (occurs_some from o occurs) (best.1 o occurs), early))
         | inr late ↦
             (let rest = touched_from ms m.end (Some m.end) finds.1 o (Occurs-in p bytes from (length bytes) m.end (length bytes) o late occurs.before_end occurs) in
             (rest.0, inr rest.1, rest.2))
@@ -89,21 +75,16 @@ no_more given true = ([], sym (append-nil given), refl)
 no_more given false = ([], sym (append-nil given), tt)
 
 module _ (r : Redactor) (text : List ℕ) where
-  -- where all that occurs counts, runs are those of that
-  plain_runs : (runs : List Occurrence) → r.words ≡ false → AreRunsOf (CountsFor r text) runs → AreRuns r.patterns text runs
-  plain_runs runs all are = subst (λ (b : Bool). AreRunsWith b r.patterns text runs) all are
-
   -- the runs of a text hold each byte of what counts in it
-  runs_hide : (runs : List Occurrence) → AreRunsOf (CountsFor r text) runs → NoByteIsKept r text runs
+  pub runs_hide : (runs : List Occurrence) → AreRunsOf (CountsFor r text) runs → NoByteIsKept r text runs
   runs_hide runs are =
-      let covers : Covers (CountsFor r text) runs (length text) =
-      subst (λ (xs : List Occurrence). Covers (CountsFor r text) xs (length text)) (sym (all-are r.patterns text r.words runs are)) (all-covers r.patterns text r.words) in
-      record { hidden = covers.has; only = covers.only; stays = λ all. kept-uncovered r.patterns text runs (plain_runs runs all are) }
+      let covers : Covers (CountsFor r text) runs (length text) = rw (all-are r.patterns text r.words runs are) (all-covers r.patterns text r.words) in
+      record { hidden = covers.has; only = covers.only; stays = λ all. kept-uncovered r.patterns text runs (rw all at are) }
 
   -- so no secret is left, by either way
   safe_by : (covers : Bool) (ranges : List Occurrence) → 1 ≤ shortest (map length r.patterns.words) → MatchBool covers (AreRunsOf (CountsFor r text) ranges) (AreFinds r.patterns (plain_search text) None ranges)
       → MatchBool covers (NoByteIsKept r text ranges) (NoneIsWhole r.patterns text ranges)
-  safe_by true ranges some found = runs_hide ranges found
+  safe_by true ranges some are = runs_hide ranges are
   safe_by false ranges some found = record { touched = λ o occurs. touched_from r.patterns some text ranges 0 None found o occurs }
 
   ranges_exist : (covers : Bool) → (ranges : List Occurrence) × MatchBool covers (AreRunsOf (CountsFor r text) ranges) (AreFinds r.patterns (plain_search text) None ranges)
@@ -114,12 +95,10 @@ module _ (r : Redactor) (text : List ℕ) where
 abbrev pub redacted : Redactor → List ℕ → List Occurrence → List ℕ
 redacted r text ranges = replaced_by text ranges (piece_in (rule_of r) text)
 
--- no pattern occurs in a cover whose pieces are clean
-clean_by : (key : Option Keyed) (p : Patterns) (pieces : List (List ℕ)) → AreCleanBy (is_some key) p pieces → (text : List ℕ) (runs : List Occurrence) → AreRuns p text runs
-    → NoneOccurs p (replaced_by text runs (piece_in (rule_by key pieces) text))
-clean_by None p pieces clean text runs are m occurs = cover-free p pieces clean text (replaced text runs pieces) (runs, are, refl) m occurs
-clean_by (Some key) p pieces clean text runs are m occurs =
-    made-free p (pseudonym_rule key.ignore_case key.bytes) (pseudonyms_clean p clean key.ignore_case key.bytes) text runs are m occurs
+-- what is written in the place of a run is clean, by either rule
+clean_by : (key : Option Keyed) (p : Patterns) (pieces : List (List ℕ)) → AreCleanBy (is_some key) p pieces → (number : ℕ) (bytes : List ℕ) → number < length p.words → IsCleanPiece p (rule_by key pieces number bytes)
+clean_by None p pieces clean number bytes numbered = clean number numbered
+clean_by (Some key) p pieces clean number bytes numbered = pseudonyms_clean p clean key.ignore_case key.bytes number bytes numbered
 
 module _ (r : Redactor) (some : 1 ≤ shortest (map length r.patterns.words)) where
   -- a text with its ranges replaced is its redaction
@@ -129,7 +108,7 @@ module _ (r : Redactor) (some : 1 ≤ shortest (map length r.patterns.words)) wh
     found = found;
     safe = safe_by r text r.covers ranges some found;
     is = refl;
-    clean = λ covers all are m. clean_by r.key r.patterns r.pieces are text ranges (plain_runs r text ranges all (rw covers at found)) m;
+    clean = λ covers all are. made-free r.patterns (rule_of r) (clean_by r.key r.patterns r.pieces are) text ranges (rw (covers, all) at found);
   }
 
   -- what begins the replacement of each text that may come begins its redaction
@@ -139,10 +118,6 @@ module _ (r : Redactor) (some : 1 ≤ shortest (map length r.patterns.words)) wh
   begins_by given ended part beginning text may =
       let ranges = ranges_exist r text r.covers in
       (redacted r text ranges.0, redaction_by text ranges.0 ranges.1, beginning text ranges.0 may ranges.1)
-
-  -- nothing begins each
-  pub begins_nothing : (given : List ℕ) (ended : Bool) → BeginsRedaction r given ended []
-  begins_nothing given ended = begins_by given ended [] (λ text ranges may found. refl)
 
 -- a replacement of matches that share no byte
 abbrev pub plain_by : Patterns → List (List ℕ) → Redactor
@@ -172,10 +147,6 @@ outcome_plain S K p pieces source source' sink sink' AreSearched of some result 
       only = only;
     }
 
--- no pattern is empty of an automaton that can search streams
-pub some_of : {A : Type 0} (G : Ghosts A) (automaton : A) (p : Patterns) → G.lengths automaton ≡ map length p.words → CanBegin G automaton → 1 ≤ shortest (map length p.words)
-some_of G automaton p are can = subst (λ (ns : List ℕ). 1 ≤ shortest ns) are can.1
-
 -- what suits is not refused
 pub never_refused : {A : Type 0} (G : Ghosts A) (automaton : A) → CanBegin G automaton → (result : Result (Unit {0}) StreamError)
     → ((sid : ℕ) (reason : MatchErrorKind) → 1 ≤ shortest (G.lengths automaton) → G.start automaton No ≡ Ok sid → result ≢ Err (Refused reason)) → IfErr result IsStreamEnd
@@ -190,19 +161,18 @@ fault_ends error is = tt
 
 -- and one that is replaced by a walk backward
 pub back_ends : (error : StreamError) → (error ≡ Memory) ⊎ IsStreamFault error → IsStreamEnd error
-back_ends error (inl memory) = subst IsStreamEnd (sym memory) tt
+back_ends error (inl memory) = rw memory tt
 back_ends error (inr fault) = fault_ends error fault
 
--- no pattern is empty where a cover can begin
-pub some_cover : {A : Type 0} (G : Ghosts A) (automaton : A) {words : Bool} {progress : CoverProgress} (p : Patterns) → G.lengths automaton ≡ map length p.words → IsUnbegunWith words G automaton progress
-    → 1 ≤ shortest (map length p.words)
-some_cover G automaton p are can = subst (λ (ns : List ℕ). 1 ≤ shortest ns) are can.no_empty
-
--- a text has no more runs than bytes
-runs_few : (words : Bool) (p : Patterns) (text : List ℕ) → length (all_runs words p text) ≤ length text
-runs_few words p text =
-    let ordered : AreInOrder (all_runs words p text) (length text) = (all-covers p text words).ordered in
-    omega (arith, few-open (all_runs words p text) 1 (length text) ordered (λ x there. omega (arith, ordered.full x there)))
+-- a text has no more runs than bytes, so where the first of them are counted nothing has grown by more than was given
+bounded_by : {R : Type 0} (S : SourceGhosts R) (source source' : R) (counts counts' : List ℕ) (words : Bool) (p : Patterns) (given : List ℕ) (ended : Bool) (first later : List Occurrence)
+    → SourceGave S source source' given ended → all_runs words p given ≡ first ++ later → CountsThese first counts counts' → Bounded S source source' counts counts'
+bounded_by S source source' counts counts' words p given ended first later gives are counted =
+    let runs = all_runs words p given in
+    let ordered : AreInOrder runs (length given) = (all-covers p given words).ordered in
+    let few = few-open runs 1 (length given) ordered (λ x there. omega (arith, ordered.full x there)) in
+    let grown = grow_few first counts counts' (length given) counted (omega (arith, few, ap length are, length-append first later)) in
+    record { given = given; ended = ended; gives = gives; is = grown }
 
 -- and what covers them redacts by a cover
 pub does_cover : {R W : Type 0} (S : SourceGhosts R) (K : SinkGhosts W) (r : Redactor) → r.covers ≡ true → (AreSearched : Patterns → Type 0) → AreSearched r.patterns
@@ -213,20 +183,12 @@ does_cover S K r covers AreSearched of some source source' sink sink' result cou
   outcome = record {
     redacted = on_ok_weaker result (λ whole.
         let (runs, are, is) = whole.covers r.patterns of in
-        record {
-          text = whole.given;
-          gives = whole.gives;
-          is = (whole.output, subst (IsRedaction r whole.given) (sym is) (redaction_by r some whole.given runs (rw covers are)), whole.writes);
-        }) leaves.covered;
+        record { text = whole.given; gives = whole.gives; is = (redacted r whole.given runs, redaction_by r some whole.given runs (rw covers are), rw is at whole.writes) }) leaves.covered;
     begun = on_err_weaker result (λ begun. record {
       given = begun.given;
       ended = begun.ended;
       gives = begun.gives;
-      is = (
-        begun.written,
-        begins_by r some begun.given begun.ended begun.written (λ text runs may found. begun.beginning r.patterns text (redacted r text runs) of may (runs, rw covers at found, refl)),
-        begun.writes,
-      );
+      is = (begun.written, begins_by r some begun.given begun.ended begun.written (λ text runs may found. begun.beginning r.patterns text (redacted r text runs) of may (runs, rw covers at found, refl)), begun.writes);
     }) leaves.begun;
     near = IfErr-weaker result _ _ (λ error near fills.
         let up = near fills in
@@ -249,31 +211,19 @@ does_cover S K r covers AreSearched of some source source' sink sink' result cou
       let runs = all_runs r.words r.patterns whole.given in
       let are = all-made r.patterns whole.given r.words in
       (runs, record { text = whole.given; gives = whole.gives; is = rw covers are }, whole.counted r.patterns runs of are)) counts_so.counted;
-  most = λ measured. given result counts_so;
+  most = λ measured. most result counts_so;
 }
   where
     -- no more is counted than was given
-    given : (result : Result (Unit {0}) StreamError) → LeavesCountedWith S K AreSearched r.words (rule_of r) source source' sink sink' counts counts' result → Bounded S source source' counts counts'
-    given (Ok x) leaves =
+    most : (result : Result (Unit {0}) StreamError) → LeavesCountedWith S K AreSearched r.words (rule_of r) source source' sink sink' counts counts' result → Bounded S source source' counts counts'
+    most (Ok x) leaves =
         let whole = leaves.counted in
         let runs = all_runs r.words r.patterns whole.given in
-        record {
-          given = whole.given;
-          ended = true;
-          gives = whole.gives;
-          is = grow_few runs counts counts' (length whole.given) (whole.counted r.patterns runs of (all-made r.patterns whole.given r.words)) (runs_few r.words r.patterns whole.given);
-        }
-    given (Err error) leaves =
+        bounded_by S source source' counts counts' r.words r.patterns whole.given true runs [] whole.gives (sym (append-nil runs)) (whole.counted r.patterns runs of (all-made r.patterns whole.given r.words))
+    most (Err error) leaves =
         let some = leaves.begun in
-        let runs = all_runs r.words r.patterns some.given in
-        let (later, are, ends) = some.beginning r.patterns some.given runs of (no_more some.given some.ended) (all-made r.patterns some.given r.words) in
-        let sizes : length runs ≡ length some.first + length later = ap length are ∙ length-append some.first later in
-        record {
-          given = some.given;
-          ended = some.ended;
-          gives = some.gives;
-          is = grow_few some.first counts counts' (length some.given) some.counted (omega (arith, sizes, runs_few r.words r.patterns some.given));
-        }
+        let (later, are, ends) = some.beginning r.patterns some.given (all_runs r.words r.patterns some.given) of (no_more some.given some.ended) (all-made r.patterns some.given r.words) in
+        bounded_by S source source' counts counts' r.words r.patterns some.given some.ended some.first later some.gives are some.counted
 
 -- where nothing is counted nothing has grown
 pub ungrown : {R W : Type 0} {S : SourceGhosts R} {K : SinkGhosts W} {d : Deed} {source source' : R} {sink sink' : W} (counts : List ℕ) (result : Result (Unit {0}) StreamError) → StreamOutcome S K d source source' sink sink' result → Bounded S source source' counts counts

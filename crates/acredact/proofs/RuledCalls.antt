@@ -1,67 +1,156 @@
--- What comes of a call with rules, and its status: of a redaction, and of a check.
-use Rattle.acredact.proofs.Common.{All-nil, AreSearchedFor, AsWord, Automata, CanCoverLines, Errors, Failure, IfOk-weaker, Keeps, LineError, Occurrence, Readers, SinkGhosts, StreamError, Streams, Tells, TellsBytes, Verdict, Volume, Writers, bytes_left, length-map, most_of, on_ok_weaker, output_bytes, rules_of, runs_named, searched_automaton, words_of}
-use Rattle.std.proofs.Common.{List, Option, [], ap, arith, false, inl, inr, length, length-append, map, refl, subst, sym, true, ℕ, ◌++◌, ◌+◌, ◌-◌, ◌∙◌, ◌∷◌, ◌≡◌}
-use Rattle.std.specs.Prelude.{Bool, Err, IfErr, IfOk, IsErr, MatchBool, Ok, OnOk, Result, if◌then◌else◌, min, replicate, slice_index, ◌==◌, ◌^◌}
+-- Calls with rules: what comes of the lines of a text, and how many are too long; and what comes of a redaction and of a check, and its status.
+use Rattle.acredact.proofs.Common.{All-nil, Errors, Failure, IfOk-weaker, Keeps, LineError, Readers, SinkGhosts, StreamError, Streams, Tells, TellsBytes, Verdict, Volume, Writers, bytes_left, length-map, runs_named, Keeps-refl, Line, Memory, Occurrence, Patterns, PieceRule, SourceGhosts, StartsWith, Stream, stream_lines, Covering, IsMember, common_steps, ltb-true}
+use Rattle.std.proofs.Common.{List, Option, [], ap, arith, false, inl, inr, length, length-append, refl, subst, sym, true, ℕ, ◌+◌, ◌-◌, ◌∙◌, ◌∷◌, ◌≡◌, suc, zero, ◌++◌, ◌<◌, ◌≤◌}
+use Rattle.std.specs.Prelude.{◌==◌, Bool, Err, IfErr, IfOk, IsErr, MatchBool, Ok, OnOk, Result, min, replicate, slice_index, ◌^◌, nat_eq, nat_lt, if◌then◌else◌}
 use Rattle.acredact.specs.Arguments.{Given, counts_asked, has}
 use Rattle.acredact.specs.Back.{DoesJob}
-use Rattle.acredact.specs.Calls.{Call, IsUnreadLine, TellsOfFiles, TellsWhole, names_asked, pieces_asked, reading_by, text_asked}
+use Rattle.acredact.specs.Calls.{Call, IsUnreadLine, TellsWhole, names_asked, reading_by}
 use Rattle.acredact.specs.Doubts.{TellsDoubts, last_of}
 use Rattle.acredact.specs.Failures.{EndsCall}
 use Rattle.acredact.specs.LineRules.{most_asked}
-use Rattle.acredact.specs.LongLines.{long_told, too_long_line, whole_number}
-use Rattle.acredact.specs.RunCounts.{TellsRunTotals, run_totals_text}
-use Rattle.acredact.specs.Ruled.{AreBegun, AreRuledLoaded, AreRulesGiven, CountsByRules, IsRuledTold, NotesByRules, NumbersOf, OutcomeOf, RedactsByRules, RuledCall, RuledLoad, RuledOutcome, RuledStatus, own_text, patterns_by_case, ruled_by, ruling_by, texts_asked}
+use Rattle.acredact.specs.LongLines.{long_told, too_long_line, whole_number, HasLong, HaveLong, long_among}
+use Rattle.acredact.specs.RunCounts.{run_totals_text, HasRuns, HaveRuns}
+use Rattle.acredact.specs.Ruled.{AreRulesGiven, CountsByRules, IsRuledTold, NotesByRules, OutcomeOf, RedactsByRules, RuledCall, RuledLoad, RuledOutcome, RuledStatus, ruled_by, ruling_by, texts_asked, Between, RunsOf, BeginsLinesRedaction, deed_by, ruling_as}
 use Rattle.acredact.specs.Summaries.{no_volume}
-use Rattle.acredact.specs.Tables.{Secret, patterns_in, piece_by}
-use Rattle.acredact.specs.Totals.{AreTotals, CountsFiles}
-use Rattle.acredact.specs.Volumes.{ReadsVolume}
-use Rattle.acredact.proofs.Calls.{doubts_tell, none_are, some_behind, some_weaker, tells_both, tells_line, tells_same}
+use Rattle.acredact.specs.Tables.{Secret}
+use Rattle.acredact.proofs.Calls.{doubts_tell, none_are, some_behind, some_weaker, tells_both, tells_line, tells_same, some_told, tells_weaker}
 use Rattle.acredact.proofs.Done.{cut_of}
-use Rattle.acredact.proofs.OneFile.{cut_none}
 use Rattle.acredact.proofs.RedactedCalls.{all_redacted, files_told}
-use Rattle.acredact.proofs.RuledText.{long_of_runs}
-use Rattle.acredact.proofs.Turns.{told_any, told_as}
+use Rattle.acredact.proofs.Turns.{told_any}
 use Rattle.acredact.proofs.Outcomes.{files_then, status_says, comes_early}
 use Rattle.acredact.proofs.Totals.{totals_of}
 use Rattle.std.proofs.KnownBytes.{Keeps-trans}
-use Rattle.secret_rules.specs.Ready.{CoversTheSame}
-use Rattle.secret_rules.specs.declared.line_cover.LineCover.{LineCover}
 use Rattle.acredact.specs.Checks.{BeginsLook, SeesFiles}
-use Rattle.acredact.specs.Findings.{labels_of}
-use Rattle.acredact.specs.Looks.{Sought}
 use Rattle.acredact.specs.Reads.{EachName}
-use Rattle.acredact.specs.RuledChecks.{BeginsLoadedCheck, CheckLoad, CheckedLines, IsByLines, RuledCheck, RuledCheckStatus, SeesByRules, line_quest_by, lines_looked_for}
-use Rattle.acredact.specs.Statuses.{check_status}
-use Rattle.acredact.specs.declared.legend.Legend.{Legend}
+use Rattle.acredact.specs.RuledChecks.{BeginsLoadedCheck, CheckLoad, CheckedLines, RuledCheck, line_quest_by}
 use Rattle.acredact.specs.declared.options.Word.TheVariants.{Summary}
-use Rattle.acredact.proofs.Checks.{seen_says}
+use Rattle.aho_cover.proofs.Copied.{begins_longer}
+use Rattle.secret_rules.specs.Covering.{lines_cover, AreLineRuns, CoveredIn, seen_line, whole_line}
+use Rattle.secret_rules.specs.LineCovers.{BeginsLines, BeginsNextLine, IsCoverFailure, LeavesLines, all_of, of_devices}
+use Rattle.secret_rules.specs.Writing.{line_cover}
+use Rattle.secret_rules.specs.declared.rule.Rule.{Rule}
+use Rattle.secret_rules.proofs.LineRuns.{lines_cover-append}
+use Rattle.aho_devices.specs.Errors.{CountsErrors}
+use Rattle.secret_rules.specs.declared.error.LineError.TheVariants.{Mark}
+use Rattle.acredact.specs.Faults.{IsStreamEnd}
+use Rattle.acredact.specs.Streams.{DoesStream}
+use Rattle.acredact.proofs.Redactions.{fault_ends}
+use Rattle.std.proofs.Math.Seq.{take-append-add}
+use Rattle.std.proofs.lemmas.Bool.{cond_both, ltb-false}
+use Rattle.std.proofs.lemmas.List.Elements.{filter-append}
+use Rattle.std.proofs.lemmas.Option.{slice_get_within}
+use Rattle.aho_core.specs.Cover.{AreRunsOf}
+use Rattle.aho_laws.proofs.CoverRuns.{runs-unique}
+use Rattle.secret_rules.proofs.Covered.{whole-runs}
+use Rattle.secret_rules.proofs.Picked.{counts-occurs}
+use Rattle.acredact.proofs.Hiding.{named_as}
 
--- the last of them is that of lines that are too long
-last_total : (last : ℕ) (runs : List Occurrence) (counts' : List ℕ) → AreTotals (last + 1) runs counts' → last_of counts' ≡ min (runs_named last runs) (2 ^ 64 - 1)
-last_total last runs counts' totals =
-    let place : length counts' - 1 ≡ last = omega (arith, totals.one_each) in
-    ap (slice_index counts') place ∙ totals.each last (omega arith)
+-- the cover of all lines begins with that of the first ones, and a beginning of that of the next
+begins_cover : (rule : PieceRule) (lines : List Line) (runs : List (List Occurrence)) (part : List ℕ) (all : List Line) (all_runs : List (List Occurrence)) → length runs ≡ length lines
+    → BeginsNextLine rule lines runs part all all_runs → StartsWith (lines_cover rule all all_runs) (lines_cover rule lines runs ++ part)
+begins_cover rule lines runs part all all_runs same is =
+    let front = lines_cover rule lines runs in
+    rw (is.lines_are, is.runs_are, lines_cover-append rule lines (is.next ∷ is.later) runs (is.own ∷ is.more) same, length-append front part, take-append-add)
+    (ap (λ (l : List ℕ). front ++ l) (begins_longer (line_cover rule is.next is.own) (lines_cover rule is.later is.more) part is.begins))
+
+-- so what a cover of lines leaves is what is done by rules and patterns
+module _ {R W : Type 0} (S : SourceGhosts R) (K : SinkGhosts W) (Searched : Patterns → Type 0) (words : Bool) (rules : List Rule) (most : ℕ) (rule : PieceRule) (p : Patterns) (sought : Searched p)
+    (source source' : R) (sink sink' : W) (counts counts' : List ℕ) where
+  -- a line that is not marked ends it as if memory had run out
+  lined_fails : (fault : StreamError) → BeginsLines S K Searched words rules most rule source source' sink sink' counts counts' → IsStreamEnd fault → CountsErrors {A = Unit {0}} S K source source' sink sink' (Err fault)
+      → DoesStream S K (deed_by (ruling_as words rules most rule p)) source source' sink sink' (Err fault) counts counts'
+  lined_fails fault begun only errors =
+      let part = lines_cover rule begun.lines begun.runs ++ begun.part in
+      let begins : BeginsLinesRedaction (ruling_as words rules most rule p) begun.given begun.ended part = λ text redaction may is.
+      rw is.is
+      (begins_cover rule begun.lines begun.runs begun.part (stream_lines text) is.runs begun.as_many (begun.goes_on p text is.runs sought may is.runs_are)) in
+      record {
+        outcome = record {
+          redacted = tt;
+          begun = record { given = begun.given; ended = begun.ended; gives = begun.gives; is = (part, begins, begun.writes) };
+          near = λ fills. record { given = begun.given; ended = begun.ended; gives = begun.gives; is = tt };
+          errors = errors;
+          limit = λ (told : false ≡ true). absurd (cc);
+          only = only;
+        };
+        counted = tt;
+        most = λ (told : false ≡ true). absurd (cc);
+      }
+
+  pub lined_does : (done : Result (Unit {0}) LineError) → LeavesLines S K Searched words rules most rule source source' sink sink' counts counts' done → CountsErrors S K source source' sink sink' (of_devices done)
+      → IfErr done (IsCoverFailure rules) → DoesStream S K (deed_by (ruling_as words rules most rule p)) source source' sink sink' (of_devices done) counts counts'
+  lined_does (Ok tt) leaves errors only =
+      let whole = leaves.covered in
+      record {
+        outcome = record {
+          redacted = record {
+            text = whole.given;
+            gives = whole.gives;
+            is = (lines_cover rule (stream_lines whole.given) whole.runs, record { runs = whole.runs; runs_are = whole.runs_are p sought; is = refl }, whole.writes);
+          };
+          begun = tt;
+          near = tt;
+          errors = errors;
+          limit = λ (told : false ≡ true). absurd (cc);
+          only = tt;
+        };
+        counted = (all_of whole.runs, record { text = whole.given; gives = whole.gives; is = (whole.runs, whole.runs_are p sought, refl) }, whole.counted);
+        most = λ (told : false ≡ true). absurd (cc);
+      }
+  lined_does (Err (Stream error)) leaves errors only = lined_fails error leaves.begun (fault_ends error only) errors
+  lined_does (Err (Mark error)) leaves errors only = lined_fails Memory leaves.begun tt errors
+
+-- what is covered of a line that is not too long has a smaller number
+covered_below : (covering : Covering) (before : List (List ℕ)) (line : List ℕ) (m : Occurrence) → length line ≤ covering.most → CoveredIn covering before line m → m.pattern < whole_number covering
+covered_below covering before line m short (inl (long, is)) = absurd (omega (arith, short, long))
+covered_below covering before line m short (inr (fits, inl counts)) = let (occurs, there) = counts-occurs covering.words covering.patterns line m counts in omega (arith, occurs.numbered)
+covered_below covering before line m short (inr (fits, inr marked)) =
+    let below = slice_get_within covering.rules marked.mark.rule marked.marks.rule marked.marks.numbered in
+    omega (arith, below, ap (λ (o : Occurrence). o.pattern) marked.same)
+
+none_numbered : (number : ℕ) (runs : List Occurrence) → ((run : Occurrence) → IsMember runs run → run.pattern < number) → runs_named number runs ≡ 0
+none_numbered number [] below = refl
+none_numbered number (run ∷ runs) below = grind (arith, common_steps, below run (inl refl), none_numbered number runs (λ other there. below other (inr there)))
+
+-- so the runs of that number are those of lines that are too long
+long_one : (covering : Covering) (before : List (List ℕ)) (line : List ℕ) (own : List Occurrence) → AreRunsOf (CoveredIn covering before line) own
+    → runs_named (whole_number covering) own ≡ (if nat_lt covering.most (length line) then 1 else 0)
+long_one covering before line own are =
+    cond_both {A = ℕ} (nat_lt covering.most (length line)) 1 0 (λ (n : ℕ). runs_named (whole_number covering) own ≡ n)
+    (λ is. rw (runs-unique (CoveredIn covering before line) own (whole_line covering line ∷ []) are (whole-runs covering before line (ltb-true _ _ is))) (grind (arith, common_steps)))
+    (λ is. none_numbered (whole_number covering) own (λ run there.
+    let is_run = (are.members run).0 there in
+    omega (arith, is_run.named, covered_below covering before line is_run.longest (omega (arith, ltb-false _ _ is)) is_run.longest_is.0.0)))
+
+named_append : (number : ℕ) (xs ys : List Occurrence) → runs_named number (xs ++ ys) ≡ runs_named number xs + runs_named number ys
+named_append number xs ys = rw (filter-append (λ (o : Occurrence). nat_eq o.pattern number) xs ys) (length-append _ _)
+
+long_named : (covering : Covering) (before : List (List ℕ)) (lines : List Line) (runs : List (List Occurrence)) → AreLineRuns covering before lines runs
+    → runs_named (whole_number covering) (all_of runs) ≡ long_among covering.most lines
+long_named covering before [] [] are = refl
+long_named covering before (line ∷ lines) (own ∷ runs) are =
+    let rest = long_named covering (before ++ seen_line covering.most line.bytes ∷ []) lines runs are.1 in
+    grind (arith, common_steps, named_append (whole_number covering) own (all_of runs), long_one covering before line.bytes own are.0, rest)
+long_named covering before _ _ are = absurd are
+
+-- so it is of all files
+pub long_of_runs : (covering : Covering) (holds : List ℕ → Option (List ℕ)) (names : List (List ℕ)) (runs : List Occurrence) (left left' : Option (List ℕ)) → HaveRuns holds covering names runs left left'
+    → HaveLong holds covering.most names (runs_named (whole_number covering) runs) left left'
+long_of_runs covering holds [] runs left left' (none, same) = (ap (runs_named (whole_number covering)) none, same)
+long_of_runs covering holds (name ∷ names) runs left left' (first, rest, are, between, has, others) = (
+  runs_named (whole_number covering) first,
+  runs_named (whole_number covering) rest,
+  ap (runs_named (whole_number covering)) are ∙ named_append (whole_number covering) first rest,
+  between,
+  named_as holds name (HasRuns covering first) (HasLong covering.most (runs_named (whole_number covering) first)) (λ l l' has.
+      let (by_line, lines, all) = has.is in
+      record { text = has.text; reads = has.reads; is = ap (runs_named (whole_number covering)) all ∙ long_named covering [] (stream_lines has.text) by_line lines }) left between has,
+  long_of_runs covering holds names rest between left' others,
+)
 
 -- there is a text for each pattern, each rule, and lines that are too long
 pub texts_many : (given : List Given) (load : RuledLoad) → length (texts_asked given load) ≡ length load.secrets + length load.rules + 1
-texts_many given load =
-    let rules = map (own_text (text_asked given)) load.rules in
-    omega (
-      arith,
-      length-append (pieces_asked given load.secrets) (rules ++ text_asked given ∷ []),
-      length-append rules (text_asked given ∷ []),
-      length-map load.rules (own_text (text_asked given)),
-      length-map load.secrets (piece_by (text_asked given)),
-    )
-
--- the counts are told where they are asked for
-abbrev pub TellsCountsAny : {E : Type 0} → SinkGhosts E → List Given → RuledLoad → (counts : List ℕ) → Volume → (errors errors' : Errors E) → Type 0
-TellsCountsAny K given load counts volume errors errors' = MatchBool (counts_asked given) (TellsWhole K (run_totals_text given load.secrets load.rules counts volume) errors errors') (errors' ≡ errors)
-
-any_totals : {E : Type 0} (K : SinkGhosts E) (given : List Given) (load : RuledLoad) (runs : List Occurrence) (counts : List ℕ) (volume : Volume) (errors errors' : Errors E) → AreTotals (length load.secrets + length load.rules + 1) runs counts → (b : Bool)
-    → MatchBool b (TellsWhole K (run_totals_text given load.secrets load.rules counts volume) errors errors') (errors' ≡ errors) → MatchBool b (TellsRunTotals K given load.secrets load.rules runs volume errors errors') (errors' ≡ errors)
-any_totals K given load runs counts volume errors errors' totals true whole = record { counts = counts; totals = totals; told = whole }
-any_totals K given load runs counts volume errors errors' totals false same = same
+texts_many given load = simp (length-append, length-map) (omega arith)
 
 module _ {E : Type 0} (K : SinkGhosts E) (call : Call) {V : Type 0} {all : V → Bool} {Whole : V → Type 0} {Begun Notes : Type 0} where
   -- a call ended early, and what was told may be
@@ -86,26 +175,17 @@ module _ {E : Type 0} (K : SinkGhosts E) (call : Call) {V : Type 0} {all : V →
   }
 
 module _ {E : Type 0} (K : SinkGhosts E) (call : Call) where
-  -- no file was come to
-  pub unbegun : (load : RuledLoad) (left held : Option (List ℕ)) (errors : Errors E) (result : Result Bool Failure) → IsErr result → RuledOutcome K call load result left left held held errors errors
-  unbegun load left held errors result is = outcome_none K call result is ([], cut_none (ruled_by call load) (λ text redaction may is. refl) (names_asked call.given) left held)
-
   -- doubtful patterns of lists may be told
   pub all_doubts_told : (secrets : List Secret) (errors errors' : Errors E) → TellsDoubts K false call.given secrets errors errors' → Tells K (IsRuledTold call) errors errors'
   all_doubts_told secrets errors errors' told = doubts_tell K (IsRuledTold call) false call.given secrets errors errors' (λ lax line member. inr (inr (inl (secrets, member)))) told
 
-  -- behind what is told of them what was loaded decides what comes of the call
-  pub ruled_behind : (load : RuledLoad) (result : Result Bool Failure) (left between left' held held' : Option (List ℕ)) (errors meanwhile errors' : Errors E)
-      → AreRuledLoaded (reading_by call) call.given load left between → TellsDoubts K false call.given load.secrets errors meanwhile
-      → RuledOutcome K call load result between left' held held' meanwhile errors' → RuledCall K call result left left' held held' errors errors'
-  ruled_behind load result left between left' held held' errors meanwhile errors' loaded doubted =
-      outcome_behind K call result errors meanwhile errors' (all_doubts_told load.secrets errors meanwhile doubted)
-      (λ all whole. record { load = load; between = between; loaded = loaded; is = whole })
-      (λ begun. inr (record { load = load; between = between; loaded = loaded; is = begun }))
-      (λ numbers. record { load = load; between = between; loaded = loaded; is = record { meanwhile = meanwhile; doubted = doubted; numbers = numbers } })
+  -- and then a call may end before it comes to a file
+  pub unbegun : (load : RuledLoad) (left held : Option (List ℕ)) (errors : Errors E) (result : Result Bool Failure) → IsErr result → RuledOutcome K call load result left left held held errors errors
+  unbegun load left held errors (Ok all) is = absurd (cc)
+  unbegun load left held errors (Err failure) is = record { behind = λ start first loaded doubted. comes_early (inl (Keeps-refl held)) (all_doubts_told load.secrets first errors doubted) tt }
 
   -- how many lines were too long may be told
-  long_lines : (count : ℕ) (errors errors' : Errors E) → TellsBytes K errors errors' (long_told (most_asked call.given) count) → Tells K (IsRuledTold call) errors errors'
+  pub long_lines : (count : ℕ) (errors errors' : Errors E) → TellsBytes K errors errors' (long_told (most_asked call.given) count) → Tells K (IsRuledTold call) errors errors'
   long_lines count errors errors' told = by (count == 0) told
     where
       by : (b : Bool) → TellsBytes K errors errors' (if b then [] else too_long_line (most_asked call.given) count) → Tells K (IsRuledTold call) errors errors'
@@ -115,40 +195,8 @@ module _ {E : Type 0} (K : SinkGhosts E) (call : Call) where
   -- the counts are, where they are asked for
   pub counts_by_rules : (left left' : Option (List ℕ)) (errors errors' : Errors E) → counts_asked call.given ≡ true → NotesByRules K call left left' errors errors' → CountsByRules K call left left' errors'
   counts_by_rules left left' errors errors' is of =
-      let numbers = of.is.numbers in
-      record {
-        load = of.load;
-        between = of.between;
-        loaded = of.loaded;
-        runs = numbers.runs;
-        have = numbers.have;
-        volume = numbers.volume;
-        read = numbers.read;
-        meanwhile = numbers.meanwhile;
-        counted = subst (λ (b : Bool). MatchBool b (TellsRunTotals K call.given of.load.secrets of.load.rules numbers.runs numbers.volume numbers.meanwhile errors') (errors' ≡ numbers.meanwhile)) is numbers.counted;
-      }
-
-  -- what is told behind files that were all read to their ends: counts began at zero
-  numbers_of : (load : RuledLoad) (size : ℕ) (zeros counts' : List ℕ) (volume : Volume) (left left' : Option (List ℕ)) (errors second errors' : Errors E) → zeros ≡ replicate size 0 → size ≡ length load.secrets + length load.rules + 1
-      → CountsFiles left left' zeros counts' (ruled_by call load) (names_asked call.given) → ReadsVolume call.holds (names_asked call.given) no_volume volume left left'
-      → TellsBytes K errors second (long_told (most_asked call.given) (last_of counts')) → TellsCountsAny K call.given load counts' volume second errors'
-      → NumbersOf K call load left left' errors errors'
-  numbers_of load size zeros counts' volume left left' errors second errors' are sized (runs, have, grown) read long told =
-      let totals = subst (λ (n : ℕ). AreTotals n runs counts') sized (totals_of size runs zeros counts' are grown) in
-      let covering = (ruling_by call.given load).covering in
-      record {
-        meanwhile = second;
-        long = record {
-          count = runs_named (whole_number covering) runs;
-          have = long_of_runs covering call.holds (names_asked call.given) runs left left' have;
-          told = subst (λ (n : ℕ). TellsBytes K errors second (long_told (most_asked call.given) n)) (last_total (length load.secrets + length load.rules) runs counts' totals ∙ ap (λ (n : ℕ). min (runs_named n runs) (2 ^ 64 - 1)) (sym (ap (λ (n : ℕ). n + length load.rules) (length-map load.secrets (λ secret. secret.pattern))))) long;
-        };
-        runs = runs;
-        have = have;
-        volume = volume;
-        read = read;
-        counted = any_totals K call.given load runs counts' volume second errors' totals (counts_asked call.given) told;
-      }
+      let runs = subst (λ (asked : Bool). RunsOf K call of.load asked of.between left' of.is.meanwhile errors') is of.is.runs in
+      record { load = of.load; between = of.between; loaded = of.loaded; is = (of.is.meanwhile, runs) }
 
   -- its status says what came of it
   pub ruled_ends : (result : Result Bool Failure) (status : ℕ) (left left' held held' : Option (List ℕ)) (errors meanwhile errors' : Errors E) → EndsCall K result status meanwhile errors' → RuledCall K call result left left' held held' errors meanwhile
@@ -159,57 +207,49 @@ module _ {E : Type 0} (K : SinkGhosts E) (call : Call) where
 
 -- what comes of the files, by rules and patterns that were loaded
 module _ {R W E : Type 0} {Reads : Readers R} (Writes : Writers W) (K : SinkGhosts E) (call : Call) (load : RuledLoad) (old new : Streams R W E Reads) (zeros counts' : List ℕ) (volume : Volume) where
-  abbrev IsJob : Result Bool StreamError → Type 0
-  IsJob result = DoesJob Writes K (ruled_by call load) (names_asked call.given) result old new zeros counts' no_volume volume
-
-  abbrev ComesOfRules : Result Bool Failure → Errors E → Type 0
-  ComesOfRules result errors' = RuledOutcome K call load result (bytes_left old.input) (bytes_left new.input) (output_bytes Writes old.output) (output_bytes Writes new.output) old.errors errors'
-
-  job_begun : (result : Result Bool StreamError) → IsJob result → AreBegun (ruled_by call load) (names_asked call.given) (bytes_left old.input) (bytes_left new.input) (output_bytes Writes old.output) (output_bytes Writes new.output)
-  job_begun (Ok all) does = let (lines, is_all, (done, told)) = does.outcome.done in (lines, cut_of (ruled_by call load) (names_asked call.given) lines _ _ _ _ done)
-  job_begun (Err error) does = let (lines, (cut, told)) = does.outcome.cut in (lines, cut)
-
-  job_told : (result : Result Bool StreamError) → IsJob result → TellsOfFiles K (names_asked call.given) result old.errors new.errors
-  job_told result does = files_told Writes K (ruled_by call load) (names_asked call.given) old new result does.outcome
-
-  -- they were redacted, it is told how many lines were too long, and then the counts
-  pub files_done : (all : Bool) (result : Result Bool Failure) (size : ℕ) (second errors' : Errors E)
-      → IsJob (Ok all) → zeros ≡ replicate size 0 → size ≡ length load.secrets + length load.rules + 1
-      → TellsBytes K new.errors second (long_told (most_asked call.given) (last_of counts')) → IfOk result (λ done. done ≡ all) → IfErr result (λ failure. Unit {0})
-      → OnOk result (TellsCountsAny K call.given load counts' volume second errors') → Tells K (IsRuledTold call) second errors' → ComesOfRules result errors'
-  files_done all result size second errors' does are sized long same fails told lines =
-      files_then StreamError K (IsRuledTold call) (IsUnreadLine (names_asked call.given)) all old.errors old.errors new.errors errors' (tells_same K (IsRuledTold call) old.errors old.errors refl) (λ line is. inl is) (job_told (Ok all) does)
-      (tells_both K (IsRuledTold call) new.errors second errors' (long_lines K call (last_of counts') new.errors second long) lines) (job_begun (Ok all) does) result same fails
-      (λ whole. on_ok_weaker result
-      (λ (counted : TellsCountsAny K call.given load counts' volume second errors'). (
-        all_redacted Writes K (ruled_by call load) (names_asked call.given) old new (Ok all) does.outcome (ap Ok whole),
-        numbers_of K call load size zeros counts' volume _ _ old.errors second errors' are sized (does.counted (ap Ok whole)) (does.read (ap Ok whole))
-            (subst (λ (e : Errors E). TellsBytes K e second (long_told (most_asked call.given) (last_of counts'))) (does.outcome.quiet (ap Ok whole)) long) counted,
-      )) told)
+  -- they were redacted, it is told how many lines were too long, and then the counts, which began at zero
+  pub files_done : (all : Bool) (result : Result Bool Failure) (second errors' : Errors E) → DoesJob Writes K (ruled_by call load) (names_asked call.given) (Ok all) old new zeros counts' no_volume volume
+      → zeros ≡ replicate (length load.secrets + length load.rules + 1) 0 → TellsBytes K new.errors second (long_told (most_asked call.given) (last_of counts')) → IfOk result (λ done. done ≡ all) → IfErr result (λ failure. Unit {0})
+      → OnOk result (MatchBool (counts_asked call.given) (TellsWhole K (run_totals_text call.given load.secrets load.rules counts' volume) second errors') (errors' ≡ second))
+      → Tells K (IsRuledTold call) second errors' → Between Writes (RuledOutcome K call load result) old (record new { errors = errors' })
+  files_done all result second errors' does none long same fails counted later = record {
+    behind = λ left first loaded doubted.
+        let task = ruled_by call load in
+        let names = names_asked call.given in
+        let (lines, is_all, (done, told)) = does.outcome.done in
+        files_then StreamError K (IsRuledTold call) (IsUnreadLine names) all first old.errors new.errors errors' (all_doubts_told K call load.secrets first old.errors doubted) (λ line is. inl is) (files_told Writes K task names old new (Ok all) does.outcome)
+        (tells_both K (IsRuledTold call) new.errors second errors' (long_lines K call (last_of counts') new.errors second long) later)
+        (inr (record { load = load; between = bytes_left old.input; loaded = loaded; is = (lines, cut_of task names lines _ _ _ _ done) })) result same fails
+        (λ whole. IfOk-weaker result _ _ (λ one counts_told.
+        let (runs, have, grown) = does.counted (ap Ok whole) in
+        let covering = (ruling_by call.given load).covering in
+        let totals = totals_of (length load.secrets + length load.rules + 1) runs zeros counts' none grown in
+        let many : length covering.patterns.words ≡ length load.secrets = length-map load.secrets (λ secret. secret.pattern) in
+        let place : length counts' - 1 ≡ whole_number covering = omega (arith, totals.one_each, many) in
+        let last : last_of counts' ≡ min (runs_named (whole_number covering) runs) (2 ^ 64 - 1) = ap (slice_index counts') place ∙ totals.each (whole_number covering) (omega (arith, many)) in (
+          record { load = load; between = bytes_left old.input; loaded = loaded; is = all_redacted Writes K task names old new (Ok all) does.outcome (ap Ok whole) },
+          record {
+            load = load;
+            between = bytes_left old.input;
+            loaded = loaded;
+            is = record {
+              warned = old.errors;
+              doubted = doubted;
+              meanwhile = second;
+              long = record { count = runs_named (whole_number covering) runs; have = long_of_runs covering call.holds names runs _ _ have; told = rw (does.outcome.quiet (ap Ok whole), last) at long };
+              runs = record { runs = runs; have = have; volume = volume; read = does.read (ap Ok whole); counted = record { counts = counts'; totals = totals; told = counts_told } };
+            };
+          },
+        )) counted);
+  }
 
   -- or not all of them
-  pub files_failed : (error : StreamError) (failure : Failure) → IsJob (Err error) → ComesOfRules (Err failure) new.errors
-  files_failed error failure does =
-      outcome_early K call (job_begun (Err error) does) (told_any K (names_asked call.given) (IsRuledTold call) (Err error) old.errors new.errors (λ line is. inl is) (job_told (Err error) does))
-
--- what a check by rules looks for
-module _ {A : Type 0} (G : Automata A) (cover : LineCover A) (legend : Legend) where
-  -- what covers lines looks for the same afterwards
-  pub still_lines : (cover' : LineCover A) → CanCoverLines G cover' → CoversTheSame cover cover' → (s : Sought) → IsByLines G cover legend s → IsByLines G cover' legend s
-  still_lines cover' can same s by =
-      record { lines = by.lines; is = by.is; can = can; searched = rw same.automaton by.searched; covers = rw (same.words, same.rules, same.most) by.covers; labels = by.labels }
-
-  -- made of such parts it looks for what was loaded
-  pub by_loaded : (given : List Given) (load : CheckLoad) (words : Bool) (most : ℕ) → CanCoverLines G cover → AreSearchedFor G (searched_automaton cover) (patterns_by_case given (patterns_in load.secrets))
-      → words_of cover ≡ words → rules_of cover ≡ load.rules → most_of cover ≡ most → words ≡ has AsWord given → most ≡ most_asked given → labels_of legend ≡ record { secrets = load.secrets; rules = load.rules; most = most }
-      → IsByLines G cover legend (inr (lines_looked_for given load))
-  by_loaded given load words most can searched is_words is_rules is_most by_word by_most labels = record {
-    lines = lines_looked_for given load;
-    is = refl;
-    can = can;
-    searched = searched;
-    covers = rw (is_words, is_rules, is_most, by_word, by_most) refl;
-    labels = rw (labels, by_most) refl;
+  pub files_failed : (error : StreamError) (failure : Failure) → DoesJob Writes K (ruled_by call load) (names_asked call.given) (Err error) old new zeros counts' no_volume volume → Between Writes (RuledOutcome K call load (Err failure)) old new
+  files_failed error failure does = record {
+    behind = λ left first loaded doubted.
+        let (lines, (cut, told)) = does.outcome.cut in
+        comes_early (inr (record { load = load; between = bytes_left old.input; loaded = loaded; is = (lines, cut) })) (tells_both K (IsRuledTold call) first old.errors new.errors (all_doubts_told K call load.secrets first old.errors doubted)
+        (told_any K (names_asked call.given) (IsRuledTold call) (Err error) old.errors new.errors (λ line is. inl is) (files_told Writes K (ruled_by call load) (names_asked call.given) old new (Err error) does.outcome))) tt;
   }
 
 -- what holds of an output holds of it where it is flushed
@@ -218,35 +258,31 @@ each_kept Does [] left left' held meanwhile held' (same, kept) more = (same, Kee
 each_kept Does (name ∷ names) left left' held meanwhile held' (between, mid, one, rest) more = (between, mid, one, each_kept Does names between left' mid meanwhile held' rest more)
 
 module _ {E : Type 0} (K : SinkGhosts E) (call : Call) where
-  module _ (load : CheckLoad) (left left' held held' seen seen' : Option (List ℕ)) (errors errors' : Errors E)
-      (told : has Summary call.given ≡ true → (seen ≡ held) × Keeps seen' held') (untold : has Summary call.given ≡ false → Keeps held held') where
-    -- where that is asked for it was told what was found
-    begun_told : EachName (BeginsLook (line_quest_by call load)) (names_asked call.given) left left' seen seen' → BeginsLoadedCheck call left left' held held' load
-    begun_told begun = by (has Summary call.given) refl
-      where
-        by : (b : Bool) → has Summary call.given ≡ b → BeginsLoadedCheck call left left' held held' load
-        by true is = let same = told is in inr (each_kept (BeginsLook (line_quest_by call load)) (names_asked call.given) left left' held seen' held' (rw same.0 at begun) same.1)
-        by false is = inl (untold is)
+  module _ (load : CheckLoad) (left left' held held' seen seen' : Option (List ℕ)) (errors errors' : Errors E) where
+    -- what was found was told, or nothing was
+    abbrev IsPut : Bool → Type 0
+    IsPut tells = MatchBool tells ((seen ≡ held) × Keeps seen' held') (Keeps held held')
 
-    -- the files were looked at
-    pub files_looked : (verdict : Verdict) → SeesFiles K {X = LineError} (line_quest_by call load) (names_asked call.given) (Ok verdict) left left' seen seen' errors errors' → CheckedLines K call load (Ok verdict) left left' held held' errors errors'
-    files_looked verdict files =
-        let (lines, is_all, are, lines_told) = files.seen in
+    begun_put : (tells : Bool) → IsPut tells → EachName (BeginsLook (line_quest_by call load)) (names_asked call.given) left left' seen seen' → BeginsLoadedCheck call left left' held held' load
+    begun_put true (same, kept) begun = inr (each_kept (BeginsLook (line_quest_by call load)) (names_asked call.given) left left' held seen' held' (rw same at begun) kept)
+    begun_put false kept begun = inl kept
+
+    -- the files were looked at, or not all of them
+    pub files_looked : (tells : Bool) → has Summary call.given ≡ tells → (result : Result Verdict Failure) → SeesFiles K (line_quest_by call load) (names_asked call.given) result left left' seen seen' errors errors' → IsPut tells
+        → CheckedLines K call load result left left' held held' errors errors'
+    files_looked tells is (Ok verdict) files put =
+        let (is_all, quiet, are) = files.seen in
         record {
-          whole = λ all. record { old = seen; new = seen'; told = told; are = rw (none_are lines (sym is_all ∙ all)) at are };
-          begun = begun_told files.begun;
-          told = told_any {X = LineError} K (names_asked call.given) (IsRuledTold call) (Ok verdict.all) errors errors' (λ line is. inl is) files.told;
-          partly = λ none. some_weaker K (IsUnreadLine (names_asked call.given)) (IsRuledTold call) errors errors' (λ line is. inl is)
-              (told_as LineError K (names_asked call.given) verdict.all false errors errors' none files.told);
-          notes = λ all. told_as LineError K (names_asked call.given) verdict.all true errors errors' all files.told;
+          whole = λ all. record { old = seen; new = seen'; told = λ asked. subst IsPut (sym is ∙ asked) put; are = rw (none_are files.told.told (sym is_all ∙ all)) at are };
+          begun = begun_put tells put files.begun;
+          told = tells_weaker K (IsUnreadLine (names_asked call.given)) (IsRuledTold call) errors errors' (λ line is. inl is) files.told;
+          partly = λ part. some_weaker K (IsUnreadLine (names_asked call.given)) (IsRuledTold call) errors errors' (λ line is. inl is)
+              (some_told K (IsUnreadLine (names_asked call.given)) errors errors' files.told.told files.told.are_lines files.told.written (sym part ∙ is_all));
+          notes = quiet;
           fails = tt;
         }
-
-    -- or not all of them
-    pub files_unlooked : (error : LineError) (failure : Failure) → SeesFiles K (line_quest_by call load) (names_asked call.given) (Err error) left left' seen seen' errors errors'
-        → CheckedLines K call load (Err failure) left left' held held' errors errors'
-    files_unlooked error failure files =
-        outcome_early K call (begun_told files.begun) (told_any {X = LineError} K (names_asked call.given) (IsRuledTold call) (Err error) errors errors' (λ line is. inl is) files.told)
+    files_looked tells is (Err failure) files put =
+        outcome_early K call (begun_put tells put files.begun) (tells_weaker K (IsUnreadLine (names_asked call.given)) (IsRuledTold call) errors errors' (λ line is. inl is) files.told)
 
   -- behind what is told of doubtful patterns what was loaded decides what comes of the call
   pub check_behind : (load : CheckLoad) (result : Result Verdict Failure) (left between left' held held' : Option (List ℕ)) (errors meanwhile errors' : Errors E)
@@ -260,8 +296,3 @@ module _ {E : Type 0} (K : SinkGhosts E) (call : Call) where
         | inr some ↦ inr (record { load = load; between = between; loaded = loaded; is = some })
       ])
       (λ same. record { load = load; between = between; loaded = loaded; is = subst (TellsDoubts K false call.given load.secrets errors) (sym same) doubted })
-
-  -- the status tells what was seen
-  pub check_done : (verdict : Verdict) (left left' held held' : Option (List ℕ)) (errors errors' : Errors E) → RuledCheck K call (Ok verdict) left left' held held' errors errors'
-      → RuledCheckStatus K call (check_status verdict) left left' held held' errors errors'
-  check_done verdict left left' held held' errors errors' of = seen_says (λ found. SeesByRules call found left left' held held') verdict (λ some. some) of

@@ -1,8 +1,7 @@
 -- How an automaton redacts streams.
 use Rattle.acredact.proofs.Common.{Bor, CanBegin, Folders, Ghosts, Memory, No, Patterns, PieceRule, Readers, Refused, SinkGhosts, Standard, StreamError, Streams, Volume, Writers, ne_eqb, pieces_of, shortest, tells-nothing}
 use Rattle.std.proofs.Common.{◌≡◌, ℕ, List, [], true, false, length, map, refl, sym, ap, subst, ◌∙◌, arith, Option}
-use Rattle.std.specs.Prelude.{Bool, ◌&&◌, None, Some, Err, if◌then◌else◌}
-use Rattle.aho_core.specs.declared.error.MatchErrorKind.TheVariants.{UnsupportedEmpty}
+use Rattle.std.specs.Prelude.{Bool, ◌&&◌, None, Some, Err}
 use Rattle.aho_automaton.specs.Covering.{cover_refusal}
 use Rattle.aho_backward.specs.declared.backward.Backward.{Backward}
 use Rattle.aho_cover.specs.Covers.{IsUnbegunWith, RefusesStreamCover}
@@ -15,7 +14,7 @@ use Rattle.acredact.specs.Ways.{IsCovering, IsRedactor, MayWalkBack}
 use Rattle.acredact.specs.declared.files.Job.{Job}
 use Rattle.acredact.proofs.Jobs.{job_ended}
 use Rattle.acredact.proofs.OneFile.{cut_none}
-use Rattle.acredact.proofs.Redactions.{begins_nothing, some_of}
+use Rattle.acredact.proofs.Redactions.{begins_by}
 
 module _ {A : Type 0} (G : Ghosts A) where
   -- a cover is as before after a stream
@@ -29,17 +28,12 @@ module _ {A : Type 0} (G : Ghosts A) where
     unbegun = subst (λ (b : Bool). IsUnbegunWith b G automaton' progress') (sym unbegun.chosen) unbegun;
   }
 
-  -- by a standard automaton without empty patterns no cover is refused
-  suits_cover : (automaton : A) → CanBegin G automaton → G.kind automaton ≡ Standard → cover_refusal (G.kind automaton) (G.lengths automaton) (G.start automaton No) ≡ None
-  suits_cover automaton can standard =
-      rw (standard, can.2)
-      (ap (λ (b : Bool). if b then Some UnsupportedEmpty else None) (ne_eqb (shortest (G.lengths automaton)) 0 (λ (none : shortest (G.lengths automaton) ≡ 0). omega (arith, none, can.1))))
-
-  -- so memory alone may be wanting for its start
+  -- by a standard automaton without empty patterns no cover is refused, so memory alone may be wanting for its start
   pub only_memory : {T : Type 0} (automaton : A) (error : StreamError) → CanBegin G automaton → G.kind automaton ≡ Standard → IsMakingRefusal error
       → RefusesStreamCover {T = T} (cover_refusal (G.kind automaton) (G.lengths automaton) (G.start automaton No)) (Err error) → error ≡ Memory
   only_memory automaton (Refused reason) can standard is refuses =
-      let clash : None ≡ Some reason = sym (suits_cover automaton can standard) ∙ refuses.only reason refl in absurd (cc)
+      let some = ne_eqb (shortest (G.lengths automaton)) 0 (λ (none : shortest (G.lengths automaton) ≡ 0). omega (arith, none, can.1)) in
+      let clash : None ≡ Some reason = rw (standard, can.2, some) at (refuses.only reason refl) in absurd (cc)
   only_memory automaton Memory can standard is refuses = refl
   only_memory automaton error can standard is refuses = absurd is
 
@@ -74,4 +68,4 @@ job_unbegun Writes K D G automaton job streams counts volume p are ready covers 
     let task = task_in D job.folder.now (deed_of (redactor_of job p)) in
     rw (only_memory G automaton error ready.begins (ready.standard covers) making refuses)
     (job_ended Writes K task {old = (streams, counts, volume)} {new = (streams, counts, volume)}
-    ([], (cut_none task (begins_nothing (redactor_of job p) (some_of G automaton p are ready.begins) [] false) _ _ _, tells-nothing K streams.errors)) (record { write_failed = refl; took_nothing = refl; only = tt })).is
+    ([], (cut_none task (begins_by (redactor_of job p) (rw are at ready.begins.1) [] false [] (λ text ranges may found. refl)) _ _ _, tells-nothing K streams.errors)) (record { write_failed = refl; took_nothing = refl; only = tt })).is

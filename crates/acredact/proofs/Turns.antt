@@ -1,6 +1,6 @@
 -- What comes of files that are done one after another, whatever is done with each.
 use Rattle.acredact.proofs.Common.{Errors, SinkGhosts, Tells, TellsSome, and-true}
-use Rattle.std.proofs.Common.{◌≡◌, ◌∙◌, inl, inr, ℕ, List, [], ◌∷◌, ap, false, refl, subst, sym, true}
+use Rattle.std.proofs.Common.{◌≡◌, ◌∙◌, ℕ, List, [], ◌∷◌, ap, false, refl, subst, sym, true}
 use Rattle.std.specs.Prelude.{Bool, ◌&&◌, Result, Ok, Err}
 use Rattle.std.proofs.Math.Bool.{and_assoc}
 use Rattle.acredact.specs.Calls.{IsUnreadLine, TellsOfFiles, TellsUnlessAll}
@@ -39,9 +39,8 @@ module _ {V X S : Type 0} {joins : Joins V} {Comes : List (List ℕ) → Result 
     -- behind one more
     pub turn_next : {rest : List (List ℕ)} {name : List ℕ} {seen all : V} {new : S} → behind ≡ name ∷ rest → all ≡ joins.both first seen
         → ((result : Result V X) (end : S) → Comes rest result new end → Comes (name ∷ rest) (also joins seen result) mid end) → InTurn joins Comes names rest all old new
-    turn_next {rest} {name} {seen} {all} {new} cut is one = record {
-      so = λ result end comes. by result end (turn.so (also joins seen result) end (subst (λ l. Comes l (also joins seen result) mid end) (sym cut) (one result end comes)));
-    }
+    turn_next {seen = seen} {all = all} cut is one =
+        record { so = λ result end comes. by result end (turn.so (also joins seen result) end (subst (λ l. Comes l (also joins seen result) mid end) (sym cut) (one result end comes))) }
       where
         by : (result : Result V X) (end : S) → Comes names (also joins first (also joins seen result)) old end → Comes names (also joins all result) old end
         by (Ok more) end comes = subst (λ (v : V). Comes names (Ok v) old end) (sym (joins.assoc first seen more) ∙ ap (λ v. joins.both v more) (sym is)) comes
@@ -75,14 +74,3 @@ module _ {E X : Type 0} (K : SinkGhosts E) (First Rest All : List ℕ → Type 0
 pub told_any : {E X : Type 0} (K : SinkGhosts E) (names : List (List ℕ)) (IsLine : List ℕ → Type 0) (result : Result Bool X) (errors errors' : Errors E) → ((line : List ℕ) → IsUnreadLine names line → IsLine line)
     → TellsOfFiles K names result errors errors' → Tells K IsLine errors errors'
 told_any K names = told_by K (IsUnreadLine names)
-
-pub told_as : {E : Type 0} (X : Type 0) (K : SinkGhosts E) (names : List (List ℕ)) (all whole : Bool) (errors errors' : Errors E) → all ≡ whole → TellsOfFiles {X = X} K names (Ok all) errors errors' → TellsOfFiles {X = X} K names (Ok whole) errors errors'
-told_as X K names all whole errors errors' is told = subst (λ (b : Bool). TellsOfFiles {X = X} K names (Ok b) errors errors') is told
-
-module _ {E : Type 0} (K : SinkGhosts E) (name : List ℕ) (names : List (List ℕ)) where
-  unread_first : (line : List ℕ) → IsUnreadLine (name ∷ []) line → IsUnreadLine (name ∷ names) line
-  unread_first line (other, inl is, told) = (other, inl is, told)
-  unread_first line (other, inr none, told) = absurd none
-
-  pub told_more : {X : Type 0} (whole : Bool) (result : Result Bool X) (old mid new : Errors E) → TellsOfFiles {X = X} K (name ∷ []) (Ok whole) old mid → TellsOfFiles K names result mid new → TellsOfFiles K (name ∷ names) (also all_joined whole result) old new
-  told_more {X = X} = told_then {X = X} K (IsUnreadLine (name ∷ [])) (IsUnreadLine names) (IsUnreadLine (name ∷ names)) unread_first (λ line is. (is.0, inr is.1, is.2))

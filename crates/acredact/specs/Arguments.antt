@@ -100,22 +100,16 @@ abbrev pub by_taken : Word → List ℕ → List Given → ReadOrLine
 by_taken word [] items = items_so_far (Value word) items
 by_taken word (first ∷ rest) items = with_item word (first ∷ rest) Any items
 
--- the letter of an option with a value, and what stands behind it
-abbrev pub by_letter : List ℕ → List Given → ReadOrLine
-by_letter [] items = items_so_far Any items
-by_letter (letter ∷ rest) items =
-    if letter == 101 then by_taken Pattern rest items
-    else if letter == 102 then by_taken Patterns rest items
-    else if letter == 116 then by_taken Table rest items
-    else Err (letter_line letter)
-
--- joined letters: those of options without a value stand in front
+-- joined letters: those of options without a value stand in front of that of an option with one, and behind that its value
 abbrev pub by_letters : List ℕ → List Given → ReadOrLine
 by_letters [] items = items_so_far Any items
 by_letters (letter ∷ rest) items =
     if letter == 105 then by_letters rest (items ++ (given IgnoreCase [] ∷ []))
     else if letter == 119 then by_letters rest (items ++ (given AsWord [] ∷ []))
-    else by_letter (letter ∷ rest) items
+    else if letter == 101 then by_taken Pattern rest items
+    else if letter == 102 then by_taken Patterns rest items
+    else if letter == 116 then by_taken Table rest items
+    else Err (letter_line letter)
 
 -- an argument that stands where an option may, by what it is; behind '--' there are files alone
 abbrev pub by_form : Form → List ℕ → List Given → ReadOrLine

@@ -36,10 +36,9 @@ module _ {R W E : Type 0} {Reads : Readers R} (Writes : Writers W) (K : SinkGhos
   pub record DoesTold (name : List ℕ) (result : Result Bool StreamError) (streams streams' : Streams R W E Reads) (counts counts' : List ℕ) (volume volume' : Volume) : Type 0 where
     pub done : IfOk result (λ whole. (lines : List (List ℕ)) × (whole ≡ are_none lines) × Does Writes K streams streams' (IsDone task name lines) lines)
     pub cut : OnErr result (Does Writes K streams streams' (BeginsNamed task name) [])
-    pub quiet : result ≡ Ok true → streams'.errors ≡ streams.errors
+    pub whole : result ≡ Ok true → (streams'.errors ≡ streams.errors) × CountsFile (bytes_left streams.input) (bytes_left streams'.input) counts counts' task name
+        × AddsName task.holds name volume.bytes volume'.bytes (bytes_left streams.input) (bytes_left streams'.input)
     pub fails : FailsByOutput result streams.output streams'.output
-    pub ranges : result ≡ Ok true → CountsFile (bytes_left streams.input) (bytes_left streams'.input) counts counts' task name
-    pub read : result ≡ Ok true → AddsName task.holds name volume.bytes volume'.bytes (bytes_left streams.input) (bytes_left streams'.input)
     pub files : IfOk result (λ whole. volume'.files ≡ files_with whole volume.files)
     pub most : task.deed.measured ≡ true → NumbersRead (λ Reads. OfName task.holds name Reads (bytes_left streams.input) (bytes_left streams'.input)) counts counts' volume.bytes volume'.bytes
 

@@ -151,17 +151,24 @@ module _ {F X : Type 0} (D : Folders F X) (folder : F) (items : List Item) where
     pub key_given : IsKeyGiven (reading_by (call_of D folder (all_given items))) (last_value Pseudonym (all_given items)) key left left'
     pub is : IsKeyedBy items rules key made
 
--- why a call ends early: there is no pattern, one of the options or the key cannot be loaded, the counts cannot be written, a piece is not clean,
--- the patterns are refused, the files are not redacted, or a pattern of a list is refused
+-- why nothing is ready: a pattern of a list may be meant otherwise, or a piece is refused, or the library refuses the patterns, or memory runs out
+abbrev pub CannotPrepare : List Given → Loaded → Failure → Type 0
+CannotPrepare given load failure = IsDoubtFailure (has Strict given) given load.secrets failure
+    ⊎ (IsStrictFailure (has Strict given) (redactor_by_given given load) failure
+    ⊎ (IsBuildRefusal (patterns_by_given given (patterns_in load.secrets)) failure ⊎ (failure ≡ Other OutOfMemory)))
+
+-- why the counts are not told
+abbrev pub IsCountsFailure : Bool → Failure → Type 0
+IsCountsFailure counted failure = (counted ≡ true) × ((failure ≡ Counts) ⊎ (failure ≡ Other OutOfMemory))
+
+-- why a call ends early: there is no pattern, one of the options or the key cannot be loaded, the counts cannot be written, the files are not
+-- redacted, or nothing is ready by what was loaded
 abbrev pub MayFail : Call → (fails : Type 0) → Failure → Type 0
 MayFail call fails failure =
     ((failure ≡ Arguments NoRoom) ⊎ ((failure ≡ Arguments NoPattern) × GivesNoPattern call.given))
     ⊎ (CannotLoadCall call failure
-    ⊎ (((failure ≡ Counts) × (counts_asked call.given ≡ true))
-    ⊎ (IsOfLoaded call (λ load. IsStrictFailure (has Strict call.given) (redactor_by_given call.given load) failure)
-    ⊎ (IsOfLoaded call (λ load. IsBuildRefusal (patterns_by_given call.given (patterns_in load.secrets)) failure)
-    ⊎ (IsRunFailure fails failure
-    ⊎ IsOfLoaded call (λ load. IsDoubtFailure (has Strict call.given) call.given load.secrets failure))))))
+    ⊎ (IsCountsFailure (counts_asked call.given) failure
+    ⊎ (IsRunFailure fails failure ⊎ IsOfLoaded call (λ load. CannotPrepare call.given load failure))))
 
 -- the line that tells why a file was not read to its end, or that the output goes to it
 abbrev pub IsUnreadLine : List (List ℕ) → List ℕ → Type 0
@@ -182,10 +189,6 @@ TellsOfFiles K names result errors errors' = TellsUnlessAll K (IsUnreadLine name
 abbrev pub IsCountsLine : List Given → List Secret → List ℕ → Type 0
 IsCountsLine given secrets line = (counts_asked given ≡ true)
     × (counts : List ℕ) × (volume : Volume) × (line ≡ totals_text given (secret_lines secrets) counts volume)
-
--- why the counts are not told
-abbrev pub IsCountsFailure : Bool → Failure → Type 0
-IsCountsFailure counted failure = (counted ≡ true) × ((failure ≡ Counts) ⊎ (failure ≡ Other OutOfMemory))
 
 -- a line that warns of a redaction by some patterns: of one of a list that may be meant otherwise, or of a piece that is not clean
 abbrev pub Warns : List Given → List Secret → Redactor → List ℕ → Type 0

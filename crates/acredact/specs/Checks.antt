@@ -1,15 +1,15 @@
 -- What a check sees of files, one after another, and what it tells.
-use Rattle.acredact.specs.Common.{All, Errors, FromRead, Ghosts, IsMember, Keeps, OutOfMemory, Patterns, Readers, Reason, SinkGhosts, TellsBytes, bytes_left, concat, name_bytes}
-use Rattle.std.specs.Prelude.{◌≡◌, ◌⊎◌, ℕ, ◌<◌, ◌≤◌, ◌||◌, Bool, true, false, List, [], ◌∷◌, ◌++◌, Option, None, Result, Ok, Err, IfOk}
+use Rattle.acredact.specs.Common.{All, Errors, FromRead, Ghosts, IsMember, Keeps, OutOfMemory, Patterns, Readers, Reason, SinkGhosts, Tells, TellsBytes, bytes_left, concat, name_bytes}
+use Rattle.std.specs.Prelude.{◌≡◌, ◌⊎◌, ℕ, ◌<◌, ◌||◌, Bool, true, false, List, [], ◌∷◌, ◌++◌, Option, None, Result, IfOk}
 use mathlib.Core.Logic.{inl}
 use Rattle.acredact.specs.Arguments.{Given, GivesNoPattern, has, words_asked, gives_pattern}
 use Rattle.acredact.specs.Builds.{patterns_by_given}
-use Rattle.acredact.specs.Calls.{Call, IsBuildRefusal, IsUnreadLine, TellsOfFiles, call_of, names_asked, reading_by}
+use Rattle.acredact.specs.Calls.{Call, IsBuildRefusal, IsUnreadLine, call_of, names_asked, reading_by}
 use Rattle.acredact.specs.Doubts.{IsDoubtFailure, TellsDoubts, all_doubt_lines}
 use Rattle.acredact.specs.Failures.{IsFailureLine}
 use Rattle.acredact.specs.Files.{BeginsWriting, are_none}
 use Rattle.acredact.specs.Loading.{AreGiven, CannotLoadAll}
-use Rattle.acredact.specs.Looks.{CanLook, BeginsToTell, IsLook, IsReadLook, Sought, all_seen, look_lines, sought, verdict_of}
+use Rattle.acredact.specs.Looks.{CanLook, BeginsToTell, IsLook, IsReadLook, LookedText, Sought, look_lines, sought, verdict_of}
 use Rattle.acredact.specs.Outcomes.{ComesOf}
 use Rattle.acredact.specs.Reads.{EachName, OfName}
 use Rattle.acredact.specs.Tables.{Secret, patterns_in}
@@ -68,9 +68,9 @@ BeginsLook quest name left left' held held' =
     OfName quest.holds name (λ l l'. BeginsWriting (λ given ended part. BeginsToTell quest.sought name given ended part) l l' held held') left left'
 
 -- what comes of it
-abbrev pub LookedNamed : {X : Type 0} → Quest → List ℕ → Result Look X → (left left' held held' : Option (List ℕ)) → Type 0
-LookedNamed quest name (Ok look) left left' held held' = IsLookOf quest name look left left' held held'
-LookedNamed quest name (Err error) left left' held held' = BeginsLook quest name left left' held held'
+abbrev pub LookedNamed : Quest → List ℕ → Result Look Failure → (left left' held held' : Option (List ℕ)) → Type 0
+LookedNamed quest name result left left' held held' =
+    IfOk result (MayBeTold quest name) × OfName quest.holds name (λ l l'. LookedText quest.sought name result l l' held held') left left'
 
 -- each file was looked at, one after another: whether something was found in one, and the lines that were told
 abbrev pub AreSeen : Quest → List (List ℕ) → (found : Bool) → (lines : List (List ℕ)) → (left left' held held' : Option (List ℕ)) → Type 0
@@ -125,7 +125,6 @@ pub record CheckSays (Unmatched Matched Quiet Told : Type 0) (status : ℕ) : Ty
   pub matched : status ≡ 1 → Matched
   pub quiet : status < 2 → Quiet
   pub tells : status ≡ 2 → Told
-  pub bound : status ≤ 2
 
 module _ {E : Type 0} (K : SinkGhosts E) where
   -- of a call whose patterns were loaded each file was looked at, and these lines were told, behind what is told of patterns of lists
@@ -142,11 +141,11 @@ module _ {E : Type 0} (K : SinkGhosts E) where
     pub loaded : AreGiven (reading_by call) call.given secrets left between
     pub doubts : TellsDoubts K (has Strict call.given) call.given secrets errors errors'
 
-  -- what comes of looking at files by these names, where the error says why not all were looked at
-  pub record SeesFiles {X : Type 0} (quest : Quest) (names : List (List ℕ)) (result : Result Verdict X) (left left' held held' : Option (List ℕ)) (errors errors' : Errors E) : Type 0 where
-    pub seen : IfOk result (λ verdict. (lines : List (List ℕ)) × (verdict.all ≡ are_none lines) × AreSeen quest names verdict.found lines left left' held held' × TellsBytes K errors errors' (concat lines))
+  -- what comes of looking at files by these names: lines are told of those that cannot be read
+  pub record SeesFiles (quest : Quest) (names : List (List ℕ)) (result : Result Verdict Failure) (left left' held held' : Option (List ℕ)) (errors errors' : Errors E) : Type 0 where
+    pub told : Tells K (IsUnreadLine names) errors errors'
     pub begun : EachName (BeginsLook quest) names left left' held held'
-    pub told : TellsOfFiles K names (all_seen result) errors errors'
+    pub seen : IfOk result (λ verdict. (verdict.all ≡ are_none told.told) × (verdict.all ≡ true → errors' ≡ errors) × AreSeen quest names verdict.found told.told left left' held held')
 
   -- each file was looked at, and each that cannot be read is told: there is one
   pub record TellsUnread (call : Call) (left left' : Option (List ℕ)) (errors errors' : Errors E) : Type 0 where
@@ -178,7 +177,7 @@ module _ {E : Type 0} (K : SinkGhosts E) where
       (TellsUnread call left left' errors errors' ⊎ TellsCheckEnd call errors errors') status
 
 -- what holds of all that is looked for
-abbrev pub IfSought : {L X : Type 0} → Lookers L X → L → (Sought → Type 0) → Type 0
+abbrev pub IfSought : {L : Type 0} → Lookers L → L → (Sought → Type 0) → Type 0
 IfSought G looker Holds = (s : Sought) → G.by looker s → Holds s
 
 -- what looks for patterns looks for these
@@ -188,13 +187,13 @@ pub record IsByTexts {A : Type 0} (G : Ghosts A) (automaton : A) (words : Bool) 
 
 module _ {F X R W : Type 0} {Reads : Readers R} (J : SinkGhosts W) where
   -- what comes of looking at the file of a name
-  abbrev pub LooksAtName : Folders F X → Searched F → List ℕ → {Y : Type 0} → Result Look Y
+  abbrev pub LooksAtName : Folders F X → Searched F → List ℕ → Result Look Failure
       → (input input' : FromRead R Reads) → (output output' : W) → Sought → Type 0
   LooksAtName D files name result input input' output output' s =
       LookedNamed (quest_of D files s) name result (bytes_left input) (bytes_left input') (J.taken output) (J.taken output')
 
   -- and at all files
-  abbrev pub SeesSearched : {E : Type 0} → SinkGhosts E → Folders F X → Searched F → {Y : Type 0} → Result Verdict Y
+  abbrev pub SeesSearched : {E : Type 0} → SinkGhosts E → Folders F X → Searched F → Result Verdict Failure
       → (input input' : FromRead R Reads) → (output output' : W) → (errors errors' : Errors E) → Sought → Type 0
   SeesSearched K D files result input input' output output' errors errors' s =
       SeesFiles K (quest_of D files s) (name_bytes files.names.now) result (bytes_left input) (bytes_left input') (J.taken output) (J.taken output') errors errors'

@@ -140,6 +140,5 @@ abbrev pub HideSecrets : AskedForms → List Secret → Type 0
 HideSecrets asked secrets = All (HidesSecret asked) secrets
 
 -- the forms that a value names stand behind these rules
-pub record AddsForms {Z : Type 0} (value : Option (List ℕ)) (rules rules' : Vec Rule Z) : Type 0 where
-  pub are : secrets_of rules'.items ≡ with_forms (forms_asked value) (secrets_of rules.items)
-  pub hidden : HideSecrets (forms_asked value) (secrets_of rules.items)
+abbrev pub AddsForms : {Z : Type 0} → Option (List ℕ) → (rules rules' : Vec Rule Z) → Type 0
+AddsForms value rules rules' = secrets_of rules'.items ≡ with_forms (forms_asked value) (secrets_of rules.items)

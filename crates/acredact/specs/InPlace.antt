@@ -5,10 +5,10 @@ use Rattle.std.specs.declared.alloc.AllocError.{AllocError}
 use Rattle.std.specs.Prelude.{◌≡◌, ◌⊎◌, ℕ, Bool, true, false, List, [], ◌∷◌, IfSome, Option, Result, Ok, OnOk}
 use Rattle.tool_parts.specs.Names.{IsOneOf}
 use Rattle.acredact.specs.Arguments.{Given}
-use Rattle.acredact.specs.Calls.{Call, DoneCall, IsLineOf, LoadsCall, MayFail, OutputFails, RedactsWhole, TellsUnlessAll, WarnsAndCounts, call_of, names_asked, work_by}
+use Rattle.acredact.specs.Calls.{Call, DoneCall, IsLineOf, IsUnreadLine, LoadsCall, MayFail, OutputFails, RedactsWhole, TellsUnlessAll, WarnsAndCounts, call_of, names_asked, work_by}
 use Rattle.acredact.specs.Failures.{IsFailureLine}
 use Rattle.acredact.specs.Files.{AreFree, AreRedacted, Work, redactor_of, unread_line, work_of}
-use Rattle.acredact.specs.Messages.{no_file_line, no_output_line, output_line}
+use Rattle.acredact.specs.Messages.{no_file_line, no_output_line}
 use Rattle.acredact.specs.Outcomes.{ComesOf, EndSays}
 use Rattle.acredact.specs.Ruled.{IsRuledTold, NotesAsked, RuledAsked}
 use Rattle.acredact.specs.Totals.{CountsOfName, CountsOfNames}
@@ -64,7 +64,7 @@ work_for D job p = work_of D job (redactor_of job p)
 
 -- why a file is not replaced, as a line: it cannot be read or replaced, the output goes to it, or it is standard input
 abbrev pub IsSparedLine : List ℕ → List ℕ → Type 0
-IsSparedLine name line = ((reason : Reason) × (line ≡ unread_line name reason)) ⊎ ((line ≡ output_line name) ⊎ ((is_input name ≡ true) × (line ≡ no_file_line name)))
+IsSparedLine name line = IsUnreadLine (name ∷ []) line ⊎ ((is_input name ≡ true) × (line ≡ no_file_line name))
 
 -- the same of one of some files
 abbrev pub IsSparedOf : List (List ℕ) → List ℕ → Type 0
@@ -122,14 +122,11 @@ module _ {R O Z E : Type 0} {Reads : Readers R} (Writes : Writers Z) (K : SinkGh
     pub begun : BeginInTurn (IsPlaced Writes U work) names old.0 new.0
     pub told : TellsUnlessAll K (IsSparedOf names) result old.1.errors new.1.errors
 
-module _ {R O Z E : Type 0} {Reads : Readers R} (Writes : Writers Z) (K : SinkGhosts E) (U : Places O Z) (name : List ℕ) (done : Result Bool StreamError) where
+module _ {O Z E : Type 0} (Writes : Writers Z) (K : SinkGhosts E) (U : Places O Z) (name : List ℕ) (done : Result Bool StreamError) (file : FromWrite Z) where
   -- a new file took its place, where all was done; or it was removed, and it is told why, or was before
-  abbrev pub IsSettled : Bool → (outputs outputs' : O) → (streams streams' : Streams R Z E Reads) → Type 0
-  IsSettled true outputs outputs' streams streams' =
-      (done ≡ Ok true) × (streams'.errors ≡ streams.errors) × U.puts outputs outputs' name (output_bytes Writes streams.output)
-  IsSettled false outputs outputs' streams streams' =
-      IsKept U name outputs outputs'
-      × (((done ≡ Ok false) × (streams'.errors ≡ streams.errors)) ⊎ TellsUnread K name streams.errors streams'.errors)
+  abbrev pub IsSettled : Bool → (outputs outputs' : O) → (errors errors' : Errors E) → Type 0
+  IsSettled true outputs outputs' errors errors' = (done ≡ Ok true) × (errors' ≡ errors) × U.puts outputs outputs' name (output_bytes Writes file)
+  IsSettled false outputs outputs' errors errors' = IsKept U name outputs outputs' × (((done ≡ Ok false) × (errors' ≡ errors)) ⊎ TellsUnread K name errors errors')
 
 -- what may be told of a call: what is told of a redaction that writes nothing to standard output, and that standard input is no file
 abbrev pub IsPlaceLine : Call → List ℕ → Type 0

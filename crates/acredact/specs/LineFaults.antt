@@ -1,6 +1,6 @@
 -- Why a line of a file of patterns or of a table holds no secret.
 use Rattle.acredact.specs.Common.{ends_with_byte}
-use Rattle.std.specs.Prelude.{◌≡◌, ◌⊎◌, ℕ, ◌+◌, ◌-◌, ◌^◌, min, Bool, MatchBool, true, false, List, [], ◌∷◌, ◌++◌, Option, Some, None, codes, if◌then◌else◌, length, nat_eq}
+use Rattle.std.specs.Prelude.{◌≡◌, ◌≢◌, ◌⊎◌, ℕ, ◌+◌, ◌-◌, ◌^◌, min, Bool, MatchBool, true, false, List, [], ◌∷◌, ◌++◌, Option, Some, None, codes, if◌then◌else◌, length, nat_eq, slice_index}
 use Rattle.std.specs.List.{starts_with}
 use Rattle.acredact.specs.Tables.{IsWithout, in_table, stripped_by}
 use Rattle.acredact.specs.declared.patterns.BadLine.{BadLine}
@@ -8,15 +8,15 @@ use Rattle.acredact.specs.declared.patterns.Form.{Form}
 use Rattle.acredact.specs.declared.patterns.LineFault.{LineFault}
 use Rattle.acredact.specs.declared.patterns.LineFault.TheVariants.{EmptyPattern, NoTab, SecondTab, BadEscape, CarriageReturn, ByteOrderMark, Utf16, ZeroByte, Blank, Quotes, NoEquals, EmptyValue, OutOfMemory}
 
--- behind a backslash stands none of 't', 'n' and a backslash
-abbrev pub NamesNone : List ℕ → Type 0
-NamesNone [] = Unit {0}
-NamesNone (byte ∷ bytes) = (nat_eq byte 116 ≡ false) × (nat_eq byte 110 ≡ false) × (nat_eq byte 92 ≡ false)
+-- 't', 'n' and a backslash name a byte behind a backslash, and no other byte does
+abbrev pub NamesNone : ℕ → Type 0
+NamesNone byte = (byte ≢ 116) × (byte ≢ 110) × (byte ≢ 92)
 
--- a text begins with what stands for no byte in a table: a TAB, or else a line end or a backslash that names no byte
+-- a text begins with what stands for no byte in a table: a TAB, or else a line end or a backslash that names no byte; where a text has
+-- no byte at a place it counts as 0
 abbrev pub IsBadStart : List ℕ → LineFault → Type 0
-IsBadStart text SecondTab = (rest : List ℕ) × (text ≡ 9 ∷ rest)
-IsBadStart text BadEscape = (rest : List ℕ) × ((text ≡ 10 ∷ rest) ⊎ ((text ≡ 92 ∷ rest) × NamesNone rest))
+IsBadStart text SecondTab = slice_index text 0 ≡ 9
+IsBadStart text BadEscape = (slice_index text 0 ≡ 10) ⊎ ((slice_index text 0 ≡ 92) × NamesNone (slice_index text 1))
 IsBadStart text other = ⊥
 
 -- that is so of a text behind some bytes, or memory runs out

@@ -1,16 +1,14 @@
 -- What a check looks for in texts, and what it sees of one and tells of it.
-use Rattle.acredact.specs.Common.{Ghosts, MayBe, Memory, Occurrence, Patterns, PositionLimit, Read, ReadFault, SourceGave, SourceGhosts, StreamError, TooLong}
-use Rattle.std.specs.Prelude.{◌≡◌, ◌⊎◌, ℕ, ◌||◌, ◌&&◌, Bool, MatchBool, true, false, List, [], ◌∷◌, Option, None, Some, Result, Ok, Err, IfErr, IfOk, alloc_error}
+use Rattle.acredact.specs.Common.{Ghosts, MayBe, Memory, Occurrence, Patterns, PositionLimit, Read, SourceGave, SourceGhosts, StreamError}
+use Rattle.std.specs.Prelude.{◌≡◌, ◌⊎◌, ℕ, ◌||◌, ◌&&◌, Bool, MatchBool, true, false, List, [], ◌∷◌, Option, None, Some, Result, Ok, Err, IfErr, IfOk}
 use mathlib.Core.Logic.{inl, inr}
-use Rattle.std.specs.declared.alloc.AllocError.{AllocError}
 use Rattle.aho_core.specs.declared.error.stream.StreamError.TheVariants.{Match, Write, WriteZero}
-use Rattle.secret_rules.specs.declared.error.LineError.{LineError}
-use Rattle.secret_rules.specs.declared.error.LineError.TheVariants.{Stream}
 use Rattle.acredact.specs.Faults.{IsReadReason}
 use Rattle.acredact.specs.Files.{BeginsWriting, unread_line}
 use Rattle.acredact.specs.Findings.{BeginsFindings, LineSought, TellsText}
 use Rattle.acredact.specs.Messages.{output_line}
 use Rattle.acredact.specs.Secrets.{CanDoStreams, CountsFor, Redactor, redactor_by}
+use Rattle.acredact.specs.declared.failure.Failure.{Failure}
 use Rattle.acredact.specs.declared.look.Look.{Look}
 use Rattle.acredact.specs.declared.look.Look.TheVariants.{Clean, Found, Output, Unread}
 use Rattle.acredact.specs.declared.look.Verdict.{Verdict}
@@ -58,25 +56,6 @@ occurs_of None = Ok false
 occurs_of (Some (Ok m)) = Ok true
 occurs_of (Some (Err error)) = Err error
 
--- what that means for a file: one that cannot be read is told, and anything else ends the program
-abbrev pub look_of : Result Bool StreamError → Result Look AllocError
-look_of (Ok true) = Ok Found
-look_of (Ok false) = Ok Clean
-look_of (Err (Match cause)) = Err alloc_error
-look_of (Err (Read fault)) = Ok (Unread ReadFault)
-look_of (Err (Write fault)) = Err alloc_error
-look_of (Err WriteZero) = Err alloc_error
-look_of (Err Memory) = Err alloc_error
-look_of (Err PositionLimit) = Ok (Unread TooLong)
-
--- the same of lines, by whether something was found in those that were told
-abbrev pub look_of_lines : Result (Unit {0}) LineError → (found : Bool) → Result Look LineError
-look_of_lines (Ok done) true = Ok Found
-look_of_lines (Ok done) false = Ok Clean
-look_of_lines (Err (Stream (Read fault))) found = Ok (Unread ReadFault)
-look_of_lines (Err (Stream PositionLimit)) found = Ok (Unread TooLong)
-look_of_lines (Err error) found = Err error
-
 -- what is seen of a file: whether something was found, and whether it was read to its end or up to that
 abbrev pub verdict_as : (found all : Bool) → Verdict
 verdict_as found all = record { found = found; all = all }
@@ -90,11 +69,6 @@ verdict_of Output = verdict_as false false
 -- what is seen of files, and then of others
 abbrev pub both_seen : (first more : Verdict) → Verdict
 both_seen first more = verdict_as (first.found || more.found) (first.all && more.all)
-
--- whether all files were read, where that is answered
-abbrev pub all_seen : {X : Type 0} → Result Verdict X → Result Bool X
-all_seen (Ok verdict) = Ok verdict.all
-all_seen (Err error) = Err error
 
 -- what is told of a file
 abbrev pub look_lines : List ℕ → Look → List (List ℕ)
@@ -124,12 +98,12 @@ IsLook s name Found given ended part = IsSeen s name true given ended part
 IsLook s name (Unread reason) given ended part = BeginsToTell s name given ended part
 IsLook s name Output given ended part = BeginsToTell s name given ended part
 
-abbrev pub LooksSo : {X : Type 0} → Sought → (name : List ℕ) → Result Look X → (given : List ℕ) → (ended : Bool) → (part : List ℕ) → Type 0
+abbrev pub LooksSo : Sought → (name : List ℕ) → Result Look Failure → (given : List ℕ) → (ended : Bool) → (part : List ℕ) → Type 0
 LooksSo s name (Ok look) given ended part = IsLook s name look given ended part
-LooksSo s name (Err error) given ended part = BeginsToTell s name given ended part
+LooksSo s name (Err failure) given ended part = BeginsToTell s name given ended part
 
 -- what comes of a look at a text: some of it was read, and this is so of that
-abbrev pub LookedText : {X : Type 0} → Sought → (name : List ℕ) → Result Look X → (left left' held held' : Option (List ℕ)) → Type 0
+abbrev pub LookedText : Sought → (name : List ℕ) → Result Look Failure → (left left' held held' : Option (List ℕ)) → Type 0
 LookedText s name result left left' held held' =
     BeginsWriting (λ given ended part. LooksSo s name result given ended part) left left' held held'
 

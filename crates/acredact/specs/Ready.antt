@@ -1,19 +1,15 @@
--- What is ready before any file is read, and why it is not.
+-- What is ready before any file is read.
 use Rattle.acredact.specs.Common.{name_bytes, pieces_of}
-use Rattle.std.specs.Prelude.{◌≡◌, ◌⊎◌, List}
+use Rattle.std.specs.Prelude.{◌≡◌, List}
 use Rattle.aho_core.specs.declared.search.Anchored.TheVariants.{No}
 use Rattle.chromesquid.specs.Searcher.{Answers, IsBuiltFrom}
-use Rattle.acredact.specs.Arguments.{Given, all_given, has}
+use Rattle.acredact.specs.Arguments.{Given, all_given}
 use Rattle.acredact.specs.Builds.{patterns_by_given}
-use Rattle.acredact.specs.Calls.{IsStrictFailure, names_asked, pieces_asked, redactor_by_given}
-use Rattle.acredact.specs.Checks.{IsBuildFailure}
-use Rattle.acredact.specs.Doubts.{IsDoubtFailure}
+use Rattle.acredact.specs.Calls.{names_asked, pieces_asked, redactor_by_given}
 use Rattle.acredact.specs.Files.{redactor_of}
 use Rattle.acredact.specs.Loading.{Loaded}
 use Rattle.acredact.specs.Tables.{Secret, patterns_in, secrets_of}
 use Rattle.acredact.specs.declared.options.Item.{Item}
-use Rattle.acredact.specs.declared.options.Word.TheVariants.{Strict}
-use Rattle.acredact.specs.declared.failure.Failure.{Failure}
 use Rattle.acredact.specs.declared.files.Job.{Job}
 use Rattle.acredact.specs.declared.prepare.Ready.{Ready}
 use Rattle.acredact.specs.declared.secrets.Secrets.{Secrets}
@@ -35,8 +31,3 @@ pub record IsJobFor {F : Type 0} (folder : F) (given : List Given) (load : Loade
   pub opens : job.folder.now ≡ folder
   pub names : name_bytes job.names.now ≡ names_asked given
   pub redactor : redactor_of job (patterns_by_given given (patterns_in load.secrets)) ≡ redactor_by_given given load
-
--- why it is not ready: a pattern of a list may be meant otherwise, or a piece is refused, or the library refuses the patterns, or memory runs out
-abbrev pub CannotPrepare : List Given → Loaded → Failure → Type 0
-CannotPrepare given load failure = IsDoubtFailure (has Strict given) given load.secrets failure
-    ⊎ (IsStrictFailure (has Strict given) (redactor_by_given given load) failure ⊎ IsBuildFailure (patterns_by_given given (patterns_in load.secrets)) failure)

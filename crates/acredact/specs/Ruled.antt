@@ -18,7 +18,7 @@ use Rattle.acredact.specs.Failures.{IsFailureLine}
 use Rattle.acredact.specs.LineRules.{AreRulesRead, most_asked}
 use Rattle.acredact.specs.LongLines.{TellsLong, too_long_line}
 use Rattle.acredact.specs.Loading.{AreGiven, IsKeyGiven, Reading, key_lent, secrets_by}
-use Rattle.acredact.specs.RunCounts.{AreAllRuns, HaveRuns, IsRunsLine, TellsAnyTotals, TellsRunTotals}
+use Rattle.acredact.specs.RunCounts.{AreAllRuns, HaveRuns, IsRunsLine, TellsRunTotals}
 use Rattle.acredact.specs.Outcomes.{ComesOf, EndSays}
 use Rattle.acredact.specs.RunPieces.{mixed_rule, pseudonyms_by}
 use Rattle.acredact.specs.Summaries.{no_volume}
@@ -182,52 +182,40 @@ module _ {E : Type 0} (K : SinkGhosts E) where
   OutcomeOf call all Whole Begun Notes result errors errors' =
       ComesOf K (IsRuledTold call) all Whole (TellsSome K (IsRuledTold call) errors errors') Begun Notes (λ (failure : Failure). Unit {0}) result errors errors'
 
-  -- where all was redacted it is told how many lines were too long, and then, where that is asked for, how many runs have each number and
-  -- how much was read
-  pub record NumbersOf (call : Call) (load : RuledLoad) (left left' : Option (List ℕ)) (errors errors' : Errors E) : Type 0 where
-    pub meanwhile : Errors E
-    pub long : TellsLong K call.holds (most_asked call.given) (names_asked call.given) left left' errors meanwhile
+  -- how many runs of all files have the number of each of them, and how much was read: where one of both is asked for that is told
+  pub record RunsOf (call : Call) (load : RuledLoad) (asked : Bool) (left left' : Option (List ℕ)) (errors errors' : Errors E) : Type 0 where
     pub runs : List Occurrence
     pub have : HaveRuns call.holds (ruling_by call.given load).covering (names_asked call.given) runs left left'
     pub volume : Volume
     pub read : ReadsVolume call.holds (names_asked call.given) no_volume volume left left'
-    pub counted : TellsAnyTotals K call.given load.secrets load.rules runs volume meanwhile errors'
+    pub counted : TellsRunTotals K call.given load.secrets load.rules asked runs volume errors errors'
 
-  -- and before that which patterns of lists are doubtful
+  -- where all was redacted it is told how many lines were too long, and then that; and before all which patterns of lists are doubtful
   pub record NotesOf (call : Call) (load : RuledLoad) (left left' : Option (List ℕ)) (errors errors' : Errors E) : Type 0 where
+    pub warned : Errors E
+    pub doubted : TellsDoubts K false call.given load.secrets errors warned
     pub meanwhile : Errors E
-    pub doubted : TellsDoubts K false call.given load.secrets errors meanwhile
-    pub numbers : NumbersOf call load left left' meanwhile errors'
+    pub long : TellsLong K call.holds (most_asked call.given) (names_asked call.given) left left' warned meanwhile
+    pub runs : RunsOf call load (counts_asked call.given) left left' meanwhile errors'
 
   -- of the patterns and rules that were loaded
   abbrev pub NotesByRules : Call → (left left' : Option (List ℕ)) → (errors errors' : Errors E) → Type 0
   NotesByRules call left left' errors errors' = LoadsRules call left (λ load between. NotesOf call load between left' errors errors')
 
-  -- at the end it is told how many runs of all files have the number of each of them, and how much was read: each of both that is asked for
-  pub record CountsByRules (call : Call) (left left' : Option (List ℕ)) (errors' : Errors E) : Type 0 where
-    pub load : RuledLoad
-    pub between : Option (List ℕ)
-    pub loaded : AreRuledLoaded (reading_by call) call.given load left between
-    pub runs : List Occurrence
-    pub have : HaveRuns call.holds (ruling_by call.given load).covering (names_asked call.given) runs between left'
-    pub volume : Volume
-    pub read : ReadsVolume call.holds (names_asked call.given) no_volume volume between left'
-    pub meanwhile : Errors E
-    pub counted : TellsRunTotals K call.given load.secrets load.rules runs volume meanwhile errors'
+  -- a call that asks for counts or a summary tells them
+  abbrev pub CountsByRules : Call → (left left' : Option (List ℕ)) → (errors' : Errors E) → Type 0
+  CountsByRules call left left' errors' = LoadsRules call left (λ load between. (meanwhile : Errors E) × RunsOf call load true between left' meanwhile errors')
 
-  -- of the files of a call whose patterns and rules were loaded
-  abbrev pub RuledOutcome : Call → RuledLoad → Result Bool Failure → (left left' held held' : Option (List ℕ))
-      → (errors errors' : Errors E) → Type 0
-  RuledOutcome call load result left left' held held' errors errors' =
-      OutcomeOf call (λ all. all) (λ all. EachIsWritten (ruled_by call load) (names_asked call.given) left left' held held')
-      (AreBegun (ruled_by call load) (names_asked call.given) left left' held held')
-      (NumbersOf call load left left' errors errors') result errors errors'
-
-  -- and of the whole call
+  -- what comes of a call
   abbrev pub RuledCall : Call → Result Bool Failure → (left left' held held' : Option (List ℕ)) → (errors errors' : Errors E) → Type 0
   RuledCall call result left left' held held' errors errors' =
       OutcomeOf call (λ all. all) (λ all. RedactsByRules call left left' held held')
       (BeginsByRules call left left' held held') (NotesByRules call left left' errors errors') result errors errors'
+
+  -- and what comes of its files is that, behind what was loaded and what was told of doubtful patterns of it
+  pub record RuledOutcome (call : Call) (load : RuledLoad) (result : Result Bool Failure) (between left' held held' : Option (List ℕ)) (errors errors' : Errors E) : Type 0 where
+    pub behind : (left : Option (List ℕ)) (first : Errors E) → AreRuledLoaded (reading_by call) call.given load left between
+        → TellsDoubts K false call.given load.secrets first errors → RuledCall call result left left' held held' first errors'
 
   -- what its status says
   abbrev pub RuledStatus : Call → (status : ℕ) → (left left' held held' : Option (List ℕ)) → (errors errors' : Errors E) → Type 0

@@ -1,16 +1,15 @@
 -- What a check by rules sees in the lines of files, and what it writes of that.
-use Rattle.acredact.specs.Common.{Errors, Keeps, Readers, Rule, SinkGhosts, TellsSome, Writers, bytes_left, name_bytes, output_bytes}
+use Rattle.acredact.specs.Common.{Errors, Keeps, Readers, Rule, SinkGhosts, TellsSome, Writers, bytes_left, output_bytes}
 use Rattle.std.specs.Prelude.{◌≡◌, ◌⊎◌, ℕ, ◌<◌, Bool, true, false, List, [], Option, None, Result}
 use mathlib.Core.Logic.{inr}
 use Rattle.aho_automaton.specs.declared.automaton.Automaton.{Ghosts as Automata}
 use Rattle.secret_rules.specs.Covering.{covering_by}
 use Rattle.secret_rules.specs.LineCovers.{AreSearchedFor}
 use Rattle.secret_rules.specs.Ready.{CanCoverLines, most_of, rules_of, searched_automaton, words_of}
-use Rattle.secret_rules.specs.declared.error.LineError.{LineError}
 use Rattle.secret_rules.specs.declared.line_cover.LineCover.{LineCover}
-use Rattle.acredact.specs.Arguments.{AsksForRulesCheck, Given, all_given, has}
+use Rattle.acredact.specs.Arguments.{Given, all_given, has}
 use Rattle.acredact.specs.Calls.{Call, call_of, names_asked, reading_by}
-use Rattle.acredact.specs.Checks.{AreSeen, BeginsLook, CheckSays, Quest, SeesFiles, quest_for, quest_of}
+use Rattle.acredact.specs.Checks.{AreSeen, BeginsLook, CheckSays, Quest, quest_for}
 use Rattle.acredact.specs.Doubts.{TellsDoubts}
 use Rattle.acredact.specs.Findings.{LineSought, labels_of}
 use Rattle.acredact.specs.LineRules.{most_asked}
@@ -23,11 +22,9 @@ use Rattle.acredact.specs.declared.options.Item.{Item}
 use Rattle.acredact.specs.declared.failure.Failure.{Failure}
 use Rattle.acredact.specs.declared.folder.Folder.{Ghosts as Folders}
 use Rattle.acredact.specs.declared.legend.Legend.{Legend}
-use Rattle.acredact.specs.declared.look.Searched.{Searched}
 use Rattle.acredact.specs.declared.look.Verdict.{Verdict}
 use Rattle.acredact.specs.declared.rule.Rule.{Rule as PatternRule}
 use Rattle.acredact.specs.declared.streams.Streams.{Streams}
-use Rattle.acredact.specs.declared.teller.ByLines.{ByLines}
 
 -- what is loaded: the secrets that are patterns, and the rules
 pub record CheckLoad : Type 0 where
@@ -108,18 +105,7 @@ pub record IsByLines {A : Type 0} (G : Automata A) (cover : LineCover A) (legend
   pub covers : lines.covering ≡ covering_by (words_of cover) (rules_of cover) (most_of cover) lines.covering.patterns
   pub labels : lines.labels ≡ labels_of legend
 
--- what holds of all that lines are looked at for
-abbrev pub IfByLines : {A : Type 0} → Automata A → ByLines A → (Sought → Type 0) → Type 0
-IfByLines G looker Holds = (s : Sought) → IsByLines G looker.cover looker.legend s → Holds s
-
 module _ {R : Type 0} {Reads : Readers R} {W E : Type 0} (Writes : Writers W) (K : SinkGhosts E) where
-  -- what comes of files, of which something is told to the output where that is asked for
-  abbrev pub SeesTo : {F X : Type 0} → Folders F X → Searched F
-      → Result Verdict LineError → (streams streams' : Streams R W E Reads) → Sought → Type 0
-  SeesTo D files result streams streams' s = (held held' : Option (List ℕ))
-      × (files.tells ≡ true → (held ≡ output_bytes Writes streams.output) × Keeps held' (output_bytes Writes streams'.output))
-      × SeesFiles K (quest_of D files s) (name_bytes files.names.now) result (bytes_left streams.input) (bytes_left streams'.input) held held' streams.errors streams'.errors
-
   -- what comes of patterns and rules that were loaded
   abbrev pub LoadedCheck : {F X : Type 0} → Folders F X → F → List Item → List PatternRule
       → List Rule → Result Verdict Failure → (streams streams' : Streams R W E Reads) → Type 0
@@ -137,11 +123,6 @@ pub record ChecksByRules {R W E : Type 0} {Reads : Readers R} (Writes : Writers 
   pub begins : BeginsRuledCheck call (bytes_left streams.input) (bytes_left streams'.input) (output_bytes Writes streams.output) (output_bytes Writes streams'.output)
   pub unwritten : has Summary call.given ≡ false → streams'.output ≡ streams.output
   pub flushed : has Summary call.given ≡ true → status < 2 → streams'.output.device.flushed ≡ true
-
-abbrev pub SaysOfRulesCheck : {R W E F X : Type 0} {Reads : Readers R} → Writers W → SinkGhosts E
-    → Folders F X → F → List Given → ℕ → (streams streams' : Streams R W E Reads) → Type 0
-SaysOfRulesCheck Writes K D folder given status streams streams' = AsksForRulesCheck given
-    → ChecksByRules Writes K (call_of D folder given) status streams streams'
 
 module _ {R W E F X : Type 0} {Reads : Readers R} (D : Folders F X) (folder : F) (given : List Given) (streams streams' : Streams R W E Reads) where
   -- of a call that asks for this each file was read to its end, and no line has a run, or one has

@@ -1,6 +1,6 @@
 -- How many runs have the number of each pattern and of each rule, file after file, and how that and a summary are told.
 use Rattle.acredact.specs.Common.{AreLineRuns, Covering, Errors, Occurrence, Rule, SinkGhosts, stream_lines, Bor}
-use Rattle.std.specs.Prelude.{◌≡◌, ℕ, ◌+◌, MatchBool, true, List, [], Option, drop, length, Some}
+use Rattle.std.specs.Prelude.{◌≡◌, ℕ, ◌+◌, Bool, MatchBool, true, List, [], Option, drop, length, Some}
 use Rattle.secret_rules.specs.LineCovers.{all_of}
 use Rattle.acredact.specs.Arguments.{Given, all_given, counts_asked, counts_given}
 use Rattle.acredact.specs.Counts.{secret_lines}
@@ -44,16 +44,12 @@ IsRunsLine given line =
     × (volume : Volume) × (line ≡ run_totals_text given secrets rules counts volume)
 
 module _ {E : Type 0} (K : SinkGhosts E) (given : List Given) (secrets : List Secret) (rules : List Rule) where
-  -- the counts of all runs are told whole, and that so much was read: one for each pattern and for each rule, and one for lines that are
-  -- too long
-  pub record TellsRunTotals (runs : List Occurrence) (volume : Volume) (errors errors' : Errors E) : Type 0 where
+  -- where they are asked for, the counts of all runs are told whole, and that so much was read: one for each pattern and for each rule, and
+  -- one for lines that are too long; and else nothing is
+  pub record TellsRunTotals (asked : Bool) (runs : List Occurrence) (volume : Volume) (errors errors' : Errors E) : Type 0 where
     pub counts : List ℕ
     pub totals : AreTotals (length secrets + length rules + 1) runs counts
-    pub told : TellsWhole K (run_totals_text given secrets rules counts volume) errors errors'
-
-  -- where they are asked for, and else nothing is
-  abbrev pub TellsAnyTotals : List Occurrence → Volume → (errors errors' : Errors E) → Type 0
-  TellsAnyTotals runs volume errors errors' = MatchBool (counts_asked given) (TellsRunTotals runs volume errors errors') (errors' ≡ errors)
+    pub told : MatchBool asked (TellsWhole K (run_totals_text given secrets rules counts volume) errors errors') (errors' ≡ errors)
 
 -- the same of what was counted for these rules
 abbrev pub counted_text : List Item → List PatternRule → Option (Bor (List Rule)) → (counts : List ℕ) → Volume → List ℕ

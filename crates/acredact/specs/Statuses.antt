@@ -38,8 +38,8 @@ SaysOfAim Writes K call status streams streams' RedactLines = Between Writes (Ru
 SaysOfAim Writes K call status streams streams' CheckTexts = ChecksAlone K call status streams streams'
 SaysOfAim Writes K call status streams streams' CheckLines = ChecksByRules Writes K call status streams streams'
 
--- and of these options and files
+-- and of these options and files, which ask for it
 abbrev pub SaysOfCall : {R W E F X : Type 0} {Reads : Readers R} → Writers W → SinkGhosts E
     → Folders F X → F → ℕ → (streams streams' : Streams R W E Reads) → List Given → Type 0
 SaysOfCall Writes K D folder status streams streams' given =
-    SaysOfAim Writes K (call_of D folder given) status streams streams' (aim_of given)
+    (aim : Aim) → aim_of given ≡ aim → SaysOfAim Writes K (call_of D folder given) status streams streams' aim

@@ -2,7 +2,7 @@
 
 ghost use Rattle.std.specs.Prelude.{◌≡◌, ◌++◌, [], ◌∷◌, Ok, Some, IfErr, IfOk, OnOk, string_bytes};
 ghost use Rattle.tool_parts.specs.Arguments.{texts};
-ghost use Rattle.acredact.specs.Arguments.{FailsAs, IsMistake, IsMistakeOfCall, ReadsAs, all_asked, all_given, by_any, by_argument, given, given_by, is_value_of, by_joined, by_letter, by_letters, mixture_of, by_name, by_taken, rules_mixture_of, words_mixture_of, by_value};
+ghost use Rattle.acredact.specs.Arguments.{FailsAs, IsMistake, IsMistakeOfCall, ReadsAs, all_asked, all_given, by_any, by_argument, given, given_by, is_value_of, by_joined, by_letters, mixture_of, by_name, by_taken, rules_mixture_of, words_mixture_of, by_value};
 
 use crate::forms::are_forms;
 use crate::line_size::size_of;
@@ -211,29 +211,18 @@ fn read_letters<'a>(items: &mut Vec<Item<'a>>, letters: &'a str) -> Result<Expec
         } else if let Some(behind) = rest.strip_prefix('w') {
             add(items, Word::AsWord, "")?;
             rest = behind;
+        } else if let Some(behind) = rest.strip_prefix('e') {
+            return take_value(items, Word::Pattern, behind);
+        } else if let Some(behind) = rest.strip_prefix('f') {
+            return take_value(items, Word::Patterns, behind);
+        } else if let Some(behind) = rest.strip_prefix('t') {
+            return take_value(items, Word::Table, behind);
         } else {
-            return read_letter(items, rest);
+            return match rest.as_bytes().first() {
+                Some(letter) => Err(Mistake::UnknownLetter(*letter)),
+                None => Ok(Expects::Any),
+            };
         }
-    }
-}
-
-/// Reads the letter of an option with a value, and what stands behind it.
-fn read_letter<'a>(items: &mut Vec<Item<'a>>, letters: &'a str) -> Result<Expects, Mistake<'a>>
-    ensures read { ReadsAs (by_letter letters.now) items.old items.new result }
-    ensures refused { FailsAs (by_letter letters.now) items.old result }
-{
-    if let Some(behind) = letters.strip_prefix('e') {
-        return take_value(items, Word::Pattern, behind);
-    }
-    if let Some(behind) = letters.strip_prefix('f') {
-        return take_value(items, Word::Patterns, behind);
-    }
-    if let Some(behind) = letters.strip_prefix('t') {
-        return take_value(items, Word::Table, behind);
-    }
-    match letters.as_bytes().first() {
-        Some(letter) => Err(Mistake::UnknownLetter(*letter)),
-        None => Ok(Expects::Any),
     }
 }
 

@@ -1,6 +1,6 @@
 //! A check: whether something would be replaced in files. It writes nothing but warnings and failures.
 
-ghost use Rattle.std.specs.Prelude.{◌≡◌, OnOk};
+ghost use Rattle.std.specs.Prelude.{◌≡◌, ◌≤◌, OnOk};
 ghost use Rattle.acredact.specs.Arguments.{GivesNoPattern, all_given};
 ghost use Rattle.acredact.specs.Checks.{ChecksGiven, EndsCheck};
 ghost use Rattle.acredact.specs.Statuses.{check_status};
@@ -35,6 +35,7 @@ pub fn check<F: Folder, I: Read, E: Sink>(
     ensures unread { GivesNoPattern (all_given given.now) → input.new ≡ input.old }
     ensures says { EndsCheck E.Sink F.Folder folder.now (all_given given.now) result
         input.old input.new errors.old errors.new }
+    ensures bound { result ≤ 2 }
 {
     match check_given(alloc, given, folder, input, errors) {
         Ok(verdict) => status_of(verdict),
@@ -92,6 +93,5 @@ fn check_given<'a, F: Folder, I: Read, E: Sink>(
         names: ready.names.as_slice(),
         tells: false,
     };
-    let verdict = look_at_files(&mut looker, &files, input, &mut Nowhere, errors)?;
-    Ok(verdict)
+    look_at_files(&mut looker, &files, input, &mut Nowhere, errors)
 }

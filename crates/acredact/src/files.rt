@@ -61,7 +61,7 @@ pub fn redact_files<A: Automaton, B: Automaton, F: Folder, I: Read, W: Write, E:
 ) -> Result<bool, StreamError>
     requires ready { CanDo A.Automaton automaton.now job.now }
     requires both { (p : Patterns) × A.is_of automaton.now p × MayWalkBack B.Automaton backward p }
-    ensures done { IfOf A.Automaton automaton.now (λ p. MayWalkBack B.Automaton backward.entry p → DoesByPatterns
+    ensures { IfOf A.Automaton automaton.now (λ p. MayWalkBack B.Automaton backward.entry p → DoesByPatterns
         W.Write E.Sink F.Folder job.now result streams.old streams.new counts.old counts.new volume.old volume.new p) }
 {
     if job.covers {
@@ -86,7 +86,7 @@ fn cover_files<A: Automaton, F: Folder, I: Read, W: Write, E: Sink>(
 ) -> Result<bool, StreamError>
     requires ready { CanDo A.Automaton automaton.now job.now }
     requires covers { job.now.covers ≡ true }
-    ensures done { IfOf A.Automaton automaton.now (DoesByPatterns W.Write E.Sink F.Folder job.now
+    ensures { IfOf A.Automaton automaton.now (DoesByPatterns W.Write E.Sink F.Folder job.now
         result streams.old streams.new counts.old counts.new volume.old volume.new) }
 {
     match job.key {
@@ -113,7 +113,7 @@ fn cover_by<A: Automaton, P: Pieces + Drop, F: Folder, I: Read, W: Write, E: Sin
     requires ready { CanDo A.Automaton automaton.now job.now }
     requires covers { job.now.covers ≡ true }
     requires made { P.rule pieces ≡ rule_for job.now }
-    ensures done { IfOf A.Automaton automaton.now (DoesByPatterns W.Write E.Sink F.Folder job.now
+    ensures { IfOf A.Automaton automaton.now (DoesByPatterns W.Write E.Sink F.Folder job.now
         result streams.old streams.new counts.old counts.new volume.old volume.new) }
 {
     let start = StreamCoverStart::new_with(job.alloc, automaton, job.words)?;
@@ -131,7 +131,7 @@ pub fn redact_flushed<X: Way, F: Folder, I: Read, W: Write, E: Sink>(
     streams: &mut Streams<'_, I, W, E>,
 ) -> Result<bool, StreamError>
     requires ready { (plan : X.Plan) × X.by way.old plan }
-    ensures done { IfBy X.Way way.old (λ plan. DoesJob W.Write E.Sink (task_in F.Folder folder.now (X.means plan))
+    ensures { IfBy X.Way way.old (λ plan. DoesJob W.Write E.Sink (task_in F.Folder folder.now (X.means plan))
         (name_bytes names.now) result streams.old streams.new counts.old counts.new volume.old volume.new) }
 {
     let mut all = true;

@@ -28,6 +28,7 @@ use crate::summary::Volume;
 use chromesquid::{AhoCorasick, Automaton, FromWrite, Sink, StreamError};
 use std::alloc::{AllocError, Global};
 use std::io::Read;
+use tool_parts::errors::Errors;
 
 /// Replaces each file by its redaction, and answers the exit status: 0 where all were, and 2 where the arguments or the patterns are
 /// wrong, memory runs out, or a file cannot be read or replaced. Such a file stays as it was, and it is told why.
@@ -69,7 +70,7 @@ fn load_places<'a, F: Folder, O: Outputs, I: Read, E: Sink>(
     outputs: &mut O,
     streams: &mut Streams<'_, I, O::File, E>,
 ) -> Result<bool, Failure<'a>>
-    ensures outcome { CalledPlaces O.File.Write E.Sink O.Outputs (call_of F.Folder folder.now (all_given given.now))
+    ensures { CalledPlaces O.File.Write E.Sink O.Outputs (call_of F.Folder folder.now (all_given given.now))
         (bytes_left streams.old.input) result outputs.old outputs.new streams.old.errors streams.new.errors }
 {
     if !gives_pattern(given) {
@@ -79,12 +80,12 @@ fn load_places<'a, F: Folder, O: Outputs, I: Read, E: Sink>(
         Ok(secrets) => secrets,
         Err(failure) => return Err(failure),
     };
+    let rules = secrets.rules.as_slice();
+    let mut counted = counts_of(alloc, rules, counts(given))?;
     let ready = match prepare(alloc, given, &secrets, &mut streams.errors) {
         Ok(ready) => ready,
         Err(failure) => return Err(failure),
     };
-    let rules = secrets.rules.as_slice();
-    let mut counted = counts_of(alloc, rules, counts(given))?;
     let tally = counted.as_mut_slice();
     let mut volume = Volume { files: 0, bytes: 0 };
     let job = job_of(alloc, given, &secrets, &ready, folder);
@@ -103,7 +104,7 @@ fn place_each<F: Folder, O: Outputs, I: Read, E: Sink>(
     streams: &mut Streams<'_, I, O::File, E>,
 ) -> Result<bool, AllocError>
     requires ready { CanDo ⟦<AhoCorasick as Automaton>⟧ searcher.now job.now }
-    ensures outcome { ForItsPatterns searcher.now (λ p. PlacesOutcome O.File.Write E.Sink O.Outputs
+    ensures { ForItsPatterns searcher.now (λ p. PlacesOutcome O.File.Write E.Sink O.Outputs
         (work_for F.Folder job.now p) (name_bytes job.now.names.now) result
         (outputs.old, streams.old, counts.old, volume.old) (outputs.new, streams.new, counts.new, volume.new)) }
 {
@@ -126,7 +127,7 @@ fn place_one<F: Folder, O: Outputs, I: Read, E: Sink>(
     streams: &mut Streams<'_, I, O::File, E>,
 ) -> Result<bool, AllocError>
     requires ready { CanDo ⟦<AhoCorasick as Automaton>⟧ searcher.now job.now }
-    ensures outcome { ForItsPatterns searcher.now (λ p. PlaceOutcome O.File.Write E.Sink O.Outputs
+    ensures { ForItsPatterns searcher.now (λ p. PlaceOutcome O.File.Write E.Sink O.Outputs
         (work_for F.Folder job.now p) name.now result
         (outputs.old, streams.old, counts.old, volume.old) (outputs.new, streams.new, counts.new, volume.new)) }
 {
@@ -147,7 +148,7 @@ fn place_one<F: Folder, O: Outputs, I: Read, E: Sink>(
                 outputs.remove(name);
                 return Err(AllocError);
             }
-            Ok(settle(outputs, name, done, streams))
+            Ok(settle(outputs, name, done, &streams.output, &mut streams.errors))
         }
         Err(reason) => {
             tell_unread(&mut streams.errors, name, reason);
@@ -158,23 +159,21 @@ fn place_one<F: Folder, O: Outputs, I: Read, E: Sink>(
 
 /// Has the new file take the place of the one of this name, where all was done, and else removes it. Answers whether it took it. It is
 /// told why not, but where that was told before.
-pub fn settle<O: Outputs, I: Read, E: Sink>(
+pub fn settle<O: Outputs, E: Sink>(
     outputs: &mut O,
     name: &str,
     done: Result<bool, StreamError>,
-    streams: &mut Streams<'_, I, O::File, E>,
+    output: &FromWrite<O::File>,
+    errors: &mut Errors<'_, E>,
 ) -> bool
-    ensures settled { IsSettled O.File.Write E.Sink O.Outputs name.now
-        done result outputs.old outputs.new streams.old streams.new }
-    ensures input { streams.new.input ≡ streams.old.input }
-    ensures output { streams.new.output ≡ streams.old.output }
-    ensures same { result ≡ true → streams.new ≡ streams.old }
+    ensures { IsSettled O.File.Write E.Sink O.Outputs name.now done output.now
+        result outputs.old outputs.new errors.old errors.new }
 {
     match done {
-        Ok(true) => match outputs.put(name, &streams.output) {
+        Ok(true) => match outputs.put(name, output) {
             Ok(()) => true,
             Err(reason) => {
-                tell_unread(&mut streams.errors, name, reason);
+                tell_unread(errors, name, reason);
                 outputs.remove(name);
                 false
             }
@@ -186,7 +185,7 @@ pub fn settle<O: Outputs, I: Read, E: Sink>(
         Err(_) => {
             let reason = outputs.unwritten();
             outputs.remove(name);
-            tell_unread(&mut streams.errors, name, reason);
+            tell_unread(errors, name, reason);
             false
         }
     }

@@ -46,7 +46,8 @@ pub fn make_and_run<F: Folder, O: Outputs, I: Read, E: Sink>(
         Ok(file) => {
             streams.output = FromWrite::new(file);
             let status = answer_to(alloc, arguments, folder, streams);
-            if settle(outputs, name, Ok(status == 0), streams) {
+            let done = Ok(status == 0);
+            if settle(outputs, name, done, &streams.output, &mut streams.errors) {
                 0
             } else {
                 FAILED

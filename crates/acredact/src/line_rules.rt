@@ -1,6 +1,6 @@
 //! The rules that are given, by which lines are redacted.
 
-ghost use Rattle.std.specs.Prelude.{◌≡◌, ◌++◌, ◌∷◌, [], IfOk, OnOk};
+ghost use Rattle.std.specs.Prelude.{◌≡◌, ◌∷◌, [], IfOk, OnOk};
 ghost use Rattle.secret_rules.specs.Rules.{AreSound};
 ghost use Rattle.secret_rules.specs.Tables.{TellsRules};
 ghost use Rattle.acredact.specs.Arguments.{all_given, given_of};
@@ -134,7 +134,7 @@ fn add_text<'a, F>(
 
 /// Adds a rule.
 fn push_rule(rules: &mut Vec<LineRule>, rule: LineRule) -> Result<(), AllocError>
-    ensures pushed { OnOk result (rules.new.items ≡ rules.old.items ++ (rule ∷ [])) }
+    ensures pushed { OnOk result (AddsThese (λ more. more ≡ rule ∷ []) rules.old rules.new) }
 {
     rules.push(rule)?;
     Ok(())

@@ -1,12 +1,12 @@
 //! What a check sees of files, one after another.
 
-ghost use Rattle.std.specs.Prelude.{◌≡◌, true};
+ghost use Rattle.std.specs.Prelude.{◌≡◌, IfErr, true};
 ghost use Rattle.std.specs.List.{concat};
 ghost use Rattle.tool_parts.specs.Telling.{TellsBytes};
 ghost use Rattle.acredact.specs.Checks.{IfSought, LooksAtName, SeesSearched};
 ghost use Rattle.acredact.specs.Looks.{Sought, both_seen, look_lines, verdict_of};
 
-use crate::failure::{tell_output, tell_unread};
+use crate::failure::{Failure, tell_output, tell_unread};
 use crate::files::{is_input, opened};
 use crate::folder::Folder;
 use crate::looker::Looker;
@@ -54,23 +54,27 @@ pub struct Searched<'s, 't, F> {
 /// # Errors
 ///
 /// As those of a look.
-pub fn look_at_files<L: Looker, F: Folder, I: Read, W: Sink, E: Sink>(
+pub fn look_at_files<'f, L: Looker, F: Folder, I: Read, W: Sink, E: Sink>(
     looker: &mut L,
     files: &Searched<'_, '_, F>,
     input: &mut FromRead<I>,
     output: &mut W,
     errors: &mut Errors<'_, E>,
-) -> Result<Verdict, L::Error>
+) -> Result<Verdict, Failure<'f>>
     requires ready { (s : Sought) × L.by looker.old s }
     ensures sees { IfSought L.Looker looker.old (SeesSearched W.Sink E.Sink F.Folder files.now
         result input.old input.new output.old output.new errors.old errors.new) }
+    ensures why { IfErr result L.stops }
 {
     let mut verdict = Verdict {
         found: false,
         all: true,
     };
     for name in files.names {
-        let look = look_at_file(looker, files, *name, input, output)?;
+        let look = match look_at_file(looker, files, *name, input, output) {
+            Ok(look) => look,
+            Err(failure) => return Err(failure),
+        };
         tell_look(errors, *name, look);
         verdict = both_seen(verdict, verdict_of(look));
     }
@@ -120,16 +124,17 @@ fn tell_look<E: Sink>(errors: &mut Errors<'_, E>, name: &str, look: Look)
 }
 
 /// Looks at a file.
-fn look_at_file<L: Looker, F: Folder, I: Read, W: Sink>(
+fn look_at_file<'f, L: Looker, F: Folder, I: Read, W: Sink>(
     looker: &mut L,
     files: &Searched<'_, '_, F>,
     name: &str,
     input: &mut FromRead<I>,
     output: &mut W,
-) -> Result<Look, L::Error>
+) -> Result<Look, Failure<'f>>
     requires ready { (s : Sought) × L.by looker.old s }
     ensures looks { IfSought L.Looker looker.old (LooksAtName W.Sink F.Folder files.now
         name.now result input.old input.new output.old output.new) }
+    ensures why { IfErr result L.stops }
     ensures still { IfSought L.Looker looker.old (L.by looker.new) }
 {
     if files.tells && files.folder.is_output(name) {

@@ -4,35 +4,41 @@ ghost use Rattle.std.specs.Prelude.{◌≡◌, ◌<◌, ◌≤◌, ℕ, Bool, Li
 ghost use mathlib.Core.Logic.{inl};
 ghost use Rattle.chromesquid.specs.Searcher.{ForItsPatterns};
 ghost use Rattle.tool_parts.specs.Streams.{bytes_left};
-ghost use Rattle.acredact.specs.Looks.{CanLook, CountsInGiven, IsLookEnd, IsReadLook, LookedText, LooksAt, LooksSo, Sought, look_of, occurs_of, sought};
+ghost use Rattle.tool_parts.specs.declared.failure.Failure.TheVariants.{OutOfMemory};
+ghost use Rattle.acredact.specs.Looks.{CanLook, CountsInGiven, IsLookEnd, IsReadLook, LookedText, LooksAt, LooksSo, Sought, occurs_of, sought};
 ghost use Rattle.acredact.specs.Secrets.{IfOf, Redactor};
+ghost use Rattle.acredact.specs.declared.failure.Failure.{Failure};
+ghost use Rattle.acredact.specs.declared.failure.Failure.TheVariants.{Other};
 
+use crate::failure::Failure;
 use crate::look::Look;
 use chromesquid::any::{PatternPieces, StreamCoverStart, StreamStart, cover_with};
 use chromesquid::{AhoCorasick, Automaton, FromRead, Match, Nowhere, Sink, Source, StreamError};
-use std::alloc::{AllocError, Global};
+use std::alloc::Global;
 use std::io::Read;
+use tool_parts::failure;
 use tool_parts::reason::Reason;
 
 /// What looks at texts, one after another.
 pub trait Looker {
-    /// Why a look ends the check.
-    type Error;
-
     /// What it looks for.
     ghost by: { Self → Sought → Type 0 };
 
+    /// Why a look ends the check.
+    ghost stops: { Failure → Type 0 };
+
     /// Looks at what the input gives, which has this name, and may tell to the output what it finds.
-    fn look<I: Read, W: Sink>(
+    fn look<'f, I: Read, W: Sink>(
         &mut self,
         name: &str,
         input: &mut FromRead<I>,
         output: &mut W,
-    ) -> Result<Look, Self::Error>
+    ) -> Result<Look, Failure<'f>>
         requires ready { (s : Sought) × by self.old s }
         ensures looks { (s : Sought) → by self.old s → LookedText s name.now result
             (bytes_left input.old) (bytes_left input.new) (W.taken output.old) (W.taken output.new) }
         ensures only { IfOk result IsReadLook }
+        ensures why { IfErr result stops }
         ensures still { (s : Sought) → by self.old s → by self.new s };
 }
 
@@ -48,29 +54,28 @@ pub struct ByPatterns<'s> {
 }
 
 impl Looker for ByPatterns<'_> {
-    /// Memory ran out.
-    type Error = AllocError;
-
     ghost use Rattle.acredact.specs.Checks.{IsByTexts};
 
     ghost by = { λ looker s. IsByTexts ⟦<AhoCorasick as Automaton>⟧ looker.searcher.now looker.words s };
 
-    fn look<I: Read, W: Sink>(
+    ghost stops = { λ failure. failure ≡ Other OutOfMemory };
+
+    fn look<'f, I: Read, W: Sink>(
         &mut self,
         _name: &str,
         input: &mut FromRead<I>,
         _output: &mut W,
-    ) -> Result<Look, AllocError> {
+    ) -> Result<Look, Failure<'f>> {
         input.restart();
         look_of(counts_by(self.alloc, self.searcher, self.words, input))
     }
 }
 
 /// What a file is found to be, by what is answered of its stream.
-fn look_of(occurs: Result<bool, StreamError>) -> Result<Look, AllocError>
+fn look_of<'f>(occurs: Result<bool, StreamError>) -> Result<Look, Failure<'f>>
     requires ends { IfErr occurs IsLookEnd }
-    ensures look { result ≡ look_of occurs }
     ensures only { IfOk result IsReadLook }
+    ensures why { IfErr result (λ failure. failure ≡ Other OutOfMemory) }
     ensures so { (r : Redactor) (name given : List ℕ) (ended : Bool)
         → IfOk occurs (λ found. CountsInGiven r found given ended) → LooksSo (inl r) name result given ended [] }
 {
@@ -79,12 +84,13 @@ fn look_of(occurs: Result<bool, StreamError>) -> Result<Look, AllocError>
         Ok(false) => Ok(Look::Clean),
         Err(StreamError::Read(_)) => Ok(Look::Unread(Reason::ReadFault)),
         Err(StreamError::PositionLimit) => Ok(Look::Unread(Reason::PositionLimit)),
-        Err(StreamError::Memory) => Err(AllocError),
+        Err(StreamError::Memory) => Err(Failure::Other(failure::Failure::OutOfMemory)),
         Err(_) => unreachable!(),
     }
 }
 
 /// Whether something counts in what the source gives, by the automaton that the searcher holds.
+#[tactic(auto, using(crate::proofs::Standing::look_as))]
 fn counts_by<R: Source>(
     alloc: Global,
     searcher: &AhoCorasick,

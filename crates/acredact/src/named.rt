@@ -46,6 +46,7 @@ fn named_rule<P: Pieces>(
 }
 
 /// The pattern of the rule of which this one is a form, or its own.
+#[tactic(auto, using(crate::proofs::Doubting::made_there))]
 fn own_pattern<'r>(rules: &'r [Rule], rule: &'r Rule) -> &'r [u8]
     ensures own { result.now ≡ own_pattern (secrets_of rules.entry.now) (secret_of rule.entry.now) }
 {

@@ -147,6 +147,7 @@ pub fn split_at(text: &[u8], byte: u8) -> Option<(&[u8], &[u8])>
 }
 
 /// The first part of a text that a byte parts, and what stands behind that byte, where it stands there.
+#[tactic(auto, using(std::proofs::lemmas::List::Splits::slice_split_at, std::proofs::lemmas::List::Splits::slice_split_none, crate::proofs::Readings::parted_at, crate::proofs::Readings::parted_none))]
 pub fn part_of(text: &[u8], byte: u8) -> (&[u8], Option<&[u8]>)
     ensures parts { slice_split (λ b. nat_eq b byte) text.entry.now ≡ result.0.now ∷ parts_left byte result.1 }
     ensures halves { split_first byte text.entry.now ≡ option_map (λ rest. (result.0.now, rest.now)) result.1 }

@@ -4,13 +4,13 @@ ghost use Rattle.std.specs.Prelude.{◌≡◌, ◌⊎◌, IfErr, IfOk, OnErr, On
 ghost use Rattle.tool_parts.specs.Names.{name_bytes};
 ghost use Rattle.acredact.specs.Arguments.{all_given, has};
 ghost use Rattle.acredact.specs.Builds.{patterns_by_given};
-ghost use Rattle.acredact.specs.Calls.{keyed_as, names_asked, redactor_by_given, text_asked};
+ghost use Rattle.acredact.specs.Calls.{CannotPrepare, keyed_as, names_asked, redactor_by_given, text_asked};
 ghost use Rattle.acredact.specs.Checks.{IsBuildFailure};
 ghost use Rattle.acredact.specs.Doubts.{TellsDoubts, TellsWarnings};
 ghost use Rattle.acredact.specs.Files.{CanDo, keyed_of};
 ghost use Rattle.acredact.specs.Loading.{key_lent, loaded_in};
 ghost use Rattle.acredact.specs.Pieces.{IsJudged, TellsUnclean};
-ghost use Rattle.acredact.specs.Ready.{CannotPrepare, IsJobFor, IsReadyBy, IsReadyFor};
+ghost use Rattle.acredact.specs.Ready.{IsJobFor, IsReadyBy, IsReadyFor};
 ghost use Rattle.acredact.specs.Tables.{patterns_in, secrets_of};
 ghost use Rattle.acredact.specs.declared.options.Word.TheVariants.{Strict};
 ghost use Rattle.acredact.specs.declared.clean.Unclean.{Unclean};

@@ -26,7 +26,7 @@ pub fn redact_counting<A: Automaton, R: Source, W: Sink>(
     sink: &mut W,
 ) -> Result<(), StreamError>
     requires ready { CanRedact A.Automaton automaton.now false replacements.now }
-    ensures done { IfOf A.Automaton automaton.now (λ p. DoesStream R.Source W.Sink (deed_of (redactor_by p false false replacements.now))
+    ensures { IfOf A.Automaton automaton.now (λ p. DoesStream R.Source W.Sink (deed_of (redactor_by p false false replacements.now))
         source.old source.new sink.old sink.new result counts.old counts.new) }
 {
     let mut put = |found: &Match, _matched: &[u8], sink: &mut W| {

@@ -122,6 +122,7 @@ fn redact_by<'a, F: Folder, I: Read, W: Write, E: Sink>(
 
 /// Redacts all files by an automaton of these patterns, tells how many lines were too long and the counts and the summary that are asked
 /// for, and answers whether all were read.
+#[tactic(auto, using(crate::proofs::RuledCalls::unbegun))]
 fn redact_lines<'a, A: Automaton, F: Folder, I: Read, W: Write, E: Sink>(
     alloc: Global,
     given: &[Item<'_>],

@@ -1,14 +1,14 @@
 //! A check by rules: whether something would be redacted in a line of a file, and, where that is asked for, by which rule in which line.
 
-ghost use Rattle.std.specs.Prelude.{◌≡◌, ◌<◌, ◌≤◌, OnOk, false, true};
+ghost use Rattle.std.specs.Prelude.{◌≡◌, ◌<◌, ◌≤◌, IfOk, OnOk, false, true};
+ghost use mathlib.Core.Logic.{inr};
 ghost use Rattle.chromesquid.specs.Searcher.{IsBuiltFrom};
 ghost use Rattle.secret_rules.specs.OpenLines.{CanSearch};
 ghost use Rattle.tool_parts.specs.Names.{name_bytes};
 ghost use Rattle.acredact.specs.Arguments.{all_given, has};
-ghost use Rattle.acredact.specs.Calls.{names_asked};
-ghost use Rattle.acredact.specs.Looks.{Sought};
-ghost use Rattle.acredact.specs.Ruled.{patterns_by_case};
-ghost use Rattle.acredact.specs.RuledChecks.{AskedCheck, IfByLines, IsByLines, LoadedCheck, SaysOfRulesCheck, SeesTo};
+ghost use Rattle.acredact.specs.Calls.{call_of, names_asked};
+ghost use Rattle.acredact.specs.Ruled.{Between, patterns_by_case};
+ghost use Rattle.acredact.specs.RuledChecks.{AskedCheck, IsByLines, LoadedCheck, RuledCheckStatus, RuledFindingsBegin, check_load, lines_looked_for};
 ghost use Rattle.acredact.specs.Tables.{patterns_in, secrets_of};
 ghost use Rattle.acredact.specs.declared.options.Word.TheVariants.{Summary};
 
@@ -16,7 +16,6 @@ use crate::check::status_of;
 use crate::failure::{Failure, report};
 use crate::folder::Folder;
 use crate::legend::Legend;
-use crate::line_rules::failure_in;
 use crate::line_size::most_of;
 use crate::look::{Searched, Verdict, look_at_files};
 use crate::options::{Item, Word, has};
@@ -25,8 +24,8 @@ use crate::ruled_files::line_cover;
 use crate::ruled_load::{load_rules, ready_for_lines};
 use crate::streams::Streams;
 use crate::teller::ByLines;
-use chromesquid::{AhoCorasick, Automaton, Nowhere, Sink};
-use secret_rules::{LineError, Rules};
+use chromesquid::{AhoCorasick, Automaton, BuildError, Nowhere, Sink};
+use secret_rules::Rules;
 use std::alloc::Global;
 use std::io::{Read, Write};
 
@@ -38,8 +37,13 @@ pub fn check_by_rules<F: Folder, I: Read, W: Write, E: Sink>(
     folder: &F,
     streams: &mut Streams<'_, I, W, E>,
 ) -> u8
-    ensures says { SaysOfRulesCheck W.Write E.Sink F.Folder folder.now (all_given given.now)
-        result streams.old streams.new }
+    ensures says { Between W.Write (RuledCheckStatus E.Sink (call_of F.Folder folder.now (all_given given.now)) result)
+        streams.old streams.new }
+    ensures begins { RuledFindingsBegin F.Folder folder.now (all_given given.now) streams.old streams.new W.Write }
+    ensures unwritten { has Summary (all_given given.now) ≡ false
+        → streams.new.output ≡ streams.old.output }
+    ensures flushed { has Summary (all_given given.now) ≡ true → result < 2
+        → streams.new.output.device.flushed ≡ true }
     ensures bound { result ≤ 2 }
 {
     match check_given(alloc, given, folder, streams) {
@@ -122,7 +126,7 @@ fn check_by<'a, F: Folder, I: Read, W: Write, E: Sink>(
     }
 }
 
-/// Looks at all files by an automaton of these patterns.
+/// Looks at all files by an automaton of these patterns, and tells to the output what is found, where that is asked for, and flushes it.
 fn check_cover<'a, A: Automaton, F: Folder, I: Read, W: Write, E: Sink>(
     alloc: Global,
     given: &[Item<'_>],
@@ -143,9 +147,53 @@ fn check_cover<'a, A: Automaton, F: Folder, I: Read, W: Write, E: Sink>(
     ensures flushed { has Summary (all_given given.now) ≡ true
         → OnOk result (streams.new.output.device.flushed ≡ true) }
 {
-    let most = most_of(given);
-    let words = has(given, Word::AsWord);
+    let mut looker = looker_by(alloc, given, secrets, rules, automaton)?;
     let tells = has(given, Word::Summary);
+    let files = Searched {
+        folder,
+        names,
+        tells,
+    };
+    if !tells {
+        return look_at_files(
+            &mut looker,
+            &files,
+            &mut streams.input,
+            &mut Nowhere,
+            &mut streams.errors,
+        );
+    }
+    let verdict = match look_at_files(
+        &mut looker,
+        &files,
+        &mut streams.input,
+        &mut streams.output,
+        &mut streams.errors,
+    ) {
+        Ok(verdict) => verdict,
+        Err(failure) => return Err(failure),
+    };
+    match streams.output.flush() {
+        Ok(()) => Ok(verdict),
+        Err(error) => Err(Failure::from(error)),
+    }
+}
+
+/// What looks for these patterns and rules in lines.
+fn looker_by<'r, 'a, 's, A: Automaton>(
+    alloc: Global,
+    given: &[Item<'_>],
+    secrets: &'s [Rule],
+    rules: &'r Rules,
+    automaton: &'a A,
+) -> Result<ByLines<'r, 'a, 's, 'r, A>, BuildError>
+    requires can { CanSearch A.Automaton automaton.now }
+    requires of { A.is_of automaton.now (patterns_by_case (all_given given.now) (patterns_in (secrets_of secrets.now))) }
+    ensures by { IfOk result (λ looker. IsByLines A.Automaton looker.cover looker.legend
+        (inr (lines_looked_for (all_given given.now) (check_load secrets.entry.now rules.entry.now)))) }
+{
+    let words = has(given, Word::AsWord);
+    let most = most_of(given);
     let cover = line_cover(alloc, automaton, rules, words, most)?;
     let rules = rules.as_slice();
     let legend = Legend {
@@ -153,51 +201,9 @@ fn check_cover<'a, A: Automaton, F: Folder, I: Read, W: Write, E: Sink>(
         rules,
         most,
     };
-    let mut looker = ByLines {
+    Ok(ByLines {
         alloc,
         cover,
         legend,
-    };
-    let files = Searched {
-        folder,
-        names,
-        tells,
-    };
-    match check_to(&mut looker, &files, streams) {
-        Ok(verdict) => Ok(verdict),
-        Err(error) => Err(failure_in(alloc, rules, error)),
-    }
-}
-
-/// Looks at all files, and tells to the output what is found, where that is asked for, and flushes it.
-fn check_to<A: Automaton, F: Folder, I: Read, W: Write, E: Sink>(
-    looker: &mut ByLines<'_, '_, '_, '_, A>,
-    files: &Searched<'_, '_, F>,
-    streams: &mut Streams<'_, I, W, E>,
-) -> Result<Verdict, LineError>
-    requires ready { (s : Sought) × IsByLines A.Automaton looker.old.cover looker.old.legend s }
-    ensures sees { IfByLines A.Automaton looker.old (SeesTo W.Write E.Sink F.Folder files.now
-        result streams.old streams.new) }
-    ensures unwritten { files.now.tells ≡ false → streams.new.output ≡ streams.old.output }
-    ensures flushed { files.now.tells ≡ true
-        → OnOk result (streams.new.output.device.flushed ≡ true) }
-{
-    if !files.tells {
-        return look_at_files(
-            looker,
-            files,
-            &mut streams.input,
-            &mut Nowhere,
-            &mut streams.errors,
-        );
-    }
-    let verdict = look_at_files(
-        looker,
-        files,
-        &mut streams.input,
-        &mut streams.output,
-        &mut streams.errors,
-    )?;
-    streams.output.flush()?;
-    Ok(verdict)
+    })
 }

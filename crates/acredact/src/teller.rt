@@ -1,18 +1,20 @@
 //! A look at the lines of texts, which tells by which patterns and rules something is covered in them.
 
-ghost use Rattle.std.specs.Prelude.{◌≡◌, ℕ, Bool, List, IfErr, IfOk, OnErr, OnOk};
+ghost use Rattle.std.specs.Prelude.{◌≡◌, ℕ, Bool, List, IfErr, IfOk, OnErr, OnOk, ⊤};
 ghost use Rattle.std.specs.Io.KnownBytes.{Appends};
 ghost use Rattle.aho_devices.specs.Counts.{AppendsBeginning};
 ghost use Rattle.secret_rules.specs.Visitors.{IsVisitRefusal};
 ghost use Rattle.acredact.specs.Counts.{PutsText};
 ghost use Rattle.acredact.specs.Findings.{findings_of, is_new, next_finding, runs_findings, with_new};
-ghost use Rattle.acredact.specs.Looks.{BeginsToTell, IsReadLook, IsSeen, LooksSo, Sought, look_of_lines};
+ghost use Rattle.acredact.specs.Looks.{BeginsToTell, IsReadLook, IsSeen, LooksSo, Sought};
 
+use crate::failure::Failure;
 use crate::legend::{Findings, Legend, numbers_in, put_finding, told_for};
+use crate::line_rules::failure_in;
 use crate::look::Look;
 use crate::looker::Looker;
 use chromesquid::{Automaton, FromRead, Match, Sink, StreamError, write_whole};
-use secret_rules::{LineCover, LineError, LineVisitor, visit_lines};
+use secret_rules::{LineCover, LineError, LineVisitor, Rule as LineRule, visit_lines};
 use std::alloc::{AllocError, Global};
 use std::io::Read;
 use tool_parts::reason::Reason;
@@ -29,20 +31,19 @@ pub struct ByLines<'r, 'a, 's, 'q, A> {
 }
 
 impl<A: Automaton> Looker for ByLines<'_, '_, '_, '_, A> {
-    /// `Write` and `WriteZero` where the output fails or takes nothing, `Memory` where it runs out, and `Mark` where the expression of a
-    /// rule is too big or memory runs out.
-    type Error = LineError;
-
     ghost use Rattle.acredact.specs.RuledChecks.{IsByLines};
 
     ghost by = { λ looker s. IsByLines A.Automaton looker.cover looker.legend s };
 
-    fn look<I: Read, W: Sink>(
+    // The output fails or takes nothing, memory runs out, or the expression of a rule is too big.
+    ghost stops = { λ _. ⊤ };
+
+    fn look<'f, I: Read, W: Sink>(
         &mut self,
         name: &str,
         input: &mut FromRead<I>,
         output: &mut W,
-    ) -> Result<Look, LineError> {
+    ) -> Result<Look, Failure<'f>> {
         input.restart();
         let findings = Findings {
             alloc: self.alloc,
@@ -55,15 +56,20 @@ impl<A: Automaton> Looker for ByLines<'_, '_, '_, '_, A> {
         let done = visit_lines(&mut self.cover, input, &mut teller);
         let Teller { output, findings } = teller;
         let _output = output;
-        look_of_lines(done, findings.found)
+        look_of_lines(self.alloc, self.legend.rules, done, findings.found)
     }
 }
 
 /// What a file is found to be, by what is answered of its lines and whether something was found in those that were told; any other error
-/// ends the program.
-fn look_of_lines(done: Result<(), LineError>, found: bool) -> Result<Look, LineError>
-    ensures look { result ≡ look_of_lines done found }
+/// ends the check.
+fn look_of_lines<'f>(
+    alloc: Global,
+    rules: &[LineRule],
+    done: Result<(), LineError>,
+    found: bool,
+) -> Result<Look, Failure<'f>>
     ensures only { IfOk result IsReadLook }
+    ensures why { IfErr result (λ _. ⊤) }
     ensures so { (s : Sought) (name given part : List ℕ) (ended : Bool)
         → OnOk done (IsSeen s name found given ended part)
         → OnErr done (BeginsToTell s name given ended part) → LooksSo s name result given ended part }
@@ -75,7 +81,7 @@ fn look_of_lines(done: Result<(), LineError>, found: bool) -> Result<Look, LineE
         Err(LineError::Stream(StreamError::PositionLimit)) => {
             Ok(Look::Unread(Reason::PositionLimit))
         }
-        Err(error) => Err(error),
+        Err(error) => Err(failure_in(alloc, rules, error)),
     }
 }
 

@@ -7,7 +7,4 @@ use Rattle.acredact.specs.Pieces.{StayMarked}
 use Rattle.acredact.proofs.clean.mark.Given as goal
 
 abbrev pub invariant-loop-byte : goal.invariant-loop-byte
-invariant-loop-byte l = record {
-  marked : AllWithin (λ byte. get_or l.marks (folded_by l.fn.ignore_case byte) false ≡ true) l.fn.word 0 l.byte-index;
-  stay : StayMarked l.initial.marks l.marks;
-}
+invariant-loop-byte l = AllWithin (λ byte. get_or l.marks (folded_by l.fn.ignore_case byte) false ≡ true) l.fn.word 0 l.byte-index × StayMarked l.initial.marks l.marks

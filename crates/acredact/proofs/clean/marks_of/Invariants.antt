@@ -5,7 +5,4 @@ use Rattle.acredact.specs.Pieces.{IsMarked}
 use Rattle.acredact.proofs.clean.marks_of.Given as goal
 
 abbrev pub invariant-loop-word : goal.invariant-loop-word
-invariant-loop-word l = record {
-  sized : length l.marks ≡ 256;
-  marked : AllWithin (λ word. IsMarked l.fn.ignore_case word.now l.marks) l.fn.words 0 l.word-index;
-}
+invariant-loop-word l = (length l.marks ≡ 256) × AllWithin (λ word. IsMarked l.fn.ignore_case word.now l.marks) l.fn.words 0 l.word-index

@@ -1,6 +1,6 @@
 -- What is answered of the words, where pseudonyms are written, and else the piece at the place of the loop, or none of all.
 use Rattle.acredact.proofs.Common.{ArePatterns, Bor, Patterns, length-map, pieces_of}
-use Rattle.std.proofs.Common.{rules, ◌≡◌, ◌∙◌, ℕ, List, ap, arith, false, length, refl, sym, true}
+use Rattle.std.proofs.Common.{rules, ◌≡◌, ◌∙◌, ℕ, List, ap, arith, false, length, sym, true}
 use Rattle.acredact.proofs.Flaws.{clean_next, unclean_at}
 use Rattle.acredact.proofs.clean.unclean_of.Goals as goal
 
@@ -12,16 +12,14 @@ pub loop-at-preserved : goal.loop-at-preserved
 loop-at-preserved g c = λ p of are. clean_next p _ _ _ c.loop-at-test.true (c.loop-at.invariant p of are) (c.in-None.ensures.flaw p of are)
 
 pub returns-in-Some : goal.returns-in-Some
-returns-in-Some g c =
-    let covers : c.args.covers ≡ true = search rules in
-    let named : c.args.named ≡ false = search rules in
-    record {
-      judged = λ p of are. rw (covers, named) (refl, unclean_at p _ _ _ c.in-Some.flaw c.loop-at-test.true (one_each p _ _ _ are c.requires.one_each) (c.loop-at.invariant p of are) (c.in-Some.ensures.flaw p of are));
-    }
+returns-in-Some g c = record {
+  judged = λ p of are.
+      rw c.if-named.false
+      (search rules, unclean_at p _ _ _ c.in-Some.flaw c.loop-at-test.true (one_each p _ _ _ are c.requires.one_each) (c.loop-at.invariant p of are) (c.in-Some.ensures.flaw p of are));
+}
 
 pub returns : goal.returns
-returns g c =
-    let named : c.args.named ≡ false = search rules in
-    record {
-      judged = λ p of are. rw named (λ covers number numbered. c.loop-at.invariant p of are number (omega (arith, numbered, c.loop-at-test.false, one_each p _ _ _ are c.requires.one_each)));
-    }
+returns g c = record {
+  judged = λ p of are.
+      rw c.if-named.false (λ covers number numbered. c.loop-at.invariant p of are number (omega (arith, numbered, c.loop-at-test.false, one_each p _ _ _ are c.requires.one_each)));
+}

@@ -12,7 +12,5 @@ redact_flushed-requires g c =
 
 pub returns : goal.returns
 returns g c =
-    let plain : c.args.job.now.covers ≡ false = search rules in
-    record {
-      done = λ p of walks. c.redact_flushed.ensures.done (redactor_of c.args.job.now p) (redactor_is g.A.Automaton _ c.args.job.now p of g.B.Automaton _ walks c.requires.ready plain);
-    }
+    let plain : c.args.job.now.covers ≡ false = search rules in λ p of walks.
+    c.redact_flushed.ensures (redactor_of c.args.job.now p) (redactor_is g.A.Automaton _ c.args.job.now p of g.B.Automaton _ walks c.requires.ready plain)

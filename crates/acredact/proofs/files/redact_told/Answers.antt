@@ -22,10 +22,8 @@ returns-in_err-redact_file-clause-outcome g c =
     (record {
       done = tt;
       cut = (file.comes, tells-nothing g.E.Sink _);
-      quiet = λ (is : Err c.in_err-redact_file.field-0.0 ≡ Ok true). absurd (cc);
+      whole = λ (is : Err c.in_err-redact_file.field-0.0 ≡ Ok true). absurd (cc);
       fails = record { write_failed = file.fails.write_failed; took_nothing = file.fails.took_nothing; only = file.fails.only };
-      ranges = λ (is : Err c.in_err-redact_file.field-0.0 ≡ Ok true). absurd (cc);
-      read = λ (is : Err c.in_err-redact_file.field-0.0 ≡ Ok true). absurd (cc);
       files = tt;
       most = file.most;
     })
@@ -36,10 +34,8 @@ returns-in-None-clause-outcome g c = λ plan by.
     record {
       done = ([], refl, (inl (refl, rw c.if-is_output.false at c.is_output.ensures, file.comes), tells-nothing g.E.Sink _));
       cut = tt;
-      quiet = λ is. refl;
+      whole = λ is. (refl, file.ranges refl, file.read refl);
       fails = record { write_failed = file.fails.write_failed; took_nothing = file.fails.took_nothing; only = tt };
-      ranges = λ is. file.ranges refl;
-      read = λ is. file.read refl;
       files = search rules;
       most = file.most;
     }

@@ -2,7 +2,6 @@
 use Rattle.acredact.proofs.Common.{bytes_left}
 use Rattle.std.proofs.Common.{inl, rules}
 use Rattle.acredact.specs.Arguments.{all_given, given_of}
-use Rattle.acredact.specs.Calls.{rules_asked}
 use Rattle.acredact.specs.Loading.{AreRead, CannotLoadOne, reading_of_lists}
 use Rattle.acredact.specs.Tables.{secrets_of}
 use Rattle.acredact.proofs.Hiding.{hide_secrets}
@@ -14,15 +13,11 @@ loop-number-preserved g c = given_item given_of c.args.given.now c.loop-number.n
 
 pub returns-in-Err-clause-fails : goal.returns-in-Err-clause-fails
 returns-in-Err-clause-fails g c =
-    let given = all_given c.args.given.now in
-    let lists = c.lists_of-lists in
-    inl (reading_from g.F.Folder lists.result c.args.folder.now (rules_asked given) lists.ensures.folder lists.ensures.rules (λ r. CannotLoadOne r given c.in-Err.failure)
-    (fails_at (reading_of_lists g.F.Folder lists.result) c.args.given.now c.loop-number.number _ _ c.loop-number-test.true c.in-Err.ensures.fails))
+    inl (reading_from g.F.Folder c.lists_of-lists.result c.lists_of-lists.ensures.folder c.lists_of-lists.ensures.rules (λ r. CannotLoadOne r (all_given c.args.given.now) c.in-Err.failure)
+    (fails_at (reading_of_lists g.F.Folder c.lists_of-lists.result) c.args.given.now c.loop-number.number _ _ c.loop-number-test.true c.in-Err.ensures.fails))
 
 pub returns-clause-given : goal.returns-clause-given
 returns-clause-given g c =
-    let given = all_given c.args.given.now in
-    let lists = c.lists_of-lists in
     let added = given_all given_of c.args.given.now c.loop-number.number c.loop-number-test.false c.loop-number.invariant in
-    let read = reading_from g.F.Folder lists.result c.args.folder.now (rules_asked given) lists.ensures.folder lists.ensures.rules (λ r. AreRead r given added.more (bytes_left c.args.input.now) (bytes_left c.loop-number.input)) added.of in
+    let read = reading_from g.F.Folder c.lists_of-lists.result c.lists_of-lists.ensures.folder c.lists_of-lists.ensures.rules (λ r. AreRead r (all_given c.args.given.now) added.more (bytes_left c.args.input.now) (bytes_left c.loop-number.input)) added.of in
     record { plain = secrets_of c.loop-number.rules.items; read = rw added.grown read; are = search rules; hidden = hide_secrets _ _ }

@@ -1,9 +1,5 @@
 -- What stands for the searcher looks as it does.
-use Rattle.acredact.proofs.Standing.{look_as}
 use Rattle.acredact.proofs.looker.counts_by.Goals as goal
-
-pub counts_in-requires : goal.counts_in-requires
-counts_in-requires g c = record { ready = look_as _ _ _ c.in-Some.ensures.stands _ c.requires.ready }
 
 pub returns-in-Some : goal.returns-in-Some
 returns-in-Some g c = record { looks = λ p of. c.counts_in.ensures.looks p (c.in-Some.ensures.stands.of p of) }

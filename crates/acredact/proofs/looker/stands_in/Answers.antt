@@ -1,10 +1,9 @@
 -- Memory alone may be wanting before the cover, and what it writes to never fails.
 use Rattle.acredact.proofs.Common.{Memory, length-map}
 use Rattle.std.proofs.Common.{rules, ◌≡◌, ◌∙◌, true, length, refl, ap, sym, subst}
-use Rattle.std.specs.Prelude.{Err, replicate}
+use Rattle.std.specs.Prelude.{Err}
 use Rattle.acredact.specs.Looks.{sought}
-use Rattle.acredact.proofs.Looks.{looks_counted, looks_cut, looks_memory}
-use Rattle.acredact.proofs.Redactions.{some_of}
+use Rattle.acredact.proofs.Looks.{looks_counted, looks_memory, fault_looks}
 use Rattle.acredact.proofs.Suited.{only_memory}
 use Rattle.acredact.proofs.looker.stands_in.Goals as goal
 
@@ -24,16 +23,18 @@ returns-in_err-cover_with g c =
     let call = c.in_err-cover_with in
     let is : c.from_residual-in_err-cover_with.result ≡ Err call.field-0.0 = search rules in
     let written = rw c.in_ok-start.ensures.unbegun.chosen at call.ensures.counted.begun in
-    record { looks = λ p of. rw is (looks_cut g.R.Source p call.field-0.0 written call.ensures.errors call.ensures.only) }
+    record {
+      looks = λ p of. rw is
+          (record { given = written.given; ended = written.ended; gives = written.gives; seen = tt; only = fault_looks call.field-0.0 call.ensures.only call.ensures.errors.write_failed call.ensures.errors.took_nothing });
+    }
 
 pub returns : goal.returns
 returns g c =
     let start = c.in_ok-start.start in
-    let are : c.as_mut_slice-tally.result.now ≡ replicate c.patterns_len.result 0 = c.as_mut_slice-tally.ensures.value ∙ c.in_ok-counts.ensures.items_if_clones_equal (λ y same. same) in
-    let whole = rw (c.in_ok-start.ensures.unbegun.chosen, are) at c.in_ok-cover_with.ensures.counted.counted in
+    let whole = rw c.in_ok-start.ensures.unbegun.chosen at c.in_ok-cover_with.ensures.counted.counted in
     record {
       looks = λ p of.
           let lengths = (g.met.A.Automaton.laws _ _ of).lengths_are in
-          looks_counted g.R.Source p (g.A.Automaton.is_of start.automaton.now) (subst (λ (a : g.row.A.Denot). g.A.Automaton.is_of a p) (sym c.in_ok-start.ensures.of) of) (some_of g.A.Automaton _ p lengths c.requires.ready.begins) _ _ c.patterns_len.result _
-          (c.patterns_len.ensures.len ∙ ap length lengths ∙ length-map p.words length) whole c.is_some_counted.result c.is_some_counted.ensures;
+          looks_counted p (rw lengths at c.requires.ready.begins.1) _ g.R.Source (g.A.Automaton.is_of start.automaton.now) (subst (λ (a : g.row.A.Denot). g.A.Automaton.is_of a p) (sym c.in_ok-start.ensures.of) of)
+          (c.as_mut_slice-tally.ensures.value ∙ c.in_ok-counts.ensures.items_if_clones_equal (λ y same. same)) (c.patterns_len.ensures.len ∙ ap length lengths ∙ length-map p.words length) whole c.is_some_counted.result c.is_some_counted.ensures;
     }

@@ -9,12 +9,11 @@ pub loop-left-preserved : goal.loop-left-preserved
 loop-left-preserved c =
     let (front, is, far, counts) = c.loop-left.invariant in
     let line = c.part_of.result.0.now in
-    let others = parts_left 10 c.part_of.result.1 in
-    let cut : parts_left 10 c.loop-left.left ≡ line ∷ others = search rules in
+    let cut : parts_left 10 c.loop-left.left ≡ line ∷ parts_left 10 c.part_of.result.1 = search rules in
     let given : IsAddedSome (λ more. GivesLine c.args.form line more (length front) (length front + 1)) (secrets_of c.loop-left.rules.items) (secrets_of c.add_listed.new.rules.items) = search rules in
     let behind : length (front ++ (line ∷ [])) ≡ length front + 1 = omega (arith, length-append front (line ∷ [])) in (
       front ++ (line ∷ []),
-      is ∙ ap (λ l. front ++ l) cut ∙ sym (append_assoc front (line ∷ []) others),
+      is ∙ ap (λ l. front ++ l) cut ∙ sym (append_assoc front (line ∷ []) (parts_left 10 c.part_of.result.1)),
       rw behind (given_next far given),
       omega (arith, behind, counts, c.saturating_add-number.ensures),
     )

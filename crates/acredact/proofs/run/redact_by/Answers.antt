@@ -5,11 +5,10 @@ use Rattle.acredact.proofs.run.redact_by.Goals as goal
 pub redact_files-requires : goal.redact_files-requires
 redact_files-requires g c =
     let ready = c.requires.ready in
-    let stands = c.itself.ensures.stands in
-    record { ready = redact_as _ _ _ stands _ _ ready; both = (ready.patterns, stands.of ready.patterns ready.of, c.backward-back.ensures.of ready.patterns ready.of) }
+    record { ready = redact_as _ _ _ c.itself.ensures.stands _ _ ready; both = (ready.patterns, c.itself.ensures.stands.of ready.patterns ready.of, c.backward-back.ensures.of ready.patterns ready.of) }
 
 pub returns-then-is_some : goal.returns-then-is_some
-returns-then-is_some g c = record { done = λ p of. c.redact_files.ensures.done p (c.itself.ensures.stands.of p of) (c.backward-back.ensures.of p of) }
+returns-then-is_some g c = record { done = λ p of. c.redact_files.ensures p (c.itself.ensures.stands.of p of) (c.backward-back.ensures.of p of) }
 
 pub returns-in-Some-levels : goal.returns-in-Some-levels
-returns-in-Some-levels g c = record { done = λ p of. c.redact_files-in-Some-levels.ensures.done p (c.in-Some-levels.ensures.stands.of p of) (c.backward-back.ensures.of p of) }
+returns-in-Some-levels g c = record { done = λ p of. c.redact_files-in-Some-levels.ensures p (c.in-Some-levels.ensures.stands.of p of) (c.backward-back.ensures.of p of) }

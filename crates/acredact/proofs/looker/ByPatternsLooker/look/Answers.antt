@@ -1,6 +1,5 @@
 -- The input is looked at from its beginning.
-use Rattle.acredact.proofs.Common.{at_end}
-use Rattle.std.proofs.Common.{◌≢◌, ap}
+use Rattle.std.proofs.Common.{ap}
 use Rattle.acredact.specs.Looks.{sought}
 use Rattle.acredact.proofs.Looks.{looked_stream}
 use Rattle.acredact.proofs.OneFile.{begun_writing}
@@ -17,5 +16,4 @@ look_of-requires g c =
 pub returns-clause-looks : goal.returns-clause-looks
 returns-clause-looks g c =
     let left = ap (λ device. g.I.Read.remaining device.reader) c.restart.ensures.device in
-    let ends = λ (some : c.counts_by.new.source.empty_reads ≢ 0). at_end _ (λ bytes known. c.counts_by.new.source.ended bytes some known) in
-    λ s by. rw by.is (begun_writing _ _ _ _ left c.restart.ensures.empty_reads ends (looked_stream _ c.args._name.now _ c.counts_by.result c.look_of.result (c.look_of.ensures.so (sought by.can.patterns c.args.self.now.words) c.args._name.now) (c.counts_by.ensures.looks by.can.patterns by.can.of)))
+    λ s by. rw by.is (begun_writing _ _ _ _ left c.restart.ensures.empty_reads c.counts_by.new.source.ended (looked_stream _ c.args._name.now _ c.counts_by.result c.look_of.result (c.look_of.ensures.so (sought by.can.patterns c.args.self.now.words) c.args._name.now) (c.counts_by.ensures.looks by.can.patterns by.can.of)))

@@ -1,6 +1,6 @@
 -- What a read gives is counted.
 use Rattle.acredact.proofs.Common.{Consumes-nil}
-use Rattle.std.proofs.Common.{◌≡◌, [], length, take, arith}
+use Rattle.std.proofs.Common.{[], take, arith}
 use Rattle.std.proofs.KnownBytes.{Consumes-kept}
 use Rattle.std.proofs.lemmas.List.{length-take-le}
 use Rattle.acredact.proofs.Totals.{metered_more}
@@ -12,6 +12,5 @@ returns-in_err-count-clause-metered g c = λ whole start.
 
 pub returns-clause-metered : goal.returns-clause-metered
 returns-clause-metered g c = λ whole start.
-    let given = take c.in_ok-count.count c.read.new.buf in
-    let sized : length given ≡ c.in_ok-count.count = length-take-le c.in_ok-count.count c.read.new.buf c.in_ok-count.ensures.within in
-    metered_more whole _ _ start _ _ given c.in_ok-count.ensures.given (omega (arith, sized, c.saturating_add-self.ensures))
+    let sized = length-take-le c.in_ok-count.count c.read.new.buf c.in_ok-count.ensures.within in
+    metered_more whole _ _ start _ _ (take c.in_ok-count.count c.read.new.buf) c.in_ok-count.ensures.given (omega (arith, sized, c.saturating_add-self.ensures))

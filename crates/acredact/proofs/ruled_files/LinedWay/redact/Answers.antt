@@ -1,5 +1,5 @@
 -- What is written is the redaction by rules and patterns, and why it ends early is told.
-use Rattle.acredact.proofs.RuledText.{lined_does}
+use Rattle.acredact.proofs.RuledCalls.{lined_does}
 use Rattle.acredact.proofs.ruled_files.LinedWay.redact.Goals as goal
 
 pub cover_lines-self-requires : goal.cover_lines-self-requires

@@ -1,5 +1,5 @@
 -- What is written is the redaction by these pieces, why it ends early is told, and the cover is then as before.
-use Rattle.acredact.proofs.Redactions.{does_cover, some_cover}
+use Rattle.acredact.proofs.Redactions.{does_cover}
 use Rattle.acredact.proofs.Suited.{covering_still}
 use Rattle.acredact.proofs.ways.CoveringWay.redact.Goals as goal
 
@@ -9,9 +9,8 @@ cover_with-requires g c = let r = c.requires.ready in record { of = (r.0.pattern
 pub returns-clause-done : goal.returns-clause-done
 returns-clause-done g c = λ red by.
     let call = c.cover_with in
-    let searched = g.A.Automaton.is_of c.args.self.now.start.automaton.now in
-    does_cover g.R.Source g.W.Sink red by.covers searched by.of
-    (some_cover g.A.Automaton _ red.patterns (g.met.A.Automaton.laws _ _ by.of).lengths_are by.unbegun) _ _ _ _ call.result _ _
+    does_cover g.R.Source g.W.Sink red by.covers (g.A.Automaton.is_of c.args.self.now.start.automaton.now) by.of
+    (rw (g.met.A.Automaton.laws _ _ by.of).lengths_are at by.unbegun.no_empty) _ _ _ _ call.result _ _
     (rw (by.chosen, by.is) call.ensures.leaves) (rw (by.chosen, by.is) call.ensures.counted) call.ensures.errors call.ensures.only
 
 pub returns-clause-still : goal.returns-clause-still
