@@ -1,22 +1,12 @@
 -- What comes of a call, by what comes of its files; what may be told before these, and why it may end there.
-use Rattle.acredact.proofs.Common.{All, All-append, All-cons, All-head, All-nil, All-tail, Errors, Failure, Folders, FromWrite, IsMember, Memory, Other, Readers, SinkGhosts, StreamError, Streams, Strict, Tells, TellsBytes, TellsSome, Write, WriteZero, Writers, concat, failure_of_stream}
-use Rattle.std.proofs.Common.{List, Option, [], false, inl, inr, refl, subst, sym, true, ℕ, ◌∙◌, ◌∷◌, ◌≡◌}
-use Rattle.std.specs.Prelude.{Bool, Err, None, Some, is_some, ◌⊎◌}
-use Rattle.std.proofs.lemmas.List.Elements.{All-weaker}
+use Rattle.acredact.proofs.Common.{All, All-append, All-cons, All-head, All-nil, All-tail, All-weaker, AreCleanBy, AreCut, AreLoaded, Bool, Call, CallOutcome, Err, Errors, Failure, FilesOutcome, Folders, FromWrite, Given, IsDone, IsMember, IsUnreadLine, IsWarningLine, IsWordLine, Job, List, Loaded, MayFail, Memory, None, Option, Other, OutputFails, Readers, Redactor, Secret, SinkGhosts, Some, StreamError, Streams, Strict, Task, Tells, TellsBytes, TellsDoubts, TellsSome, WarnsLoaded, Work, Write, WriteZero, Writers, [], are_none, call_of, concat, failure_of_stream, false, has, inl, inr, is_some, member-get_or, output_line, patterns_by_given, patterns_in, reading_by, redactor_of, refl, subst, sym, true, unread_line, work_by, ℕ, ◌∙◌, ◌∷◌, ◌≡◌, ◌⊎◌}
 use Rattle.tool_parts.proofs.Lines.{some-one, some-tells, tells-none}
-use Rattle.acredact.specs.Arguments.{Given, has}
-use Rattle.acredact.specs.Calls.{Call, CallOutcome, CannotPrepare, IsRunFailure, IsUnreadLine, IsWarningLine, IsWordLine, MayFail, OutputFails, WarnsLoaded, call_of, reading_by, work_by}
-use Rattle.acredact.specs.Builds.{patterns_by_given}
-use Rattle.acredact.specs.Files.{AreCut, FilesOutcome, IsDone, Task, Work, are_none, redactor_of, unread_line, work_of}
-use Rattle.acredact.specs.Messages.{output_line, unclean_line}
-use Rattle.acredact.specs.Loading.{AreLoaded, Loaded}
+use Rattle.acredact.specs.Calls.{CannotPrepare, IsRunFailure}
+use Rattle.acredact.specs.Files.{work_of}
+use Rattle.acredact.specs.Messages.{unclean_line}
 use Rattle.acredact.specs.Ready.{IsJobFor}
-use Rattle.acredact.specs.Tables.{Secret, patterns_in}
-use Rattle.acredact.specs.declared.files.Job.{Job}
-use Rattle.secret_rules.proofs.Owners.{member-get_or}
-use Rattle.acredact.specs.Doubts.{TellsDoubts, all_doubt_lines}
+use Rattle.acredact.specs.Doubts.{all_doubt_lines}
 use Rattle.acredact.specs.Pieces.{TellsOfPieces}
-use Rattle.acredact.specs.Secrets.{AreCleanBy, Redactor}
 -- the error of a call that is passed on
 pub use Rattle.aho_cover.proofs.Going.{err_passed as passed_on}
 -- lines behind lines, and lines that may be told of more

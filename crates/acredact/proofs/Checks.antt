@@ -1,17 +1,10 @@
 -- What comes of a check by patterns, from what is seen of files up to its status.
-use Rattle.acredact.proofs.Common.{Errors, Failure, Other, OutOfMemory, SinkGhosts, Strict, Tells, TellsBytes, Verdict, tells-later}
-use Rattle.std.proofs.Common.{◌≡◌, inl, inr, ℕ, List, Option, true, false, refl, sym, subst, ◌∙◌, arith}
-use Rattle.std.specs.Prelude.{◌<◌, Bool, None, Result, Ok, Err, IfErr}
-use Rattle.acredact.specs.Arguments.{has, gives_pattern}
-use Rattle.acredact.specs.Calls.{Call, IsUnreadLine, names_asked, reading_by}
-use Rattle.acredact.specs.Checks.{CheckOutcome, CheckSays, CheckStatus, IsCheckLine, LooksBehind, SeesFiles, quest_by}
-use Rattle.acredact.specs.Doubts.{TellsDoubts}
-use Rattle.acredact.specs.Failures.{IsFailureLine}
+use Rattle.acredact.proofs.Common.{Bool, Call, ComesOf, Err, Errors, Failure, IfErr, IsFailureLine, IsUnreadLine, List, None, Ok, Option, Other, OutOfMemory, Result, Secret, SeesFiles, SinkGhosts, Strict, Tells, TellsBytes, TellsDoubts, Verdict, arith, false, has, inl, inr, names_asked, reading_by, refl, subst, sym, tells-later, true, verdict_as, ℕ, ◌∙◌, ◌≡◌}
+use Rattle.std.specs.Prelude.{◌<◌}
+use Rattle.acredact.specs.Arguments.{gives_pattern}
+use Rattle.acredact.specs.Checks.{CheckOutcome, CheckSays, CheckStatus, IsCheckLine, LooksBehind, quest_by}
 use Rattle.acredact.specs.Loading.{AreGiven}
-use Rattle.acredact.specs.Looks.{verdict_as}
-use Rattle.acredact.specs.Outcomes.{ComesOf}
 use Rattle.acredact.specs.Statuses.{check_status}
-use Rattle.acredact.specs.Tables.{Secret}
 use Rattle.acredact.proofs.Calls.{none_are, tells_both, tells_weaker, doubts_tell}
 use Rattle.acredact.proofs.Outcomes.{comes_early}
 

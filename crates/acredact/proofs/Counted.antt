@@ -1,24 +1,16 @@
 -- What a replacement by a closure does, where the closure counts each match and writes its piece.
-use Rattle.acredact.proofs.Common.{Appends, Appends-nil, Appends-trans, AreFinds, Bor, Consumes-nil, CountsThese, Ghosts, IsFillRefusal, Memory, MutBor, Occurrence, Patterns, Refused, SinkGhosts, SourceGave, SourceGhosts, StartsWith, StreamError, Write, WriteZero, counted, counts_none, counts_then, finds-exist, is_read_fault, is_write_fault, is_write_of_nothing, on_ok_weaker, plain_search, shortest}
-use Rattle.std.proofs.Common.{inl, inr, ◌≡◌, ℕ, ◌≤◌, Bool, true, false, List, [], ◌∷◌, ◌++◌, Option, length, map, take, drop, refl, sym, ap, subst, ◌∙◌, append-nil, le_refl, arith, length-append}
-use Rattle.std.specs.Prelude.{◌+◌, None, Some, Result, Ok, Err, IfErr, MatchBool, OnErr, OnOk, ◌&&◌, slice_range}
+use Rattle.acredact.proofs.Common.{Appends, Appends-nil, Appends-trans, AreFinds, BeginsReplacing, Bor, Consumes-nil, CountsThese, DoesStream, Err, Ghosts, IfErr, IsStreamEnd, IsWriteRefusal, List, MatchBool, MayBe, Memory, MutBor, None, Occurrence, Ok, OnErr, OnOk, Option, Patterns, Refused, ReplacesStream, Result, SinkGhosts, Some, SourceGave, SourceGhosts, StartsWith, StreamError, StreamOutcome, WholeStream, Write, WriteZero, [], and-false, ap, append-nil, arith, counted, counts_none, counts_then, deed_of, drop, false, finds-exist, inl, inr, is_limit, is_write_fault, is_write_of_nothing, le_refl, length, length-append, length-take-le, map, on_err_weaker, on_ok_weaker, plain_search, refl, replaced, replaced_from, shortest, slice_range, subst, sym, take, true, ℕ, ◌&&◌, ◌++◌, ◌∙◌, ◌∷◌, ◌≡◌, ◌≤◌}
+use Rattle.aho_devices.specs.Refusals.{IsFillRefusal, is_read_fault}
+use Rattle.std.proofs.Common.{Bool}
+use Rattle.std.specs.Prelude.{◌+◌}
 use Rattle.std.specs.Fn.{Mut}
-use Rattle.std.proofs.lemmas.List.{append_cancel_left, length-take-le}
-use Rattle.std.proofs.Math.Bool.{and-false}
-use Rattle.std.proofs.lemmas.Result.{on_err_weaker}
+use Rattle.std.proofs.lemmas.List.{append_cancel_left}
 use Rattle.aho_core.specs.ClosureRun.{CalledOn, ClosureRun}
-use Rattle.aho_core.specs.Replacement.{replaced, replaced_from}
 use Rattle.aho_devices.specs.Counts.{AppendsBeginning}
-use Rattle.aho_devices.specs.Refusals.{IsWriteRefusal}
-use Rattle.aho_stream.specs.Refills.{is_limit}
-use Rattle.aho_stream.specs.Replacing.{BeginsReplacing, MayBe, ReplacesStream, piece_for}
+use Rattle.aho_stream.specs.Replacing.{piece_for}
 use Rattle.aho_stream.proofs.Called.{CalledOnFirst, run_calls}
 use Rattle.aho_stream.specs.StreamRun.{CallsOn, RunsAndLeaves, RunsLent, SinkTakes}
 use Rattle.tool_parts.proofs.Beginnings.{beginning-later, beginning-more}
-use Rattle.acredact.specs.Deeds.{WholeStream}
-use Rattle.acredact.specs.Faults.{IsStreamEnd}
-use Rattle.acredact.specs.Files.{deed_of}
-use Rattle.acredact.specs.Streams.{DoesStream, StreamOutcome}
 use Rattle.acredact.proofs.Redactions.{few_from, no_more, outcome_plain, plain_by, ungrown}
 use Rattle.acredact.proofs.Totals.{grow_few}
 

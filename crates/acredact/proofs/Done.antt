@@ -1,12 +1,6 @@
 -- What comes of files, one after another.
-use Rattle.acredact.proofs.Common.{Readers, SinkGhosts, Streams, TellsBytes, Volume, Writers, bytes_left, output_bytes}
-use Rattle.std.proofs.Common.{◌≡◌, inl, inr, ℕ, List, [], ◌∷◌, ◌++◌, Option, true, false, refl, sym, ap, subst, ◌∙◌, append-nil}
-use Rattle.std.specs.Prelude.{Bool, ◌&&◌, Result, Ok}
-use Rattle.std.proofs.lemmas.Bool.{and_parts}
-use Rattle.acredact.specs.Back.{DoesTold}
-use Rattle.acredact.specs.Bounds.{NumbersRead}
-use Rattle.acredact.specs.Files.{AreCut, AreDone, EachIsWritten, FailsByOutput, IsDone, Task, are_none}
-use Rattle.acredact.specs.Reads.{OfName}
+use Rattle.acredact.proofs.Common.{AreCut, Bool, DoesTold, EachIsWritten, FailsByOutput, IsDone, List, NumbersRead, OfName, Ok, Option, Readers, Result, SinkGhosts, Streams, Task, TellsBytes, Volume, Writers, [], and_parts, ap, append-nil, are_none, bytes_left, false, inl, inr, output_bytes, refl, subst, sym, true, ℕ, ◌&&◌, ◌++◌, ◌∙◌, ◌∷◌, ◌≡◌}
+use Rattle.acredact.specs.Files.{AreDone}
 -- the lines of two
 pub use Rattle.std.proofs.lemmas.List.Folds.{concat-append as concat_both}
 

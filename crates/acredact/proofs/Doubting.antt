@@ -1,10 +1,5 @@
 -- What stands at a place of a list.
-use Rattle.acredact.proofs.Common.{Errors, Rule, SinkGhosts, TellsBytes, common_steps, get_or-map, tells-later}
-use Rattle.std.proofs.Common.{◌≡◌, ℕ, ◌+◌, ◌<◌, List, ◌∷◌, ◌++◌, drop, get_or, length, map, true, sym, ap, ◌∙◌, append_assoc, arith}
-use Rattle.std.specs.Prelude.{nat_lt, slice_index_or}
-use Rattle.std.proofs.lemmas.List.{drop_more}
-use Rattle.std.proofs.lemmas.Simd.{map-map}
-use Rattle.acredact.specs.Tables.{secret_of, secrets_of}
+use Rattle.acredact.proofs.Common.{Errors, List, Rule, SinkGhosts, TellsBytes, ap, append_assoc, arith, common_steps, drop, drop_more, get_or, get_or-map, length, map, map-map, nat_lt, secret_of, secrets_of, slice_index_or, sym, tells-later, true, ℕ, ◌++◌, ◌+◌, ◌<◌, ◌∙◌, ◌∷◌, ◌≡◌}
 
 -- what is made of the element at a number is what stands there of all that is made of them
 pub made_there : {X Y Z : Type 0} (f : X → Y) (g : Y → Z) (xs : List X) (number : ℕ) (x d : X) (e : Z) → true ≡ nat_lt number (length xs) → x ≡ slice_index_or xs number d → g (f x) ≡ get_or (map g (map f xs)) number e

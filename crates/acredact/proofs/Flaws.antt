@@ -1,30 +1,27 @@
 -- Which pieces are clean: why one is not, that it is where nothing is found, and that a pseudonym is where none can spell a pattern. Where
 -- pieces that are made of runs are clean, nothing occurs in a text whose runs are replaced by them.
-use Rattle.acredact.proofs.Common.{common_steps, All, All-cons, All-head, All-nil, All-tail, ArePatterns, Bor, IsCleanPiece, IsMember, NoneHolds, Occurrence, Patterns, PieceRule, folded_by, folded_word, get_or-map, get_or-replicate, pattern_at, pieces_of, take_all}
-use Rattle.std.proofs.Common.{◌≡◌, inl, inr, ℕ, suc, ◌+◌, ◌-◌, ◌<◌, List, [], ◌∷◌, ◌++◌, Option, true, false, length, get_or, refl, sym, ap, subst, ◌∙◌, append_assoc, arith, below_more, map, take, ◌%◌, drop}
-use Rattle.std.specs.List.{list_all}
-use Rattle.std.specs.Prelude.{Bool, MatchOption, None, Some, if◌then◌else◌, nat_eq, ◌||◌, replicate, slice_index_or, slice_range}
+use Rattle.acredact.proofs.Common.{All, All-cons, All-head, All-nil, All-tail, All-weaker, ArePatterns, Bool, Bor, IsCleanPiece, IsMarked, IsMember, List, None, Occurrence, Option, Patterns, PieceRule, Some, [], and_parts, ap, append_assoc, arith, as_compared, common_steps, drop, drop_more, eqb-true, false, first_number, folded_by, folded_word, get_or, get_or-map, get_or-replicate, holder_in, holds_byte, if◌then◌else◌, inl, inr, length, list_all, map, may_be_spelled, member-get_or, nat_eq, pattern_at, piece_in, pieces_of, pseudonym_rule, refl, replaced, replaced_by, replaced_from, replicate, slice_index_or, slice_range, subst, suc, sym, take, take_all, true, ℕ, ◌++◌, ◌+◌, ◌-◌, ◌<◌, ◌||◌, ◌∙◌, ◌∷◌, ◌≡◌}
+use Rattle.aho_laws.specs.CutLaws.{NoneHolds}
+use Rattle.std.proofs.Common.{below_more, ◌%◌}
+use Rattle.std.specs.Prelude.{MatchOption}
 use Rattle.std.proofs.Math.Nat.{mod-lt}
 use Rattle.std.proofs.lemmas.Bool.Decides.{nat_tests}
-use Rattle.std.proofs.lemmas.Bool.{and_parts, both_ways, eqb-true, or_parts}
-use Rattle.std.proofs.lemmas.List.{drop_more, take_more}
-use Rattle.std.proofs.lemmas.List.Elements.{All-weaker, All-drop, All-take}
+use Rattle.std.proofs.lemmas.Bool.{both_ways, or_parts}
+use Rattle.std.proofs.lemmas.List.{take_more}
+use Rattle.std.proofs.lemmas.List.Elements.{All-drop, All-take}
 use Rattle.std.proofs.lemmas.List.Folds.{Any-from_list_any, list_all-map, list_any_none}
 use Rattle.std.proofs.lemmas.List.Sums.{AllPass-from_list_all, list_all-from_AllPass}
 use Rattle.aho_core.specs.Bytes.{folded}
 use Rattle.aho_core.specs.Cover.{AreRuns}
-use Rattle.aho_core.specs.Replacement.{replaced, replaced_by, replaced_from}
-use Rattle.aho_cover.specs.Pieces.{piece_in}
 use Rattle.aho_laws.proofs.CoverClean.{cover-free}
 use Rattle.aho_laws.proofs.JoinedPieces.{clear_joined}
 use Rattle.aho_laws.proofs.Replacements.{replaced_from-same}
 use Rattle.aho_laws.proofs.SpanTexts.{Occurs-left, Occurs-of_left, Occurs-of_right, Occurs-right, moved_back}
-use Rattle.secret_rules.proofs.Owners.{member-get_or}
 use Rattle.acredact.specs.Hmac.{hmac_sha256}
-use Rattle.acredact.specs.Pieces.{IsFlaw, IsMarked, IsUnclean, Spoils, WordsAreMarked}
-use Rattle.acredact.specs.Pseudonyms.{as_compared, hex_digit, piece_of_digest, pseudonym_rule}
+use Rattle.acredact.specs.Pieces.{IsFlaw, IsUnclean, Spoils, WordsAreMarked}
+use Rattle.acredact.specs.Pseudonyms.{hex_digit, piece_of_digest}
 use Rattle.acredact.specs.Secrets.{NoneOccurs}
-use Rattle.acredact.specs.Spelling.{first_number, holder_in, holds_byte, NoneAreSpelled, is_inside, lies_inside, may_be_spelled}
+use Rattle.acredact.specs.Spelling.{NoneAreSpelled, is_inside, lies_inside}
 use Rattle.acredact.specs.declared.clean.Flaw.{Flaw}
 use Rattle.acredact.specs.declared.clean.Flaw.TheVariants.{Empty, Pseudonym, Spells}
 

@@ -1,10 +1,8 @@
 -- Right arguments have nothing wrong.
-use Rattle.acredact.proofs.Common.{AsWord, Forms, same_Some}
-use Rattle.std.proofs.Common.{◌≡◌, inl, inr, ℕ, List, Option, refl, sym, ap, ◌∙◌, arith}
-use Rattle.std.specs.Prelude.{◌&&◌, Bool, true, false, Some, None, if◌then◌else◌, option_and_then}
+use Rattle.acredact.proofs.Common.{AsWord, Bool, Forms, Given, List, None, Option, Some, all_asked, and-false, ap, arith, covers_asked, given_by, has, if◌then◌else◌, inl, inr, option_and_then, refl, same_Some, sym, words_asked, ℕ, ◌&&◌, ◌∙◌, ◌≡◌}
+use Rattle.std.specs.Prelude.{true, false}
 use Rattle.std.specs.Result.{result_ok}
-use Rattle.std.proofs.Math.Bool.{and-false}
-use Rattle.acredact.specs.Arguments.{Given, IsMistakeOfCall, all_asked, covers_asked, fitting_by, given_by, has, mixture_of, words_asked}
+use Rattle.acredact.specs.Arguments.{IsMistakeOfCall, fitting_by, mixture_of}
 use Rattle.acredact.specs.declared.mistakes.Mistake.{Mistake}
 use Rattle.acredact.specs.declared.mistakes.Mistake.TheVariants.{OutOfMemory}
 use Rattle.acredact.specs.declared.mistakes.Mixture.{Mixture}

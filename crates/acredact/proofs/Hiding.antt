@@ -1,12 +1,11 @@
 -- What is so of the redaction of each file: no pattern occurs where the pieces are clean, and what shows a secret in a form lies in a replaced range.
-use Rattle.acredact.proofs.Common.{FromWrite, IsMember, Occurrence, Patterns, Writers, folded_word, is_input, pattern_at, plain_search}
-use Rattle.std.proofs.Common.{◌≡◌, inl, inr, ℕ, zero, suc, ◌+◌, ◌-◌, ◌≤◌, Bool, true, false, cond, List, [], ◌∷◌, ◌++◌, Option, get_or, length, refl, sym, ap, ◌∙◌, arith, length-append, slice_range, take, subst}
+use Rattle.acredact.proofs.Common.{AreCleanBy, Call, EachName, Forms, FromWrite, Given, IsMember, IsRedaction, List, Loaded, MatchBool, NoByteIsKept, None, NoneIsWhole, Occurrence, OfName, Option, Patterns, Redactor, Secret, Some, Work, Writers, WritesText, [], all_named, ap, arith, asked_form_patterns, covers_asked, false, filled, folded_word, form_secret, forms_from, get_or, has, if◌then◌else◌, inl, inr, is_input, is_some, length, length-append, map-map, named_secret, names_asked, nat_lt, pattern_at, patterns_in, plain_search, pseudonym_rule, refl, subst, suc, sym, take, take_at, true, twice_patterns, words_asked, work_by, zero, ℕ, ◌++◌, ◌+◌, ◌-◌, ◌∙◌, ◌∷◌, ◌≡◌, ◌≤◌}
+use Rattle.std.proofs.Common.{Bool, cond, slice_range}
 use Rattle.std.specs.List.{enumerate_from}
-use Rattle.std.specs.Prelude.{All, Contains, MatchBool, chars, is_some, nat_lt, None, Some, if◌then◌else◌}
+use Rattle.std.specs.Prelude.{All, Contains, chars}
 use Rattle.std.proofs.lemmas.Bool.{le-ltb, lt-ltb}
 use Rattle.std.proofs.lemmas.List.Elements.{All-contains, Contains-append_left, Contains-append_right}
-use Rattle.std.proofs.lemmas.List.{drop_at, get_or_default, take_at}
-use Rattle.std.proofs.lemmas.Simd.{map-map}
+use Rattle.std.proofs.lemmas.List.{drop_at, get_or_default}
 use Rattle.std.proofs.lemmas.List.FromFn.{get_or-enumerate_from, length-enumerate_from}
 use Rattle.base64.specs.Engines.{standard, standard_no_pad, url_safe, url_safe_no_pad}
 use Rattle.base64.specs.GeneralPurpose.{encode_of}
@@ -26,18 +25,12 @@ use Rattle.secret_forms.specs.Spelling.{HidesSpelled, shell_spellings, url_spell
 use Rattle.secret_forms.specs.declared.bytewise.Spelling.{Spelling}
 use Rattle.secret_forms.specs.declared.form.Form.{Form}
 use Rattle.secret_forms.specs.declared.form.Form.TheVariants.{Base64, Hex, Url, Json, Xml, Shell, Lines}
-use Rattle.acredact.specs.Files.{AreFree, AreRedacted, Work, WritesNamed, WritesText}
-use Rattle.acredact.specs.Forms.{AskedForms, HideSecrets, HidesNestedForm, HidesSecret, asked_form_patterns, each_twice, filled, form_secret, forms_from, forms_of, once_patterns, twice_patterns, with_forms}
+use Rattle.acredact.specs.Files.{AreFree, AreRedacted, WritesNamed}
+use Rattle.acredact.specs.Forms.{AskedForms, HideSecrets, HidesNestedForm, HidesSecret, each_twice, forms_of, once_patterns, with_forms}
 use Rattle.acredact.specs.Hidden.{HidesForms, NoneShowsOnce, NoneShowsTwice, ShowsBits, SpellsEach, ShowsForm, SpellsForm}
-use Rattle.acredact.specs.Reads.{EachName, OfName}
-use Rattle.acredact.specs.Secrets.{AreCleanBy, IsRedaction, NoByteIsKept, NoneIsWhole, Redactor}
-use Rattle.acredact.specs.Tables.{Secret, patterns_in}
-use Rattle.acredact.specs.Arguments.{covers_asked, words_asked, Given, has}
-use Rattle.acredact.specs.Calls.{Call, HidesCall, RedactsCall, names_asked, work_by}
-use Rattle.acredact.specs.Loading.{Loaded, secrets_by}
-use Rattle.acredact.specs.Named.{named_secret, all_named}
-use Rattle.acredact.specs.Pseudonyms.{pseudonym_rule}
-use Rattle.acredact.specs.declared.options.Word.TheVariants.{Forms, IgnoreCase}
+use Rattle.acredact.specs.Calls.{HidesCall, RedactsCall}
+use Rattle.acredact.specs.Loading.{secrets_by}
+use Rattle.acredact.specs.declared.options.Word.TheVariants.{IgnoreCase}
 
 -- what is so of a text is so of that of a name
 pub named_as : (holds : List ℕ → Option (List ℕ)) (name : List ℕ) (One Other : Option (List ℕ) → Option (List ℕ) → Type 0) → ((l l' : Option (List ℕ)) → One l l' → Other l l')

@@ -1,15 +1,10 @@
 -- What comes of the files of a job, one after another: what is written and told, what is counted, and how much is read.
-use Rattle.acredact.proofs.Common.{FromWrite, Keeps, Readers, Reason, SinkGhosts, StreamError, Streams, TellsBytes, Volume, Write, WriteZero, Writers, bytes_left, counted, counts_none, counts_then, is_write_fault, is_write_of_nothing, output_bytes, tells-later, tells-nothing}
-use Rattle.std.proofs.Common.{◌≡◌, inl, inr, ℕ, List, [], ◌∷◌, ◌++◌, Option, true, refl, sym, ap, subst, ◌∙◌, arith}
-use Rattle.std.specs.Prelude.{Bool, ◌&&◌, None, Some, Result, Ok, Err}
-use Rattle.aho_devices.specs.Refusals.{IsWriteRefusal}
-use Rattle.acredact.specs.Back.{DoesJob, DoesNamed, DoesText, DoesTold}
-use Rattle.acredact.specs.Bounds.{ReadsSize}
+use Rattle.acredact.proofs.Common.{AreCut, BeginsWriting, Bool, ComesOfReading, DoesJob, DoesText, DoesTold, Err, FailsByOutput, FromWrite, IsWriteRefusal, Keeps, List, None, Ok, Option, Readers, ReadsSize, Reason, Result, SinkGhosts, Some, StreamError, Streams, Task, TellsBytes, Volume, WholeText, Write, WriteZero, Writers, WritesText, [], ap, arith, bytes_left, counted, counts_none, counts_then, files_with, inl, inr, is_write_fault, is_write_of_nothing, output_bytes, refl, subst, sym, tells-later, tells-nothing, true, ℕ, ◌&&◌, ◌++◌, ◌∙◌, ◌∷◌, ◌≡◌}
+use Rattle.acredact.specs.Back.{DoesNamed}
 use Rattle.acredact.specs.Common.{FromRead}
-use Rattle.acredact.specs.Deeds.{WholeText}
 use Rattle.acredact.specs.Faults.{IsOutputEnd}
-use Rattle.acredact.specs.Files.{AreCut, BeginsWriting, ComesOfReading, ComesOfFile, Does, FailsByOutput, NearsText, Task, WritesText}
-use Rattle.acredact.specs.Volumes.{AddsBytes, files_with}
+use Rattle.acredact.specs.Files.{ComesOfFile, Does, NearsText}
+use Rattle.acredact.specs.Volumes.{AddsBytes}
 use Rattle.acredact.proofs.Totals.{grow_none, numbers_more, volume_more}
 use Rattle.acredact.proofs.Done.{all_so, concat_both, none_both}
 use Rattle.acredact.proofs.OneFile.{IsFileRead}

@@ -1,14 +1,11 @@
 -- The patterns that options give, one after another.
-use Rattle.acredact.proofs.Common.{Failure, common_steps, get_or-map, length-map, take_all, Folders}
-use Rattle.std.proofs.Common.{◌≡◌, inr, ℕ, ◌+◌, ◌<◌, ◌≤◌, List, [], ◌∷◌, ◌++◌, Option, refl, sym, ap, ◌∙◌, append-nil, append_assoc, arith, get_or, length, map, take}
+use Rattle.acredact.proofs.Common.{CannotLoadOne, Failure, Folders, IsAddedSome, List, OfName, Option, [], all_given, ap, append-nil, append_assoc, arith, common_steps, get_or, get_or-map, given_of, inr, length, length-map, map, reading_of_lists, refl, sym, take, take_all, ℕ, ◌++◌, ◌+◌, ◌<◌, ◌∙◌, ◌∷◌, ◌≡◌, ◌≤◌}
 use Rattle.std.proofs.lemmas.List.{map_more}
 use Rattle.acredact.specs.declared.options.Item.{Item}
-use Rattle.acredact.specs.Arguments.{all_given, given_of}
-use Rattle.acredact.specs.Loading.{CannotLoad, CannotLoadOne, IsFileFailure, IsListText, IsListedFailure, Reading, Rules, reading_of_lists, rules_for}
+use Rattle.acredact.specs.Loading.{CannotLoad, IsFileFailure, IsListText, IsListedFailure, Reading, Rules, rules_for}
 use Rattle.acredact.specs.declared.load.Listed.{Listed}
 use Rattle.acredact.specs.declared.load.Lists.{Lists}
-use Rattle.acredact.specs.Parts.{IsAddedSome}
-use Rattle.acredact.specs.Reads.{EachGives, OfName, ReadsText}
+use Rattle.acredact.specs.Reads.{EachGives, ReadsText}
 
 -- what some give was added
 pub record GivenSoFar {I X S : Type 0} (Gives : I → List X → (left left' : S) → Type 0) (items : List I) (before between : S) (old new : List X) : Type 0 where

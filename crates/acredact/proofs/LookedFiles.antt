@@ -1,17 +1,9 @@
 -- What comes of files that are looked at, one after another.
-use Rattle.acredact.proofs.Common.{All, All-append, All-cons, All-nil, Errors, Failure, IfOk-weaker, Keeps-refl, Look, SinkGhosts, Tells, TellsBytes, Verdict, and-true, concat, or-false, or_assoc, stream_lines, take-length, tells-later, tells-nothing}
-use Rattle.std.proofs.Common.{◌≡◌, inl, inr, ℕ, List, [], ◌∷◌, ◌++◌, Option, true, false, refl, ap, append-nil, sym, subst, ◌∙◌}
-use Rattle.std.specs.Prelude.{Bool, ◌||◌, ◌&&◌, Result, Ok, Err, IfOk}
+use Rattle.acredact.proofs.Common.{All, All-append, All-cons, All-nil, All-weaker, BeginsLook, BeginsWriting, Bool, Err, Errors, Failure, IfOk, IfOk-weaker, IsUnreadLine, Keeps-refl, List, Look, LookedText, Ok, Option, Result, SeesFiles, SinkGhosts, Sought, Tells, TellsBytes, Verdict, [], and-true, and_assoc, and_parts, ap, append-nil, are_none, both_seen, concat, false, inl, inr, lines_findings, or-false, or_assoc, output_line, refl, stream_lines, subst, sym, tells-later, tells-nothing, true, unread_line, verdict_as, ℕ, ◌&&◌, ◌++◌, ◌||◌, ◌∙◌, ◌∷◌, ◌≡◌}
+use Rattle.std.proofs.Math.Seq.{take-length}
 use Rattle.std.specs.Io.{StartsWith}
-use Rattle.std.proofs.Math.Bool.{and_assoc}
-use Rattle.std.proofs.lemmas.Bool.{and_parts}
-use Rattle.std.proofs.lemmas.List.Elements.{All-weaker}
-use Rattle.acredact.specs.Calls.{IsUnreadLine}
-use Rattle.acredact.specs.Checks.{BeginsLook, IsLookOf, LookedNamed, MayBeTold, Quest, SeesFiles}
-use Rattle.acredact.specs.Files.{BeginsWriting, are_none, unread_line}
-use Rattle.acredact.specs.Findings.{lines_findings}
-use Rattle.acredact.specs.Looks.{BeginsToTell, IsLook, IsReadLook, IsSeen, LookedText, Sought, both_seen, look_lines, verdict_as, verdict_of}
-use Rattle.acredact.specs.Messages.{output_line}
+use Rattle.acredact.specs.Checks.{IsLookOf, LookedNamed, MayBeTold, Quest}
+use Rattle.acredact.specs.Looks.{BeginsToTell, IsLook, IsReadLook, IsSeen, look_lines, verdict_of}
 use Rattle.acredact.specs.declared.look.Look.TheVariants.{Clean, Found, Output, Unread}
 use Rattle.acredact.proofs.Calls.{tells_same}
 use Rattle.acredact.proofs.Done.{concat_both, none_both}

@@ -1,8 +1,10 @@
 -- What a look at a text says: for patterns by what the first call of an iterator over its matches answers, or by what a cover of its words counts; for
 -- lines by what a visitor of them leaves.
-use Rattle.acredact.proofs.Common.{Appends, Appends-nil, Appends-trans, AreSearchedFor, Automata, Consumes-nil, CountsRunsWith, Covering, Failure, Ghosts, Line, LineError, Look, Memory, MutBor, Occurrence, Patterns, Refused, SinkGhosts, SourceGhosts, StartsWith, StreamError, Write, WriteZero, all-made, all_runs, common_steps, counted, covering_by, is_write_fault, is_write_of_nothing, most_of, or-false, or_assoc, plain_search, rules_of, runs_named, searched_automaton, shortest, stream_lines, words_of}
-use Rattle.std.proofs.Common.{◌≡◌, inl, inr, ℕ, ◌<◌, ◌≤◌, ◌++◌, List, [], ◌∷◌, Option, true, false, drop, length, map, refl, sym, ap, subst, take, ◌∙◌, append-nil, append_assoc, arith, le_refl}
-use Rattle.std.specs.Prelude.{Bool, MatchBool, None, Some, Result, Ok, Err, IfOk, OnErr, OnOk, ◌||◌, replicate, slice_index}
+use Rattle.acredact.proofs.Common.{Appends, Appends-nil, Appends-trans, AreLineRuns, AreTotals, Automata, Bool, Consumes-nil, Covering, Err, Failure, Ghosts, IfOk, IsStreamFault, Line, LineError, List, Look, LooksAt, MatchBool, Memory, MutBor, None, Occurrence, Ok, OnErr, OnOk, Option, Patterns, Redactor, Refused, Result, SinkGhosts, Some, SomeStream, Sought, SourceGhosts, StartsWith, StreamError, Write, WriteZero, [], all-made, all_runs, ap, append-nil, append_assoc, arith, common_steps, counted, drop, false, inl, inr, is_write_fault, is_write_of_nothing, le_refl, length, lines_findings, map, occurs_of, or-false, or_assoc, plain_search, refl, replicate, runs_named, shortest, slice_index, sought, stream_lines, subst, sym, take, true, ℕ, ◌++◌, ◌<◌, ◌||◌, ◌∙◌, ◌∷◌, ◌≡◌, ◌≤◌}
+use Rattle.secret_rules.specs.LineCovers.{AreSearchedFor}
+use Rattle.aho_cover.specs.Covers.{CountsRunsWith}
+use Rattle.secret_rules.specs.Covering.{covering_by}
+use Rattle.secret_rules.specs.Ready.{most_of, rules_of, searched_automaton, words_of}
 use Rattle.std.proofs.lemmas.List.{take-append-drop}
 use Rattle.aho_core.specs.Answer.{IsAnswer}
 use Rattle.aho_core.specs.Iteration.{IsNextFind}
@@ -11,21 +13,17 @@ use Rattle.aho_cover.specs.Words.{AreRunsWith}
 use Rattle.aho_stream.specs.FindRuns.{FindsAll, FindsAlong, FindsSoFar}
 use Rattle.aho_stream.specs.Finds.{FindsError, FindsNextInStream}
 use Rattle.aho_stream.specs.Iterators.{CanGoOn}
-use Rattle.aho_stream.specs.Replacing.{IsStreamFault}
 use Rattle.aho_stream.specs.declared.finds.StreamFindIter.{StreamFindIter}
 use Rattle.aho_stream.specs.declared.progress.StreamProgress.{StreamProgress}
 use Rattle.aho_stream.proofs.FindRuns.{find_steps}
-use Rattle.acredact.specs.Looks.{CountsInGiven, IsLookEnd, LooksAt, LooksSo, SomeCounts, occurs_of, sought, Sought}
-use Rattle.acredact.specs.Secrets.{Redactor}
-use Rattle.acredact.specs.Totals.{AreTotals}
+use Rattle.acredact.specs.Looks.{CountsInGiven, IsLookEnd, LooksSo, SomeCounts}
 use Rattle.acredact.proofs.Redactions.{all_of, occurs_some, runs_hide}
 use Rattle.acredact.proofs.Totals.{totals_of}
-use Rattle.secret_rules.specs.Covering.{AreLineRuns}
 use Rattle.secret_rules.specs.Visits.{LeavesVisited, StopsWithin, VisitsEach, taken_line}
 use Rattle.secret_rules.specs.declared.line_cover.LineCover.{LineCover}
 use Rattle.secret_rules.specs.declared.visitor.LineVisitor.{Ghosts as VisitorGhosts}
-use Rattle.acredact.specs.Deeds.{BegunAs, SomeStream}
-use Rattle.acredact.specs.Findings.{BeginsFindings, StopsTelling, TellsLine, TellsText, findings_of, is_some_line, is_some_run, labels_of, lines_findings}
+use Rattle.acredact.specs.Deeds.{BegunAs}
+use Rattle.acredact.specs.Findings.{BeginsFindings, StopsTelling, TellsLine, TellsText, findings_of, is_some_line, is_some_run, labels_of}
 use Rattle.acredact.specs.RuledChecks.{IsByLines}
 use Rattle.acredact.specs.declared.legend.Findings.{Findings}
 use Rattle.acredact.specs.declared.teller.Teller.{Teller}

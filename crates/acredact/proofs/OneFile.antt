@@ -1,14 +1,10 @@
 -- What comes of one file, by what comes of its stream.
-use Rattle.acredact.proofs.Common.{Appends-nil, Consumes, Consumes-nil, FromWrite, IsAtEnd, Keeps, Keeps-refl, PositionLimit, Read, SinkGhosts, SourceGhosts, StreamError, counted, is_input, is_write_fault, is_write_of_nothing, at_end}
-use Rattle.std.proofs.Common.{◌≡◌, ◌≢◌, inl, ℕ, List, [], ◌∷◌, Option, true, false, refl, ap, subst, ◌∙◌, arith}
-use Rattle.std.specs.Prelude.{Bool, None, Result, Ok, Err, IfErr, OnOk, Some}
-use Rattle.std.proofs.KnownBytes.{Consumes-kept, Consumes-trans}
+use Rattle.acredact.proofs.Common.{Appends-nil, AreCut, BeginsWriting, Bool, ComesOfReading, Consumes, Consumes-kept, Consumes-nil, Deed, EachName, Err, FailsByOutput, FromWrite, IfErr, IsStreamEnd, Keeps, Keeps-refl, List, None, OfName, Ok, OnOk, Option, Result, SinkGhosts, Some, SomeStream, SourceGhosts, StreamError, StreamOutcome, Task, WholeStream, WholeText, [], ap, arith, at_end, counted, false, inl, is_input, is_write_fault, is_write_of_nothing, refl, subst, true, ℕ, ◌∙◌, ◌∷◌, ◌≡◌, ◌≢◌}
+use Rattle.acredact.specs.Common.{IsAtEnd, PositionLimit, Read}
+use Rattle.std.proofs.KnownBytes.{Consumes-trans}
 use Rattle.aho_core.specs.declared.error.stream.StreamError.TheVariants.{Match}
-use Rattle.acredact.specs.Deeds.{Deed, SomeStream, SomeText, WholeStream, WholeText}
-use Rattle.acredact.specs.Faults.{IsStreamEnd, reading_of}
-use Rattle.acredact.specs.Files.{AreCut, BeginsWriting, ComesOfReading, FailsByOutput, Task}
-use Rattle.acredact.specs.Reads.{EachName, OfName}
-use Rattle.acredact.specs.Streams.{StreamOutcome}
+use Rattle.acredact.specs.Deeds.{SomeText}
+use Rattle.acredact.specs.Faults.{reading_of}
 
 -- what is so of a source or a sink is so of it where it was left
 pub so_there : {R : Type 0} (there there' : R) (Is : R → Type 0) → there ≡ there' → Is there → Is there'

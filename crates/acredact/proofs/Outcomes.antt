@@ -1,10 +1,6 @@
 -- What comes of a call by what comes of its files, and what its exit status says.
-use Rattle.acredact.proofs.Common.{Errors, Failure, SinkGhosts, Tells, TellsSome}
-use Rattle.std.proofs.Common.{◌≡◌, ◌∙◌, ℕ, List, true, false, refl, subst, sym, arith}
-use Rattle.std.specs.Prelude.{Bool, Result, Ok, Err, IfErr, IfOk, OnOk}
-use Rattle.acredact.specs.Calls.{TellsUnlessAll}
-use Rattle.acredact.specs.Failures.{EndsCall, IsFailureLine}
-use Rattle.acredact.specs.Outcomes.{ComesOf, EndSays}
+use Rattle.acredact.proofs.Common.{Bool, ComesOf, EndsCall, Err, Errors, Failure, IfErr, IfOk, IsFailureLine, List, Ok, OnOk, Result, SinkGhosts, Tells, TellsSome, TellsUnlessAll, arith, false, refl, subst, sym, true, ℕ, ◌∙◌, ◌≡◌}
+use Rattle.acredact.specs.Outcomes.{EndSays}
 use Rattle.acredact.proofs.Calls.{some_behind, some_then, some_weaker, tells_both, tells_last, some_all, tells_same}
 use Rattle.acredact.proofs.Turns.{told_by}
 

@@ -1,8 +1,8 @@
 -- How a text is read: by what it begins with, and by the first place of a byte.
-use Rattle.acredact.proofs.Common.{All-head, All-tail, eq-eqb, ne_eqb, same_Some}
-use Rattle.std.proofs.Common.{◌≡◌, ◌==◌, ℕ, false, List, [], ◌∷◌, ◌++◌, refl, ap}
-use Rattle.std.specs.Prelude.{◌≢◌, Err, None, Some, nat_eq, slice_get}
-use Rattle.acredact.specs.Arguments.{Given, by_letters}
+use Rattle.acredact.proofs.Common.{All-head, All-tail, Err, Given, List, None, Some, [], ap, by_letters, false, nat_eq, ne_eqb, refl, same_Some, slice_get, ℕ, ◌++◌, ◌∷◌, ◌≡◌}
+use Rattle.std.proofs.lemmas.Bool.{eq-eqb}
+use Rattle.std.proofs.Common.{◌==◌}
+use Rattle.std.specs.Prelude.{◌≢◌}
 use Rattle.acredact.specs.Forms.{split_first}
 use Rattle.acredact.specs.Mistakes.{letter_line}
 use Rattle.acredact.specs.Tables.{IsWithout}

@@ -1,20 +1,14 @@
 -- What is loaded can be searched for.
-use Rattle.acredact.proofs.Common.{AsWord, Bor, CanBegin, No, Patterns, Standard, length-map, pieces_of, shortest, Rule}
-use Rattle.std.proofs.Common.{◌≡◌, ℕ, ◌≤◌, Bool, true, List, [], ◌∷◌, Option, length, map, refl, sym, ap, subst, ◌∙◌, arith}
-use Rattle.std.specs.Prelude.{codes, option_and_then, unwrap_or, IsOk, Some, None}
-use Rattle.std.proofs.lemmas.Bool.{and_parts}
+use Rattle.acredact.proofs.Common.{AsWord, Bor, CanBegin, CanDoStreams, CanRedact, CanSearch, Given, IsOk, List, No, None, Option, Patterns, Rule, Searcher, Some, Standard, [], and_parts, ap, arith, covers_asked, has, last_value, length, length-map, map, of_searcher, option_and_then, patterns_by_given, patterns_in, pieces_of, refl, secrets_of, shortest, subst, sym, texts_looked_for, true, words_asked, ℕ, ◌∙◌, ◌∷◌, ◌≡◌, ◌≤◌}
+use Rattle.std.proofs.Common.{Bool}
+use Rattle.std.specs.Prelude.{codes, unwrap_or}
 use Rattle.std.proofs.lemmas.Slice.Eq.{bytes_eq-Decides}
 use Rattle.chromesquid.proofs.Built.{count_of, finds_by, shortest_of, start_of}
-use Rattle.chromesquid.specs.Searcher.{Answers, IsBuiltFrom, Searcher}
-use Rattle.chromesquid.specs.contracts.automaton.AhoCorasickAutomaton.TheImpl.{ghosts as of_searcher}
-use Rattle.secret_rules.specs.OpenLines.{CanSearch}
+use Rattle.chromesquid.specs.Searcher.{Answers, IsBuiltFrom}
 use Rattle.tool_parts.specs.Arguments.{kind_by}
-use Rattle.acredact.specs.Arguments.{Given, covers_asked, has, is_cover, last_value, words_asked}
-use Rattle.acredact.specs.Builds.{patterns_by_given}
-use Rattle.acredact.specs.Checks.{IsByTexts, texts_looked_for}
+use Rattle.acredact.specs.Arguments.{is_cover}
+use Rattle.acredact.specs.Checks.{IsByTexts}
 use Rattle.acredact.specs.Ready.{IsReadyFor}
-use Rattle.acredact.specs.Secrets.{CanDoStreams, CanRedact}
-use Rattle.acredact.specs.Tables.{patterns_in, secrets_of}
 use Rattle.acredact.specs.declared.options.Word.TheVariants.{Kind}
 use Rattle.acredact.specs.declared.prepare.Ready.{Ready}
 

@@ -1,31 +1,21 @@
 -- What comes of a call whose patterns were loaded, behind what is told of these, by what comes of its files: of one that redacts them to the output, and of
 -- one that replaces them, one after another.
-use Rattle.acredact.proofs.Common.{CountsThese, Errors, Failure, FromWrite, IfErr-weaker, Other, OutOfMemory, Readers, Reason, Rule, SinkGhosts, StreamError, Streams, Strict, Tells, TellsSome, Volume, Writers, bytes_left, counts_none, counts_then, failure_of_stream, is_input, on_ok_weaker, output_bytes}
-use Rattle.std.proofs.Common.{List, Option, [], ap, arith, false, inl, inr, refl, subst, sym, true, ℕ, ◌++◌, ◌∙◌, ◌∷◌, ◌≡◌}
-use Rattle.std.specs.Prelude.{Bool, Err, IfErr, IfOk, IfSome, MatchBool, Ok, OnOk, Result, is_some, ◌&&◌, ◌⊎◌}
-use Rattle.acredact.specs.Arguments.{Given, counts_asked, has}
-use Rattle.acredact.specs.Calls.{Call, CallOutcome, DoneCall, IsCountsFailure, IsCountsLine, IsLineOf, IsOfLoaded, IsUnreadLine, IsWarningLine, IsWordLine, LoadsCall, MayFail, OutputFails, TellsCounts, TellsOfFiles, TellsUnlessAll, WarnsAndCounts, WarnsLoaded, names_asked, reading_by, redactor_by_given, work_by}
-use Rattle.acredact.specs.Counts.{secret_lines, zeros}
-use Rattle.acredact.specs.Files.{EachIsWritten, FilesOutcome, Task, TaskOutcome, Work, task_of, unread_line}
-use Rattle.acredact.specs.Loading.{AreLoaded, Loaded, loaded_as}
-use Rattle.acredact.specs.Secrets.{AreCleanBy, Redactor}
-use Rattle.acredact.specs.Summaries.{no_volume, totals_text}
-use Rattle.acredact.specs.Sums.{sums_of}
-use Rattle.acredact.specs.Tables.{secrets_of}
-use Rattle.acredact.specs.Totals.{CountsOfNames}
-use Rattle.acredact.specs.Volumes.{ReadsVolume}
+use Rattle.acredact.proofs.Common.{AreCleanBy, AreLoaded, Bool, Call, CallOutcome, ComesOf, CountsOfNames, CountsThese, DoesJob, EachIsWritten, EndsCall, Err, Errors, Failure, FilesOutcome, FromWrite, Given, IfErr, IfErr-weaker, IfOk, IsLineOf, IsPlaceLine, IsSparedLine, IsUnreadLine, IsWarningLine, IsWordLine, List, Loaded, MatchBool, MayFail, Ok, OnOk, Option, Other, OutOfMemory, OutputFails, PlacesOutcome, Readers, ReadsVolume, Reason, Redactor, Result, Rule, SinkGhosts, StreamError, Streams, Strict, Task, Tells, TellsCounts, TellsOfFiles, TellsSome, TellsUnlessAll, Volume, WarnsLoaded, Work, Writers, [], ap, arith, bytes_left, counts_asked, counts_none, counts_then, failure_of_stream, false, has, inl, inr, is_input, is_some, names_asked, no_volume, on_ok_weaker, output_bytes, reading_by, refl, secrets_of, subst, sums_of, sym, task_of, true, unread_line, work_by, zeros, ℕ, ◌&&◌, ◌++◌, ◌∙◌, ◌∷◌, ◌≡◌, ◌⊎◌}
+use Rattle.std.specs.Prelude.{IfSome}
+use Rattle.acredact.specs.Calls.{DoneCall, IsCountsFailure, IsCountsLine, IsOfLoaded, LoadsCall, WarnsAndCounts, redactor_by_given}
+use Rattle.acredact.specs.Counts.{secret_lines}
+use Rattle.acredact.specs.Files.{TaskOutcome}
+use Rattle.acredact.specs.Loading.{loaded_as}
+use Rattle.acredact.specs.Summaries.{totals_text}
 use Rattle.acredact.proofs.Calls.{clean_pieces, may_fail, none_are, run_failure, some_told, some_weaker, tells_both, tells_last, tells_same, tells_weaker, unread_of, warnings_may}
 use Rattle.acredact.proofs.Done.{all_so, cut_of, redacted_of}
 use Rattle.acredact.proofs.Hiding.{free_of}
 use Rattle.acredact.proofs.Outcomes.{comes_early, files_then, status_says}
 use Rattle.acredact.proofs.Totals.{bounded_from, one_added, one_counts, totals_told, volume_more}
 use Rattle.std.specs.declared.alloc.AllocError.{AllocError}
-use Rattle.acredact.specs.Failures.{EndsCall}
-use Rattle.acredact.specs.InPlace.{AreInTurn, BeginInTurn, CalledPlaces, IsFreed, IsPlaceLine, IsPlaced, IsReplaced, IsSettled, IsSpared, IsSparedLine, IsSparedOf, PlaceOutcome, PlaceState, PlacesEach, PlacesOutcome, PlacesStatus, ReachesCall, SparesCall, TellsEnd, TellsUnread}
+use Rattle.acredact.specs.InPlace.{AreInTurn, BeginInTurn, CalledPlaces, IsFreed, IsPlaced, IsReplaced, IsSettled, IsSpared, IsSparedOf, PlaceOutcome, PlaceState, PlacesEach, PlacesStatus, ReachesCall, SparesCall, TellsEnd, TellsUnread}
 use Rattle.acredact.specs.declared.outputs.Outputs.{Ghosts as Places}
 use Rattle.acredact.proofs.Turns.{all_joined, also, told_then, told_any}
-use Rattle.acredact.specs.Back.{DoesJob}
-use Rattle.acredact.specs.Outcomes.{ComesOf}
 
 -- what comes of some files
 module _ {R W E : Type 0} {Reads : Readers R} (Writes : Writers W) (K : SinkGhosts E) (task : Task) (names : List (List ℕ)) (old new : Streams R W E Reads) where

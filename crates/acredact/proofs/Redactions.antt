@@ -1,33 +1,24 @@
 -- What a cover or a replacement of a stream writes is a redaction, and what it begins is begun. Where no pattern is empty each that occurs shares a byte with a find.
-use Rattle.acredact.proofs.Common.{AreFinds, CanBegin, CountsThese, Ghosts, IfErr-weaker, IsCleanPiece, Memory, No, Occurrence, Patterns, Refused, SinkGhosts, SourceGave, SourceGhosts, Standard, StartsWith, StreamError, all-covers, all-made, all_runs, cases_lt, finds-exist, on_ok_weaker, plain_search, shortest}
-use Rattle.std.proofs.Common.{◌≡◌, ◌≢◌, ◌⊎◌, inl, inr, ℕ, ◌+◌, ◌<◌, ◌≤◌, ◌∷◌, ◌++◌, List, [], true, false, length, map, refl, sym, ap, ◌∙◌, append-nil, arith, le_refl, length-append}
-use Rattle.std.specs.Prelude.{Bool, MatchBool, Option, None, Some, Result, Ok, Err, IfErr, OnErr, OnOk, is_some}
-use Rattle.std.proofs.lemmas.Result.{on_err_weaker}
-use Rattle.aho_core.specs.Cover.{AreRunsOf}
+use Rattle.acredact.proofs.Common.{AreCleanBy, AreFinds, AreRunsOf, BeginsReplacing, Bool, CanBegin, CountsErrors, CountsThese, Deed, DoesStream, Err, Ghosts, IfErr, IfErr-weaker, IsCleanPiece, IsRedaction, IsStreamEnd, IsStreamFault, List, MatchBool, MayBe, Memory, No, NoByteIsKept, None, NoneIsWhole, Occurrence, Ok, OnErr, OnOk, Patterns, Redactor, Refused, ReplacesStream, Result, SinkGhosts, Some, SourceGave, SourceGhosts, Standard, StartsWith, StreamError, StreamOutcome, [], all-made, all_runs, ap, append-nil, arith, deed_of, false, finds-exist, inl, inr, is_limit, is_some, le_refl, length, length-append, map, on_err_weaker, on_ok_weaker, piece_in, plain_search, refl, replaced, replaced_by, shortest, sym, true, ℕ, ◌++◌, ◌+◌, ◌<◌, ◌∙◌, ◌∷◌, ◌≡◌, ◌≢◌, ◌≤◌}
+use Rattle.aho_cover.proofs.Chosen.{all-covers, all-are}
+use Rattle.std.proofs.lemmas.Bool.{cases_lt}
+use Rattle.std.proofs.Common.{◌⊎◌}
+use Rattle.std.specs.Prelude.{Option}
 use Rattle.aho_core.specs.Occurs.{Occurs}
 use Rattle.aho_core.specs.Order.{IsBefore}
-use Rattle.aho_core.specs.Replacement.{replaced, replaced_by}
 use Rattle.aho_core.specs.declared.error.MatchErrorKind.{MatchErrorKind}
 use Rattle.aho_core.specs.declared.search.MatchKind.{MatchKind}
-use Rattle.aho_devices.specs.Errors.{CountsErrors}
 use Rattle.aho_laws.specs.CutLaws.{NoneIsEmpty}
 use Rattle.aho_laws.proofs.ClearCuts.{Occurs-full, Occurs-in, find-best}
 use Rattle.aho_laws.proofs.CoverKept.{kept-uncovered}
 use Rattle.aho_laws.proofs.CoverRuns.{Covers}
 use Rattle.aho_stream.proofs.PatternLengths.{shortest_bounds}
 use Rattle.aho_stream.specs.After.{greatest_position, search_from}
-use Rattle.aho_stream.specs.Refills.{is_limit}
-use Rattle.aho_stream.specs.Replacing.{BeginsReplacing, GaveAsMany, IsStreamFault, MayBe, ReplacesStream}
+use Rattle.aho_stream.specs.Replacing.{GaveAsMany}
 use Rattle.acredact.specs.Bounds.{Bounded}
-use Rattle.acredact.specs.Faults.{IsStreamEnd}
-use Rattle.acredact.specs.Files.{deed_of}
 use Rattle.aho_cover.specs.Covers.{LeavesCoveredWith, LeavesCountedWith}
-use Rattle.aho_cover.specs.Pieces.{piece_in}
-use Rattle.aho_cover.proofs.Chosen.{all-are}
-use Rattle.acredact.specs.Secrets.{AreCleanBy, AreReplaced, BeginsRedaction, CountsFor, IsRedaction, IsTouched, Keyed, NoByteIsKept, NoneIsWhole, Redactor, rule_by, rule_of}
-use Rattle.acredact.specs.Streams.{DoesStream, StreamOutcome}
+use Rattle.acredact.specs.Secrets.{AreReplaced, BeginsRedaction, CountsFor, IsTouched, Keyed, rule_by, rule_of}
 use Rattle.acredact.proofs.Flaws.{made-free, pseudonyms_clean}
-use Rattle.acredact.specs.Deeds.{Deed}
 use Rattle.acredact.proofs.Totals.{grow_few, grow_none}
 use Rattle.aho_laws.specs.CoverLaws.{AreInOrder}
 use Rattle.aho_laws.proofs.SettledRuns.{few-open}

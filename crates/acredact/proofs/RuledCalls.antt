@@ -1,18 +1,14 @@
 -- Calls with rules: what comes of the lines of a text, and how many are too long; and what comes of a redaction and of a check, and its status.
-use Rattle.acredact.proofs.Common.{All-nil, Errors, Failure, IfOk-weaker, Keeps, LineError, Readers, SinkGhosts, StreamError, Streams, Tells, TellsBytes, Verdict, Volume, Writers, bytes_left, length-map, runs_named, Keeps-refl, Line, Memory, Occurrence, Patterns, PieceRule, SourceGhosts, StartsWith, Stream, stream_lines, Covering, IsMember, common_steps, ltb-true}
-use Rattle.std.proofs.Common.{List, Option, [], ap, arith, false, inl, inr, length, length-append, refl, subst, sym, true, ℕ, ◌+◌, ◌-◌, ◌∙◌, ◌∷◌, ◌≡◌, suc, zero, ◌++◌, ◌<◌, ◌≤◌}
-use Rattle.std.specs.Prelude.{◌==◌, Bool, Err, IfErr, IfOk, IsErr, MatchBool, Ok, OnOk, Result, min, replicate, slice_index, ◌^◌, nat_eq, nat_lt, if◌then◌else◌}
-use Rattle.acredact.specs.Arguments.{Given, counts_asked, has}
-use Rattle.acredact.specs.Back.{DoesJob}
-use Rattle.acredact.specs.Calls.{Call, IsUnreadLine, TellsWhole, names_asked, reading_by}
-use Rattle.acredact.specs.Doubts.{TellsDoubts, last_of}
-use Rattle.acredact.specs.Failures.{EndsCall}
+use Rattle.acredact.proofs.Common.{All-nil, AreLineRuns, AreRunsOf, BeginsLook, Bool, Call, CountsErrors, Covering, DoesJob, DoesStream, EachName, EndsCall, Err, Errors, Failure, Given, IfErr, IfOk, IfOk-weaker, IsMember, IsRuledTold, IsStreamEnd, IsUnreadLine, Keeps, Keeps-refl, Line, LineError, List, MatchBool, Memory, Occurrence, Ok, OnOk, Option, Patterns, PieceRule, Readers, Result, Secret, SeesFiles, SinkGhosts, SourceGhosts, StartsWith, StreamError, Streams, Tells, TellsBytes, TellsDoubts, Verdict, Volume, Writers, [], ap, arith, bytes_left, common_steps, counts_asked, false, has, if◌then◌else◌, inl, inr, length, length-append, length-map, min, names_asked, nat_eq, nat_lt, no_volume, reading_by, refl, replicate, runs_named, slice_index, stream_lines, subst, suc, sym, true, zero, ℕ, ◌++◌, ◌+◌, ◌-◌, ◌<◌, ◌==◌, ◌^◌, ◌∙◌, ◌∷◌, ◌≡◌, ◌≤◌}
+use Rattle.secret_rules.specs.declared.error.LineError.TheVariants.{Stream, Mark}
+use Rattle.std.proofs.lemmas.Bool.{ltb-true, cond_both, ltb-false}
+use Rattle.std.specs.Prelude.{IsErr}
+use Rattle.acredact.specs.Calls.{TellsWhole}
+use Rattle.acredact.specs.Doubts.{last_of}
 use Rattle.acredact.specs.LineRules.{most_asked}
 use Rattle.acredact.specs.LongLines.{long_told, too_long_line, whole_number, HasLong, HaveLong, long_among}
 use Rattle.acredact.specs.RunCounts.{run_totals_text, HasRuns, HaveRuns}
-use Rattle.acredact.specs.Ruled.{AreRulesGiven, CountsByRules, IsRuledTold, NotesByRules, OutcomeOf, RedactsByRules, RuledCall, RuledLoad, RuledOutcome, RuledStatus, ruled_by, ruling_by, texts_asked, Between, RunsOf, BeginsLinesRedaction, deed_by, ruling_as}
-use Rattle.acredact.specs.Summaries.{no_volume}
-use Rattle.acredact.specs.Tables.{Secret}
+use Rattle.acredact.specs.Ruled.{AreRulesGiven, CountsByRules, NotesByRules, OutcomeOf, RedactsByRules, RuledCall, RuledLoad, RuledOutcome, RuledStatus, ruled_by, ruling_by, texts_asked, Between, RunsOf, BeginsLinesRedaction, deed_by, ruling_as}
 use Rattle.acredact.proofs.Calls.{doubts_tell, none_are, some_behind, some_weaker, tells_both, tells_line, tells_same, some_told, tells_weaker}
 use Rattle.acredact.proofs.Done.{cut_of}
 use Rattle.acredact.proofs.RedactedCalls.{all_redacted, files_told}
@@ -20,26 +16,18 @@ use Rattle.acredact.proofs.Turns.{told_any}
 use Rattle.acredact.proofs.Outcomes.{files_then, status_says, comes_early}
 use Rattle.acredact.proofs.Totals.{totals_of}
 use Rattle.std.proofs.KnownBytes.{Keeps-trans}
-use Rattle.acredact.specs.Checks.{BeginsLook, SeesFiles}
-use Rattle.acredact.specs.Reads.{EachName}
 use Rattle.acredact.specs.RuledChecks.{BeginsLoadedCheck, CheckLoad, CheckedLines, RuledCheck, line_quest_by}
 use Rattle.acredact.specs.declared.options.Word.TheVariants.{Summary}
 use Rattle.aho_cover.proofs.Copied.{begins_longer}
-use Rattle.secret_rules.specs.Covering.{lines_cover, AreLineRuns, CoveredIn, seen_line, whole_line}
+use Rattle.secret_rules.specs.Covering.{lines_cover, CoveredIn, seen_line, whole_line}
 use Rattle.secret_rules.specs.LineCovers.{BeginsLines, BeginsNextLine, IsCoverFailure, LeavesLines, all_of, of_devices}
 use Rattle.secret_rules.specs.Writing.{line_cover}
 use Rattle.secret_rules.specs.declared.rule.Rule.{Rule}
 use Rattle.secret_rules.proofs.LineRuns.{lines_cover-append}
-use Rattle.aho_devices.specs.Errors.{CountsErrors}
-use Rattle.secret_rules.specs.declared.error.LineError.TheVariants.{Mark}
-use Rattle.acredact.specs.Faults.{IsStreamEnd}
-use Rattle.acredact.specs.Streams.{DoesStream}
 use Rattle.acredact.proofs.Redactions.{fault_ends}
 use Rattle.std.proofs.Math.Seq.{take-append-add}
-use Rattle.std.proofs.lemmas.Bool.{cond_both, ltb-false}
 use Rattle.std.proofs.lemmas.List.Elements.{filter-append}
 use Rattle.std.proofs.lemmas.Option.{slice_get_within}
-use Rattle.aho_core.specs.Cover.{AreRunsOf}
 use Rattle.aho_laws.proofs.CoverRuns.{runs-unique}
 use Rattle.secret_rules.proofs.Covered.{whole-runs}
 use Rattle.secret_rules.proofs.Picked.{counts-occurs}

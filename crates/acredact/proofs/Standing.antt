@@ -1,12 +1,8 @@
 -- What stands for a searcher can do what the searcher can.
-use Rattle.acredact.proofs.Common.{Automata, Bor, shortest}
-use Rattle.std.proofs.Common.{◌≤◌, ◌∙◌, ℕ, Bool, List, ap, length, subst, sym}
-use Rattle.std.specs.Prelude.{IsOk}
-use Rattle.chromesquid.specs.Searcher.{Searcher, StandsFor}
-use Rattle.chromesquid.specs.contracts.automaton.AhoCorasickAutomaton.TheImpl.{ghosts as of_searcher}
-use Rattle.secret_rules.specs.OpenLines.{CanSearch}
+use Rattle.acredact.proofs.Common.{Automata, Bor, CanDoStreams, CanRedact, CanSearch, IsOk, List, Searcher, ap, length, of_searcher, shortest, subst, sym, ℕ, ◌∙◌, ◌≤◌}
+use Rattle.std.proofs.Common.{Bool}
+use Rattle.chromesquid.specs.Searcher.{StandsFor}
 use Rattle.acredact.specs.Looks.{CanLook}
-use Rattle.acredact.specs.Secrets.{CanDoStreams, CanRedact}
 
 module _ {A : Type 0} (G : Automata A) (automaton : A) (searcher : Searcher) (stands : StandsFor G automaton searcher) where
   -- it searches streams, or covers them

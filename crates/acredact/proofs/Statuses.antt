@@ -1,10 +1,7 @@
 -- What the exit status says, by what is answered.
-use Rattle.acredact.proofs.Common.{Errors, Failure, Readers, SinkGhosts, Streams, Writers, bytes_left}
-use Rattle.std.proofs.Common.{◌≡◌, inl, inr, ℕ, List, Option}
-use Rattle.std.specs.Prelude.{Bool, Result, Ok, Err, IfErr, OnOk}
+use Rattle.acredact.proofs.Common.{Bool, Call, CallOutcome, EndsCall, Err, Errors, Failure, IfErr, IsLineOf, List, MayFail, Ok, OnOk, Option, OutputFails, Readers, Result, SinkGhosts, Streams, Writers, bytes_left, inl, inr, ℕ, ◌≡◌}
 use Rattle.acredact.specs.Arguments.{GivesNoPattern}
-use Rattle.acredact.specs.Calls.{Call, CallOutcome, IsLineOf, MayFail, OutputFails, RedactsEach, TellsAnyNumbers, TellsUpToEnd}
-use Rattle.acredact.specs.Failures.{EndsCall}
+use Rattle.acredact.specs.Calls.{RedactsEach, TellsAnyNumbers, TellsUpToEnd}
 use Rattle.acredact.specs.Statuses.{CallStatus, IsIdle}
 use Rattle.acredact.proofs.Outcomes.{status_says}
 -- a line alone

@@ -1,17 +1,13 @@
 -- How an automaton redacts streams.
-use Rattle.acredact.proofs.Common.{Bor, CanBegin, Folders, Ghosts, Memory, No, Patterns, PieceRule, Readers, Refused, SinkGhosts, Standard, StreamError, Streams, Volume, Writers, ne_eqb, pieces_of, shortest, tells-nothing}
-use Rattle.std.proofs.Common.{◌≡◌, ℕ, List, [], true, false, length, map, refl, sym, ap, subst, ◌∙◌, arith, Option}
-use Rattle.std.specs.Prelude.{Bool, ◌&&◌, None, Some, Err}
+use Rattle.acredact.proofs.Common.{Bool, Bor, CanBegin, CanRedact, Err, Folders, Ghosts, Job, List, Memory, No, None, Option, Patterns, PieceRule, Readers, Redactor, Refused, SinkGhosts, Some, Standard, StreamError, Streams, Volume, Writers, [], ap, arith, deed_of, false, length, map, ne_eqb, pieces_of, redactor_of, refl, shortest, subst, sym, task_in, tells-nothing, true, ℕ, ◌&&◌, ◌∙◌, ◌≡◌}
 use Rattle.aho_automaton.specs.Covering.{cover_refusal}
 use Rattle.aho_backward.specs.declared.backward.Backward.{Backward}
 use Rattle.aho_cover.specs.Covers.{IsUnbegunWith, RefusesStreamCover}
 use Rattle.aho_cover.specs.declared.progress.CoverProgress.{CoverProgress}
 use Rattle.aho_stream.specs.Replacing.{IsMakingRefusal}
 use Rattle.acredact.specs.Back.{DoesByPatterns}
-use Rattle.acredact.specs.Files.{CanDo, deed_of, key_for, redactor_of, rule_for, task_in}
-use Rattle.acredact.specs.Secrets.{CanRedact, Redactor}
+use Rattle.acredact.specs.Files.{CanDo, key_for, rule_for}
 use Rattle.acredact.specs.Ways.{IsCovering, IsRedactor, MayWalkBack}
-use Rattle.acredact.specs.declared.files.Job.{Job}
 use Rattle.acredact.proofs.Jobs.{job_ended}
 use Rattle.acredact.proofs.OneFile.{cut_none}
 use Rattle.acredact.proofs.Redactions.{begins_by}

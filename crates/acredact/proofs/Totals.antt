@@ -1,25 +1,19 @@
 -- How counts grow by the ranges that are replaced, file after file, what they are summed to, and that no sum is greater than what was read.
-use Rattle.acredact.proofs.Common.{common_steps, CountsThese, Errors, get_or-replicate, length-map, length-replicate, Occurrence, Rule, runs_named, SinkGhosts, Volume, Consumes, Consumes-nil, Keeps}
-use Rattle.std.proofs.Common.{◌≡◌, ℕ, ◌+◌, ◌-◌, ◌<◌, ◌≤◌, List, [], ◌∷◌, length, arith, suc, drop, drop-cons, get_or, add-one, refl, sym, ap, ◌∙◌, zero, Option, true, ◌++◌, subst, append-nil, false, length-append}
-use Rattle.std.specs.Prelude.{◌^◌, min, nat_lt, not, slice_index, replicate, Bool, if◌then◌else◌, None, Some, is_some, nat_eq}
+use Rattle.acredact.proofs.Common.{AreTotals, Bool, Consumes, Consumes-nil, CountsOfNames, CountsThese, Errors, Given, HaveGrown, Keeps, List, None, NumbersRead, Occurrence, OfName, Option, ReadsSize, ReadsVolume, Rule, Secret, SinkGhosts, Some, TellsCounts, Volume, Work, [], ap, append-nil, arith, common_steps, drop, false, files_with, get_or, get_or-replicate, given_count, if◌then◌else◌, is_some, length, length-append, length-map, min, nat_eq, nat_lt, no_volume, refl, replicate, runs_named, secret_of, secrets_of, slice_index, subst, suc, sum_for, sums_of, sym, task_of, true, zero, zeros, ℕ, ◌++◌, ◌+◌, ◌-◌, ◌<◌, ◌^◌, ◌∙◌, ◌∷◌, ◌≡◌, ◌≤◌}
+use Rattle.std.proofs.lemmas.List.{length-replicate, ext_get_or}
+use Rattle.std.proofs.Common.{drop-cons, add-one}
+use Rattle.std.specs.Prelude.{not}
 use Rattle.std.specs.List.{filter, sum}
 use Rattle.std.proofs.lemmas.List.FromFn.{get_or-map-range_with_len, length-map-range_with_len}
 use Rattle.std.proofs.lemmas.List.Sums.{count_by-le-length, length-filter, sum_by-cons}
-use Rattle.std.proofs.lemmas.List.{ext_get_or}
-use Rattle.acredact.specs.Sums.{counts_for, given_count, HaveGrown, share, sum_for, sums_of}
-use Rattle.acredact.specs.Tables.{Secret, secret_of, secrets_of}
-use Rattle.acredact.specs.Bounds.{NumbersOfAll, GrowAtMost, NumbersRead, ReadsSize}
-use Rattle.acredact.specs.Calls.{AreBounded, TellsCounts, TellsTotals}
+use Rattle.acredact.specs.Sums.{counts_for, share}
+use Rattle.acredact.specs.Bounds.{NumbersOfAll, GrowAtMost}
+use Rattle.acredact.specs.Calls.{AreBounded, TellsTotals}
 -- How counts grow by the ranges that are replaced, file after file, and how great they and their sums are.
-use Rattle.acredact.specs.Counts.{zeros}
-use Rattle.acredact.specs.Summaries.{no_volume}
-use Rattle.acredact.specs.Arguments.{Given}
-use Rattle.acredact.specs.Files.{task_of, Work}
-use Rattle.acredact.specs.Totals.{AreTotals, CountsOfName, CountsOfNames, NameHas}
+use Rattle.acredact.specs.Totals.{CountsOfName, NameHas}
 use Rattle.aho_cover.specs.Counting.{grown_count}
 use Rattle.acredact.specs.Metering.{IsMetered, known_size}
-use Rattle.acredact.specs.Volumes.{AddsName, ReadsVolume, files_with}
-use Rattle.acredact.specs.Reads.{OfName}
+use Rattle.acredact.specs.Volumes.{AddsName}
 use Rattle.acredact.proofs.OneFile.{name_unread}
 use Rattle.std.proofs.lemmas.List.Filters.{length-filter_both}
 

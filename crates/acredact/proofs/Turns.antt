@@ -1,9 +1,5 @@
 -- What comes of files that are done one after another, whatever is done with each.
-use Rattle.acredact.proofs.Common.{Errors, SinkGhosts, Tells, TellsSome, and-true}
-use Rattle.std.proofs.Common.{◌≡◌, ◌∙◌, ℕ, List, [], ◌∷◌, ap, false, refl, subst, sym, true}
-use Rattle.std.specs.Prelude.{Bool, ◌&&◌, Result, Ok, Err}
-use Rattle.std.proofs.Math.Bool.{and_assoc}
-use Rattle.acredact.specs.Calls.{IsUnreadLine, TellsOfFiles, TellsUnlessAll}
+use Rattle.acredact.proofs.Common.{Bool, Err, Errors, IsUnreadLine, List, Ok, Result, SinkGhosts, Tells, TellsOfFiles, TellsSome, TellsUnlessAll, [], and-true, and_assoc, ap, false, refl, subst, sym, true, ℕ, ◌&&◌, ◌∙◌, ◌∷◌, ◌≡◌}
 use Rattle.acredact.proofs.Calls.{some_all, some_then, some_weaker, tells_both, tells_same, tells_weaker}
 
 -- what is answered of two parts together, and of no file

@@ -1,5 +1,5 @@
 -- The status is that of the call, but for what was told of names.
-use Rattle.std.proofs.Common.{sym, ◌∙◌}
+use Rattle.acredact.proofs.Common.{sym, ◌∙◌}
 use Rattle.acredact.proofs.exit_code.Goals as goal
 
 pub returns-in-Ok-clause-flushed : goal.returns-in-Ok-clause-flushed

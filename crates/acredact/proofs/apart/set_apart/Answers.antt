@@ -1,6 +1,5 @@
 -- One argument more is set apart.
-use Rattle.std.proofs.Common.{ap}
-use Rattle.acredact.specs.Reads.{bytes_of_names}
+use Rattle.acredact.proofs.Common.{ap, bytes_of_names}
 use Rattle.acredact.proofs.apart.set_apart.Goals as goal
 
 pub loop-argument-preserved : goal.loop-argument-preserved

@@ -1,8 +1,6 @@
 -- What comes of the arguments that are left, behind those so far, is what comes of all.
-use Rattle.acredact.proofs.Common.{texts}
-use Rattle.std.proofs.Common.{List, [], Option, length, ℕ}
+use Rattle.acredact.proofs.Common.{List, Option, [], bytes_of_names, length, texts, ℕ}
 use Rattle.acredact.specs.Apart.{SetsApart}
-use Rattle.acredact.specs.Reads.{bytes_of_names}
 use Rattle.acredact.specs.declared.arguments.Expects.TheVariants.{Any}
 use Rattle.acredact.proofs.apart.set_apart.Given as goal
 

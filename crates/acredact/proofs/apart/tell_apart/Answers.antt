@@ -1,6 +1,5 @@
 -- What is told is what the other arguments ask for.
-use Rattle.std.proofs.Common.{refl}
-use Rattle.acredact.specs.Arguments.{all_given}
+use Rattle.acredact.proofs.Common.{all_given, refl}
 use Rattle.acredact.proofs.apart.tell_apart.Goals as goal
 
 pub returns-in-Ok-clause-which : goal.returns-in-Ok-clause-which

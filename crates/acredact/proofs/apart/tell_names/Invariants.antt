@@ -1,7 +1,6 @@
 -- The first names are told.
-use Rattle.std.proofs.Common.{drop}
+use Rattle.acredact.proofs.Common.{bytes_of_names, drop}
 use Rattle.acredact.specs.Apart.{unnamed_lines}
-use Rattle.acredact.specs.Reads.{bytes_of_names}
 use Rattle.acredact.proofs.Doubting.{ToldSoFar}
 use Rattle.acredact.proofs.apart.tell_names.Given as goal
 

@@ -1,7 +1,6 @@
 -- What is left of the arguments gives what all of them do.
-use Rattle.acredact.proofs.Common.{texts}
-use Rattle.std.proofs.Common.{◌≡◌, drop}
-use Rattle.acredact.specs.Arguments.{all_given, given_by, given_from}
+use Rattle.acredact.proofs.Common.{all_given, drop, given_by, texts, ◌≡◌}
+use Rattle.acredact.specs.Arguments.{given_from}
 use Rattle.acredact.proofs.arguments.read_items.Given as goal
 
 abbrev pub invariant-loop-argument : goal.invariant-loop-argument

@@ -1,6 +1,6 @@
 -- A letter that no option has.
-use Rattle.std.proofs.Common.{rules, ◌≡◌, ◌∙◌, inr, lit<, sym}
-use Rattle.std.specs.Prelude.{None, Some, slice_get}
+use Rattle.acredact.proofs.Common.{None, Some, inr, rules, slice_get, sym, ◌∙◌, ◌≡◌}
+use Rattle.std.proofs.Common.{lit<}
 use Rattle.std.proofs.lemmas.Str.Pattern.{strip_prefix_char}
 use Rattle.acredact.proofs.Readings.{no_letter}
 use Rattle.acredact.proofs.arguments.read_letters.Goals as goal

@@ -1,8 +1,7 @@
 -- What is left of the letters says what all of them do.
+use Rattle.acredact.proofs.Common.{all_given, by_letters, length, ◌≡◌}
 use denote.Shadow.{shadow}
 use denote.Text.{Utf8}
-use Rattle.std.proofs.Common.{◌≡◌, length}
-use Rattle.acredact.specs.Arguments.{all_given, by_letters}
 use Rattle.acredact.proofs.arguments.read_letters.Given as goal
 
 abbrev pub invariant-letters : goal.invariant-letters

@@ -1,8 +1,5 @@
 -- The status of a check.
-use Rattle.acredact.proofs.Common.{bytes_left}
-use Rattle.std.proofs.Common.{inl}
-use Rattle.acredact.specs.Arguments.{all_given}
-use Rattle.acredact.specs.Calls.{call_of}
+use Rattle.acredact.proofs.Common.{all_given, bytes_left, call_of, inl}
 use Rattle.acredact.proofs.Checks.{seen_says, status_ended}
 use Rattle.acredact.proofs.check.check.Goals as goal
 

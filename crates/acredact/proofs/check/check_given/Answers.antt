@@ -1,9 +1,5 @@
 -- What was loaded is looked for, behind what is told of doubtful patterns.
-use Rattle.std.proofs.Common.{rules, inl, inr, refl}
-use Rattle.acredact.specs.Arguments.{all_given}
-use Rattle.acredact.specs.Calls.{call_of}
-use Rattle.acredact.specs.Checks.{texts_looked_for}
-use Rattle.acredact.specs.Tables.{secrets_of}
+use Rattle.acredact.proofs.Common.{all_given, call_of, inl, inr, refl, rules, secrets_of, texts_looked_for}
 use Rattle.acredact.proofs.Checks.{check_looked, doubts_told}
 use Rattle.acredact.proofs.Outcomes.{comes_early, comes_untold}
 use Rattle.acredact.proofs.Ready.{ready_looks}

@@ -1,7 +1,6 @@
 -- None of the words before the place of the loop can be spelled.
-use Rattle.acredact.proofs.Common.{pieces_of}
-use Rattle.std.proofs.Common.{◌≡◌, ◌+◌, drop}
-use Rattle.acredact.specs.Spelling.{first_number, first_spelled, may_be_spelled}
+use Rattle.acredact.proofs.Common.{drop, first_number, may_be_spelled, pieces_of, ◌+◌, ◌≡◌}
+use Rattle.acredact.specs.Spelling.{first_spelled}
 use Rattle.acredact.proofs.clean.first_spelled.Given as goal
 
 abbrev pub invariant-loop-at : goal.invariant-loop-at

@@ -1,6 +1,5 @@
 -- A pattern holds the first byte or the last, or nothing is found.
-use Rattle.acredact.proofs.Common.{pieces_of}
-use Rattle.std.proofs.Common.{rules, ◌-◌, get_or, inl, inr, length}
+use Rattle.acredact.proofs.Common.{get_or, inl, inr, length, pieces_of, rules, ◌-◌}
 use Rattle.acredact.proofs.Flaws.{clean_by, spells}
 use Rattle.acredact.proofs.clean.flaw_of.Goals as goal
 

@@ -1,7 +1,5 @@
 -- The words before the place of the loop do not hold the byte.
-use Rattle.acredact.proofs.Common.{pieces_of}
-use Rattle.std.proofs.Common.{◌≡◌, ◌+◌, drop}
-use Rattle.acredact.specs.Spelling.{first_number, holder_in, holds_byte}
+use Rattle.acredact.proofs.Common.{drop, first_number, holder_in, holds_byte, pieces_of, ◌+◌, ◌≡◌}
 use Rattle.acredact.proofs.clean.holder_of.Given as goal
 
 abbrev pub invariant-loop-at : goal.invariant-loop-at

@@ -1,7 +1,5 @@
 -- The bytes before the place of the loop are marked, and what was marked stays so.
-use Rattle.acredact.proofs.Common.{folded_by}
-use Rattle.std.proofs.Common.{◌≡◌, get_or}
-use Rattle.std.specs.List.{AllWithin}
+use Rattle.acredact.proofs.Common.{AllWithin, folded_by, get_or, ◌≡◌}
 use Rattle.std.specs.Prelude.{false, true}
 use Rattle.acredact.specs.Pieces.{StayMarked}
 use Rattle.acredact.proofs.clean.mark.Given as goal

@@ -1,7 +1,5 @@
 -- The bytes of the words before the place of the loop are marked.
-use Rattle.std.proofs.Common.{◌≡◌, length}
-use Rattle.std.specs.List.{AllWithin}
-use Rattle.acredact.specs.Pieces.{IsMarked}
+use Rattle.acredact.proofs.Common.{AllWithin, IsMarked, length, ◌≡◌}
 use Rattle.acredact.proofs.clean.marks_of.Given as goal
 
 abbrev pub invariant-loop-word : goal.invariant-loop-word

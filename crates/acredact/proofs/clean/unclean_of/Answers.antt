@@ -1,6 +1,5 @@
 -- What is answered of the words, where pseudonyms are written, and else the piece at the place of the loop, or none of all.
-use Rattle.acredact.proofs.Common.{ArePatterns, Bor, Patterns, length-map, pieces_of}
-use Rattle.std.proofs.Common.{rules, ◌≡◌, ◌∙◌, ℕ, List, ap, arith, false, length, sym, true}
+use Rattle.acredact.proofs.Common.{ArePatterns, Bor, List, Patterns, ap, arith, false, length, length-map, pieces_of, rules, sym, true, ℕ, ◌∙◌, ◌≡◌}
 use Rattle.acredact.proofs.Flaws.{clean_next, unclean_at}
 use Rattle.acredact.proofs.clean.unclean_of.Goals as goal
 

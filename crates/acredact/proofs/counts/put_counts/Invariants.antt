@@ -1,6 +1,6 @@
 -- The lines so far, and those of what is left.
-use Rattle.std.proofs.Common.{◌≡◌, ◌++◌, length}
-use Rattle.acredact.specs.Counts.{counts_text, lines_of_rules}
+use Rattle.acredact.proofs.Common.{length, lines_of_rules, ◌++◌, ◌≡◌}
+use Rattle.acredact.specs.Counts.{counts_text}
 use Rattle.acredact.proofs.counts.put_counts.Given as goal
 
 abbrev pub invariant-loop-rule : goal.invariant-loop-rule

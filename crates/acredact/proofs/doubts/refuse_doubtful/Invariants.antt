@@ -1,7 +1,6 @@
 -- The first that is doubtful is the first of what is left.
-use Rattle.std.proofs.Common.{◌≡◌, drop}
+use Rattle.acredact.proofs.Common.{drop, secrets_of, ◌≡◌}
 use Rattle.acredact.specs.Doubts.{first_doubt}
-use Rattle.acredact.specs.Tables.{secrets_of}
 use Rattle.acredact.proofs.doubts.refuse_doubtful.Given as goal
 
 abbrev pub invariant-loop-rule : goal.invariant-loop-rule

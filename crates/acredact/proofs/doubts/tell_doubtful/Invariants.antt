@@ -1,9 +1,6 @@
 -- Of the patterns so far it is told.
-use Rattle.acredact.proofs.Common.{concat}
-use Rattle.std.proofs.Common.{drop}
-use Rattle.acredact.specs.Arguments.{all_given}
+use Rattle.acredact.proofs.Common.{all_given, concat, drop, secrets_of}
 use Rattle.acredact.specs.Doubts.{list_doubt_lines}
-use Rattle.acredact.specs.Tables.{secrets_of}
 use Rattle.acredact.proofs.Doubting.{ToldSoFar}
 use Rattle.acredact.proofs.doubts.tell_doubtful.Given as goal
 

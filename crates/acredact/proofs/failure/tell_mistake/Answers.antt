@@ -1,5 +1,5 @@
 -- Each mistake by its message.
-use Rattle.std.proofs.Common.{◌∙◌}
+use Rattle.acredact.proofs.Common.{◌∙◌}
 use Rattle.acredact.proofs.failure.tell_mistake.Goals as goal
 
 pub returns-in-UnknownLetter : goal.returns-in-UnknownLetter

@@ -1,7 +1,6 @@
 -- A message in one part, or in three.
-use Rattle.acredact.proofs.Common.{tells-later}
-use Rattle.std.proofs.Common.{◌≡◌, ◌++◌, append-nil, append_assoc, codes, rules, true}
-use Rattle.rule_files.specs.Messages.{as_shown}
+use Rattle.acredact.proofs.Common.{append-nil, append_assoc, as_shown, rules, tells-later, true, ◌++◌, ◌≡◌}
+use Rattle.std.proofs.Common.{codes}
 use Rattle.acredact.proofs.failure.tell_named.Goals as goal
 
 pub returns-then-is_plain : goal.returns-then-is_plain

@@ -1,5 +1,5 @@
 -- The line by its parts.
-use Rattle.std.proofs.Common.{append-nil}
+use Rattle.acredact.proofs.Common.{append-nil}
 use Rattle.acredact.proofs.failure.tell_with_other.Goals as goal
 
 pub returns : goal.returns

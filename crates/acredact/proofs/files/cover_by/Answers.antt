@@ -1,7 +1,5 @@
 -- Only memory may be wanting before the first file.
-use Rattle.std.proofs.Common.{rules, ◌≡◌}
-use Rattle.std.specs.Prelude.{Err}
-use Rattle.acredact.specs.Files.{redactor_of}
+use Rattle.acredact.proofs.Common.{Err, redactor_of, rules, ◌≡◌}
 use Rattle.acredact.proofs.Suited.{covering_is, job_unbegun}
 use Rattle.acredact.proofs.files.cover_by.Goals as goal
 

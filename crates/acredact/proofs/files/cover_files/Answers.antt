@@ -1,7 +1,6 @@
 -- The pieces are those of the key, or one for each pattern.
-use Rattle.acredact.proofs.Common.{fixed_rule, pieces_of}
-use Rattle.std.proofs.Common.{rules, ◌≡◌, ap}
-use Rattle.std.specs.Prelude.{None, Some}
+use Rattle.acredact.proofs.Common.{None, Some, ap, pieces_of, rules, ◌≡◌}
+use Rattle.aho_cover.specs.Pieces.{fixed_rule}
 use Rattle.acredact.proofs.files.cover_files.Goals as goal
 
 pub cover_by-requires : goal.cover_by-requires

@@ -1,6 +1,5 @@
 -- What is read is the file that was opened.
-use Rattle.acredact.proofs.Common.{Keeps}
-use Rattle.std.proofs.Common.{ap, sym, subst}
+use Rattle.acredact.proofs.Common.{Keeps, ap, subst, sym}
 use Rattle.acredact.proofs.files.opened.Goals as goal
 
 pub returns-in-Ok-clause-told : goal.returns-in-Ok-clause-told

@@ -1,8 +1,5 @@
 -- The file is that of the input, or of the folder.
-use Rattle.acredact.proofs.Common.{Keeps-refl}
-use Rattle.std.proofs.Common.{◌≡◌, ◌∙◌, inr, refl, sym}
-use Rattle.std.specs.Prelude.{None, Ok, Some}
-use Rattle.acredact.specs.Files.{task_in}
+use Rattle.acredact.proofs.Common.{Keeps-refl, None, Ok, Some, inr, refl, sym, task_in, ◌∙◌, ◌≡◌}
 use Rattle.acredact.proofs.Totals.{no_numbers}
 use Rattle.acredact.proofs.Jobs.{named_does}
 use Rattle.acredact.proofs.OneFile.{read_input, read_opened}

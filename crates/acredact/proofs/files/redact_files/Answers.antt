@@ -1,6 +1,5 @@
 -- The automaton replaces by its patterns, and what walks backward by the same.
-use Rattle.std.proofs.Common.{rules, ◌≡◌, false}
-use Rattle.acredact.specs.Files.{redactor_of}
+use Rattle.acredact.proofs.Common.{false, redactor_of, rules, ◌≡◌}
 use Rattle.acredact.proofs.Suited.{redactor_is}
 use Rattle.acredact.proofs.files.redact_files.Goals as goal
 

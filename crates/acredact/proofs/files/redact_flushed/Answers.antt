@@ -1,9 +1,5 @@
 -- A file more is done.
-use Rattle.acredact.proofs.Common.{name_bytes}
-use Rattle.std.proofs.Common.{arith, rules, ◌≡◌}
-use Rattle.std.specs.Prelude.{Err}
-use Rattle.std.proofs.lemmas.List.{at_drop_all, at_drop_more}
-use Rattle.acredact.specs.Files.{task_in}
+use Rattle.acredact.proofs.Common.{Err, arith, at_drop_all, at_drop_more, name_bytes, rules, task_in, ◌≡◌}
 use Rattle.acredact.proofs.Jobs.{job_failed, job_flushed, job_more, job_unflushed}
 use Rattle.acredact.proofs.Turns.{turn_end, turn_fails, turn_first, turn_next}
 use Rattle.acredact.proofs.files.redact_flushed.Goals as goal

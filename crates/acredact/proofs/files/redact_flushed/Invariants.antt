@@ -1,7 +1,5 @@
 -- The files in front of what is left are done.
-use Rattle.acredact.proofs.Common.{name_bytes}
-use Rattle.std.proofs.Common.{drop}
-use Rattle.acredact.specs.Files.{task_in}
+use Rattle.acredact.proofs.Common.{drop, name_bytes, task_in}
 use Rattle.acredact.specs.Ways.{IfBy}
 use Rattle.acredact.proofs.Jobs.{ComesOfJob}
 use Rattle.acredact.proofs.Turns.{InTurn, all_joined}

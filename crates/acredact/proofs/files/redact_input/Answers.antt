@@ -1,7 +1,5 @@
 -- The input is read to its end, and is then as the source was left.
-use Rattle.acredact.proofs.Common.{Keeps}
-use Rattle.std.proofs.Common.{ap, rules, subst, sym}
-use Rattle.acredact.specs.Back.{DoesText}
+use Rattle.acredact.proofs.Common.{DoesText, Keeps, ap, rules, subst, sym}
 use Rattle.acredact.proofs.OneFile.{so_there}
 use Rattle.acredact.proofs.files.redact_input.Goals as goal
 

@@ -1,9 +1,5 @@
 -- A file that was not read to its end is told, and so is one that the output goes to.
-use Rattle.acredact.proofs.Common.{Keeps-refl, tells-nothing}
-use Rattle.std.proofs.Common.{[], rules, ◌≡◌, inl, inr, refl, true}
-use Rattle.std.specs.Prelude.{Err, Ok}
-use Rattle.acredact.specs.Files.{task_in, unread_line}
-use Rattle.acredact.specs.Messages.{output_line}
+use Rattle.acredact.proofs.Common.{Err, Keeps-refl, Ok, [], inl, inr, output_line, refl, rules, task_in, tells-nothing, true, unread_line, ◌≡◌}
 use Rattle.acredact.proofs.Totals.{no_numbers}
 use Rattle.acredact.proofs.Done.{told_line}
 use Rattle.acredact.proofs.files.redact_told.Goals as goal

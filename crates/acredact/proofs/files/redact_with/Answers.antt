@@ -1,7 +1,5 @@
 -- What is known of the metered source is known of the source.
-use Rattle.acredact.proofs.Common.{Consumes, at_end, bytes_left}
-use Rattle.std.proofs.Common.{◌≡◌, ◌≢◌, ◌+◌, ◌-◌, arith, le_refl, sym, List, ℕ, length, true}
-use Rattle.std.specs.Prelude.{◌^◌, is_some, min}
+use Rattle.acredact.proofs.Common.{Consumes, List, arith, at_end, bytes_left, is_some, le_refl, length, min, sym, true, ℕ, ◌+◌, ◌-◌, ◌^◌, ◌≡◌, ◌≢◌}
 use Rattle.acredact.proofs.Totals.{metered_read, numbers_of}
 use Rattle.acredact.proofs.OneFile.{comes_by, known_read, reading_fails, reading_whole, whole_text}
 use Rattle.acredact.proofs.files.redact_with.Goals as goal

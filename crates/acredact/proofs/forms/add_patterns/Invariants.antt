@@ -1,8 +1,5 @@
 -- The patterns in front of what is left have their rules.
-use Rattle.std.proofs.Common.{◌≡◌, ◌++◌, drop, map}
-use Rattle.acredact.specs.Forms.{filled, form_secret}
-use Rattle.acredact.specs.Tables.{secret_of, secrets_of}
-use Rattle.secret_forms.specs.Patterns.{pattern_bytes}
+use Rattle.acredact.proofs.Common.{drop, filled, form_secret, map, pattern_bytes, secret_of, secrets_of, ◌++◌, ◌≡◌}
 use Rattle.acredact.proofs.forms.add_patterns.Given as goal
 
 abbrev pub invariant-loop-pattern : goal.invariant-loop-pattern

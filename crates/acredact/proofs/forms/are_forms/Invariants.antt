@@ -1,8 +1,6 @@
 -- All names are those of forms where those that are left are.
-use Rattle.acredact.proofs.Common.{list_all}
-use Rattle.std.proofs.Common.{◌≡◌, length}
+use Rattle.acredact.proofs.Common.{length, list_all, parts_left, ◌≡◌}
 use Rattle.acredact.specs.Forms.{are_forms, is_asked}
-use Rattle.acredact.specs.Tables.{parts_left}
 use Rattle.acredact.proofs.forms.are_forms.Given as goal
 
 abbrev pub invariant-loop-left : goal.invariant-loop-left

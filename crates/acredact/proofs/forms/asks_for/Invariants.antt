@@ -1,8 +1,6 @@
 -- Some name is this form's where one of those that are left is.
-use Rattle.std.proofs.Common.{◌≡◌, length}
-use Rattle.std.specs.List.{list_any}
+use Rattle.acredact.proofs.Common.{length, list_any, parts_left, ◌≡◌}
 use Rattle.acredact.specs.Forms.{asks_for, names_form}
-use Rattle.acredact.specs.Tables.{parts_left}
 use Rattle.acredact.proofs.forms.asks_for.Given as goal
 
 abbrev pub invariant-loop-left : goal.invariant-loop-left

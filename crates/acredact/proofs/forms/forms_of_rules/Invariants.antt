@@ -1,7 +1,5 @@
 -- What is left gives the other forms.
-use Rattle.std.proofs.Common.{◌≡◌, ◌++◌, drop}
-use Rattle.acredact.specs.Forms.{asked_forms, forms_from}
-use Rattle.acredact.specs.Tables.{secrets_of}
+use Rattle.acredact.proofs.Common.{asked_forms, drop, forms_from, secrets_of, ◌++◌, ◌≡◌}
 use Rattle.acredact.proofs.forms.forms_of_rules.Given as goal
 
 abbrev pub invariant-loop-number : goal.invariant-loop-number

@@ -1,8 +1,6 @@
 -- The names that are left give the others.
-use Rattle.acredact.proofs.Common.{filter_map}
-use Rattle.std.proofs.Common.{◌≡◌, ◌++◌, length}
+use Rattle.acredact.proofs.Common.{filter_map, length, parts_left, ◌++◌, ◌≡◌}
 use Rattle.acredact.specs.Forms.{nested_called, nested_named}
-use Rattle.acredact.specs.Tables.{parts_left}
 use Rattle.acredact.proofs.forms.nested_named.Given as goal
 
 abbrev pub invariant-loop-left : goal.invariant-loop-left

@@ -1,8 +1,5 @@
 -- What is left gives the other patterns.
-use Rattle.acredact.proofs.Common.{flat_map}
-use Rattle.std.proofs.Common.{◌≡◌, ◌++◌, drop}
-use Rattle.secret_forms.specs.Patterns.{pattern_bytes}
-use Rattle.acredact.specs.Forms.{asked_form_patterns, asked_forms, twice_patterns}
+use Rattle.acredact.proofs.Common.{asked_form_patterns, asked_forms, drop, flat_map, pattern_bytes, twice_patterns, ◌++◌, ◌≡◌}
 use Rattle.acredact.proofs.forms.patterns_by.Given as goal
 
 abbrev pub invariant-loop-one : goal.invariant-loop-one

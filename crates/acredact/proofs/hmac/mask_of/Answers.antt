@@ -1,7 +1,6 @@
 -- At the end all bytes are mixed.
-use Rattle.std.proofs.Common.{arith}
+use Rattle.acredact.proofs.Common.{arith, mask_byte}
 use Rattle.std.proofs.lemmas.List.FromFn.{fill_by_all}
-use Rattle.acredact.specs.Hmac.{mask_byte}
 use Rattle.acredact.proofs.hmac.mask_of.Goals as goal
 
 pub returns : goal.returns

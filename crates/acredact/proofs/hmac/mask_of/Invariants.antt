@@ -1,6 +1,5 @@
 -- The bytes before the place are mixed.
-use Rattle.std.proofs.Common.{◌≡◌, ℕ, ◌<◌, get_or, length}
-use Rattle.acredact.specs.Hmac.{mask_byte}
+use Rattle.acredact.proofs.Common.{get_or, length, mask_byte, ℕ, ◌<◌, ◌≡◌}
 use Rattle.acredact.proofs.hmac.mask_of.Given as goal
 
 abbrev pub invariant-bytes : goal.invariant-bytes

@@ -1,13 +1,5 @@
 -- What was loaded is what is redacted, and then the counts are told.
-use Rattle.acredact.proofs.Common.{Other, OutOfMemory}
-use Rattle.std.proofs.Common.{rules, inl, inr, refl}
-use Rattle.std.specs.Prelude.{Ok}
-use Rattle.acredact.specs.Arguments.{all_given}
-use Rattle.acredact.specs.Calls.{call_of}
-use Rattle.acredact.specs.Files.{Work}
-use Rattle.acredact.specs.InPlace.{IsPlaceLine, PlacesOutcome}
-use Rattle.acredact.specs.Loading.{key_in, loaded_in}
-use Rattle.acredact.specs.Summaries.{no_volume}
+use Rattle.acredact.proofs.Common.{IsPlaceLine, Ok, Other, OutOfMemory, PlacesOutcome, Work, all_given, call_of, inl, inr, key_in, loaded_in, no_volume, refl, rules}
 use Rattle.acredact.proofs.Calls.{job_does, may_fail, may_prepare, passed_on, unready_may}
 use Rattle.acredact.proofs.RedactedCalls.{places_cut, places_early, places_refused, places_told}
 use Rattle.acredact.proofs.in_place.load_places.Goals as goal

@@ -1,7 +1,5 @@
 -- A file more is come to.
-use Rattle.acredact.proofs.Common.{name_bytes}
-use Rattle.std.proofs.Common.{arith}
-use Rattle.std.proofs.lemmas.List.{at_drop_all, at_drop_more}
+use Rattle.acredact.proofs.Common.{arith, at_drop_all, at_drop_more, name_bytes}
 use Rattle.acredact.proofs.Calls.{passed_on}
 use Rattle.acredact.proofs.RedactedCalls.{place_ends, places_more, places_none}
 use Rattle.acredact.proofs.Turns.{turn_end, turn_fails, turn_next}

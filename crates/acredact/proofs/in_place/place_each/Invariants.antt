@@ -1,8 +1,7 @@
 -- The files in front of what is left were come to.
-use Rattle.acredact.proofs.Common.{name_bytes}
-use Rattle.std.proofs.Common.{drop}
+use Rattle.acredact.proofs.Common.{PlacesOutcome, drop, name_bytes}
 use Rattle.chromesquid.specs.Searcher.{ForItsPatterns}
-use Rattle.acredact.specs.InPlace.{PlacesOutcome, work_for}
+use Rattle.acredact.specs.InPlace.{work_for}
 use Rattle.acredact.proofs.Turns.{InTurn, all_joined}
 use Rattle.acredact.proofs.in_place.place_each.Given as goal
 

@@ -1,6 +1,5 @@
 -- A new file is made, filled, and takes the place; or the file stays as it was.
-use Rattle.std.proofs.Common.{rules, inl, inr, refl}
-use Rattle.acredact.specs.InPlace.{IsSparedLine}
+use Rattle.acredact.proofs.Common.{IsSparedLine, inl, inr, refl, rules}
 use Rattle.acredact.proofs.RedactedCalls.{place_cut, place_settled, place_spared}
 use Rattle.acredact.proofs.Statuses.{tells_one}
 use Rattle.acredact.proofs.in_place.place_one.Goals as goal

@@ -1,10 +1,5 @@
 -- The arguments are right or wrong, and then the status is that of the call.
-use Rattle.acredact.proofs.Common.{texts}
-use Rattle.std.proofs.Common.{inl, ap, refl, ◌∙◌}
-use Rattle.std.specs.Prelude.{Err}
-use Rattle.acredact.specs.Arguments.{all_given}
-use Rattle.acredact.specs.Calls.{IsWrongLine}
-use Rattle.acredact.specs.declared.failure.Failure.TheVariants.{Arguments}
+use Rattle.acredact.proofs.Common.{Arguments, Err, IsWrongLine, all_given, ap, inl, refl, texts, ◌∙◌}
 use Rattle.acredact.proofs.Given.{memory_alone, same_given}
 use Rattle.acredact.proofs.RedactedCalls.{places_status, places_refused}
 use Rattle.acredact.proofs.Statuses.{tells_one}

@@ -1,12 +1,8 @@
 -- The new file is made and filled, or it is told why not.
-use Rattle.std.proofs.Common.{rules, ◌≡◌, ℕ, ◌≤◌, List, false, inl, inr, refl, subst, sym, true, ◌∙◌, arith, ap}
-use Rattle.std.specs.Prelude.{Some, ◌==◌}
-use Rattle.std.proofs.lemmas.Bool.{eqb-false, eqb-true}
-use Rattle.acredact.specs.Arguments.{AsksAnyCheck, Given, IsCheck, aim_of, all_asked, is_check}
-use Rattle.acredact.specs.Calls.{IsLineOf, OutputFails, call_of}
+use Rattle.acredact.proofs.Common.{Given, IsLineOf, IsRuledTold, List, OutputFails, RedactLines, RedactTexts, Some, aim_of, all_asked, ap, arith, call_of, eqb-true, false, inl, inr, is_check, refl, rules, subst, sym, true, ℕ, ◌==◌, ◌∙◌, ◌≡◌, ◌≤◌}
+use Rattle.std.proofs.lemmas.Bool.{eqb-false}
+use Rattle.acredact.specs.Arguments.{AsksAnyCheck, IsCheck}
 use Rattle.acredact.specs.InPlace.{TakesPlace}
-use Rattle.acredact.specs.Ruled.{IsRuledTold}
-use Rattle.acredact.specs.declared.options.Aim.TheVariants.{RedactLines, RedactTexts}
 use Rattle.acredact.proofs.Given.{same_given}
 use Rattle.acredact.proofs.RedactedCalls.{unput_told}
 use Rattle.acredact.proofs.Statuses.{tells_one}

@@ -1,5 +1,5 @@
 -- The parts stand one behind another.
-use Rattle.std.proofs.Common.{append_assoc, refl}
+use Rattle.acredact.proofs.Common.{append_assoc, refl}
 use Rattle.acredact.proofs.legend.put_long.Goals as goal
 
 pub returns : goal.returns

@@ -1,5 +1,5 @@
 -- What an option more gives is read.
-use Rattle.acredact.specs.Arguments.{given_of}
+use Rattle.acredact.proofs.Common.{given_of}
 use Rattle.acredact.proofs.Loaded.{given_all, given_item}
 use Rattle.acredact.proofs.line_rules.read_rules.Goals as goal
 

@@ -1,9 +1,6 @@
 -- The rules that the options so far give were read.
-use Rattle.acredact.proofs.Common.{bytes_left}
-use Rattle.std.proofs.Common.{[], take}
-use Rattle.acredact.specs.Arguments.{all_given}
+use Rattle.acredact.proofs.Common.{[], all_given, bytes_left, reading_of_lists, take}
 use Rattle.acredact.specs.LineRules.{OptionGivesRules}
-use Rattle.acredact.specs.Loading.{reading_of_lists}
 use Rattle.acredact.proofs.Loaded.{GivenSoFar}
 use Rattle.acredact.proofs.line_rules.read_rules.Given as goal
 

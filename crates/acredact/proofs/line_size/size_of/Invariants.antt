@@ -1,5 +1,5 @@
 -- The digits that are left go on from the number so far.
-use Rattle.std.proofs.Common.{◌≡◌, drop}
+use Rattle.acredact.proofs.Common.{drop, ◌≡◌}
 use Rattle.acredact.specs.LineSizes.{number_from}
 use Rattle.acredact.proofs.line_size.size_of.Given as goal
 

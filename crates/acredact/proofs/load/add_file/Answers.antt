@@ -1,7 +1,5 @@
 -- The text is marked, or gives none.
-use Rattle.acredact.proofs.Common.{IfErr-weaker}
-use Rattle.std.proofs.Common.{inl, inr, refl, sym}
-use Rattle.acredact.specs.Loading.{reading_of_lists}
+use Rattle.acredact.proofs.Common.{IfErr-weaker, inl, inr, reading_of_lists, refl, sym}
 use Rattle.acredact.proofs.Loaded.{file_fails}
 use Rattle.acredact.proofs.load.add_file.Goals as goal
 

@@ -1,6 +1,5 @@
 -- The values are not refused, and one more is added.
-use Rattle.acredact.proofs.Common.{Bor}
-use Rattle.std.proofs.Common.{rules, List, ℕ}
+use Rattle.acredact.proofs.Common.{Bor, List, rules, ℕ}
 use Rattle.acredact.proofs.Loaded.{given_all, given_item}
 use Rattle.acredact.proofs.load.add_values.Goals as goal
 

@@ -1,7 +1,5 @@
 -- The values before what is left are added.
-use Rattle.acredact.proofs.Common.{pieces_of}
-use Rattle.std.proofs.Common.{take}
-use Rattle.acredact.specs.Tables.{secrets_of}
+use Rattle.acredact.proofs.Common.{pieces_of, secrets_of, take}
 use Rattle.acredact.specs.Values.{GivesValue}
 use Rattle.acredact.proofs.Loaded.{GivenSoFar}
 use Rattle.acredact.proofs.load.add_values.Given as goal

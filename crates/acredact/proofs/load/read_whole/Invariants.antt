@@ -1,6 +1,6 @@
 -- What was read so far is the text, and each turn of the loop makes it longer.
-use Rattle.acredact.proofs.Common.{Consumes, bytes_left}
-use Rattle.std.proofs.Common.{◌≡◌, ◌-◌, ◌^◌, length}
+use Rattle.acredact.proofs.Common.{Consumes, bytes_left, length, ◌-◌, ◌≡◌}
+use Rattle.std.proofs.Common.{◌^◌}
 use Rattle.acredact.proofs.load.read_whole.Given as goal
 
 abbrev pub invariant-loop-text : goal.invariant-loop-text

@@ -1,9 +1,6 @@
 -- What an item more gives is loaded. The forms of all stand behind them, and hide them.
-use Rattle.acredact.proofs.Common.{bytes_left}
-use Rattle.std.proofs.Common.{inl, rules}
-use Rattle.acredact.specs.Arguments.{all_given, given_of}
-use Rattle.acredact.specs.Loading.{AreRead, CannotLoadOne, reading_of_lists}
-use Rattle.acredact.specs.Tables.{secrets_of}
+use Rattle.acredact.proofs.Common.{CannotLoadOne, all_given, bytes_left, given_of, inl, reading_of_lists, rules, secrets_of}
+use Rattle.acredact.specs.Loading.{AreRead}
 use Rattle.acredact.proofs.Hiding.{hide_secrets}
 use Rattle.acredact.proofs.Loaded.{fails_at, given_all, given_item, reading_from}
 use Rattle.acredact.proofs.load.rules.Goals as goal

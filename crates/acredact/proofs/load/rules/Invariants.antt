@@ -1,9 +1,6 @@
 -- What the options so far gave is loaded.
-use Rattle.acredact.proofs.Common.{bytes_left}
-use Rattle.std.proofs.Common.{[], take}
-use Rattle.acredact.specs.Arguments.{all_given}
-use Rattle.acredact.specs.Loading.{OptionGives, reading_of_lists}
-use Rattle.acredact.specs.Tables.{secrets_of}
+use Rattle.acredact.proofs.Common.{[], all_given, bytes_left, reading_of_lists, secrets_of, take}
+use Rattle.acredact.specs.Loading.{OptionGives}
 use Rattle.acredact.proofs.Loaded.{GivenSoFar}
 use Rattle.acredact.proofs.load.rules.Given as goal
 

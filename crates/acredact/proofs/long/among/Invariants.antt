@@ -1,5 +1,5 @@
 -- What the name means with the options so far, and then with the others, is what it means with all.
-use Rattle.std.proofs.Common.{◌≡◌, drop}
+use Rattle.acredact.proofs.Common.{drop, ◌≡◌}
 use Rattle.std.specs.Prelude.{map}
 use Rattle.tool_parts.specs.OptionNames.{found_among}
 use Rattle.tool_parts.specs.declared.options.found.Found.TheVariants.{Unknown}

@@ -1,6 +1,5 @@
 -- The output goes to the file, or it is that of the input, or of the folder.
-use Rattle.std.proofs.Common.{◌∙◌, inr, rules, sym}
-use Rattle.acredact.specs.Checks.{quest_of}
+use Rattle.acredact.proofs.Common.{inr, quest_of, rules, sym, ◌∙◌}
 use Rattle.acredact.proofs.LookedFiles.{look_none, looked_file}
 use Rattle.acredact.proofs.OneFile.{read_input, read_opened}
 use Rattle.acredact.proofs.look.look_at_file.Goals as goal

@@ -1,9 +1,5 @@
 -- A file more is looked at.
-use Rattle.acredact.proofs.Common.{name_bytes}
-use Rattle.std.proofs.Common.{arith, ◌∙◌, ap}
-use Rattle.std.proofs.lemmas.List.{at_drop_all, at_drop_more}
-use Rattle.acredact.specs.Checks.{quest_of}
-use Rattle.acredact.specs.Looks.{both_seen}
+use Rattle.acredact.proofs.Common.{ap, arith, at_drop_all, at_drop_more, both_seen, name_bytes, quest_of, ◌∙◌}
 use Rattle.acredact.proofs.LookedFiles.{looks_failed, looks_more, looks_of_none}
 use Rattle.acredact.proofs.Turns.{turn_end, turn_fails, turn_first, turn_next}
 use Rattle.acredact.proofs.look.look_at_files.Goals as goal

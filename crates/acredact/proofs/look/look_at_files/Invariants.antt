@@ -1,7 +1,6 @@
 -- The files in front of what is left were looked at.
-use Rattle.acredact.proofs.Common.{bytes_left, name_bytes}
-use Rattle.std.proofs.Common.{drop}
-use Rattle.acredact.specs.Checks.{IfSought, quest_of}
+use Rattle.acredact.proofs.Common.{bytes_left, drop, name_bytes, quest_of}
+use Rattle.acredact.specs.Checks.{IfSought}
 use Rattle.acredact.proofs.LookedFiles.{ComesOfLooks, verdicts_joined}
 use Rattle.acredact.proofs.Turns.{InTurn}
 use Rattle.acredact.proofs.look.look_at_files.Given as goal

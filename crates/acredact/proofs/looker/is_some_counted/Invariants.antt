@@ -1,6 +1,5 @@
 -- The counts before the place of the loop are zero.
-use Rattle.std.proofs.Common.{◌≡◌, ℕ, ◌<◌}
-use Rattle.std.specs.Prelude.{slice_index}
+use Rattle.acredact.proofs.Common.{slice_index, ℕ, ◌<◌, ◌≡◌}
 use Rattle.acredact.proofs.looker.is_some_counted.Given as goal
 
 abbrev pub invariant-loop-count : goal.invariant-loop-count

@@ -1,8 +1,5 @@
 -- Memory alone may be wanting before the search, and then it is as the first call of the iterator answers.
-use Rattle.acredact.proofs.Common.{Memory}
-use Rattle.std.proofs.Common.{rules, ◌≡◌, ◌∙◌, false, ap}
-use Rattle.std.specs.Prelude.{Err}
-use Rattle.acredact.specs.Looks.{LooksAt, occurs_of, sought}
+use Rattle.acredact.proofs.Common.{Err, LooksAt, Memory, ap, false, occurs_of, rules, sought, ◌∙◌, ◌≡◌}
 use Rattle.acredact.proofs.Looks.{looks_first, looks_memory}
 use Rattle.acredact.proofs.OneFile.{so_there}
 use Rattle.acredact.proofs.looker.occurs_in.Goals as goal

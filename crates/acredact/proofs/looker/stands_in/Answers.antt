@@ -1,8 +1,5 @@
 -- Memory alone may be wanting before the cover, and what it writes to never fails.
-use Rattle.acredact.proofs.Common.{Memory, length-map}
-use Rattle.std.proofs.Common.{rules, ◌≡◌, ◌∙◌, true, length, refl, ap, sym, subst}
-use Rattle.std.specs.Prelude.{Err}
-use Rattle.acredact.specs.Looks.{sought}
+use Rattle.acredact.proofs.Common.{Err, Memory, ap, length, length-map, refl, rules, sought, subst, sym, true, ◌∙◌, ◌≡◌}
 use Rattle.acredact.proofs.Looks.{looks_counted, looks_memory, fault_looks}
 use Rattle.acredact.proofs.Suited.{only_memory}
 use Rattle.acredact.proofs.looker.stands_in.Goals as goal

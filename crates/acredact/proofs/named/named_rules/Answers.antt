@@ -1,8 +1,6 @@
 -- One rule more.
-use Rattle.acredact.proofs.Common.{PieceRule, map-append}
-use Rattle.std.proofs.Common.{◌∙◌, ap, append_assoc}
-use Rattle.acredact.specs.Named.{named_secret}
-use Rattle.acredact.specs.Tables.{secret_of, secrets_of}
+use Rattle.acredact.proofs.Common.{PieceRule, ap, append_assoc, named_secret, secret_of, secrets_of, ◌∙◌}
+use Rattle.std.proofs.lemmas.List.{map-append}
 use Rattle.acredact.proofs.Doubting.{secrets_cut}
 use Rattle.acredact.proofs.named.named_rules.Goals as goal
 

@@ -1,7 +1,6 @@
 -- What is left gives the other rules.
-use Rattle.std.proofs.Common.{◌≡◌, ◌++◌, drop, map}
-use Rattle.acredact.specs.Named.{all_named, named_secret, rule_by_key}
-use Rattle.acredact.specs.Tables.{secrets_of}
+use Rattle.acredact.proofs.Common.{all_named, drop, map, named_secret, secrets_of, ◌++◌, ◌≡◌}
+use Rattle.acredact.specs.Named.{rule_by_key}
 use Rattle.acredact.proofs.named.named_rules.Given as goal
 
 abbrev pub invariant-loop-rule : goal.invariant-loop-rule

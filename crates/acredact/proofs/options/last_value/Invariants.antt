@@ -1,7 +1,7 @@
 -- What is left has the last value, or else the value so far is it.
-use Rattle.std.proofs.Common.{◌≡◌, drop}
+use Rattle.acredact.proofs.Common.{all_given, drop, last_value, ◌≡◌}
 use Rattle.std.specs.Prelude.{option_map}
-use Rattle.acredact.specs.Arguments.{all_given, last_value, or_else}
+use Rattle.acredact.specs.Arguments.{or_else}
 use Rattle.acredact.proofs.options.last_value.Given as goal
 
 abbrev pub invariant-loop-item : goal.invariant-loop-item

@@ -1,8 +1,6 @@
 -- What is added, and what the lines that are left give.
-use Rattle.acredact.proofs.Common.{flat_map}
-use Rattle.std.proofs.Common.{◌≡◌, ◌++◌, length}
+use Rattle.acredact.proofs.Common.{flat_map, length, parts_left, secrets_of, ◌++◌, ◌≡◌}
 use Rattle.acredact.specs.Parts.{line_secrets, lines_secrets}
-use Rattle.acredact.specs.Tables.{parts_left, secrets_of}
 use Rattle.acredact.proofs.parts.add_parts.Given as goal
 
 abbrev pub invariant-loop-left : goal.invariant-loop-left

@@ -1,7 +1,5 @@
 -- One line more is added.
-use Rattle.std.proofs.Common.{◌++◌, ◌+◌, ◌∙◌, ◌∷◌, ◌≡◌, [], ap, append_assoc, arith, length, length-append, rules, sym}
-use Rattle.acredact.specs.Parts.{IsAddedSome}
-use Rattle.acredact.specs.Tables.{GivesLine, lines_in, parts_left, secrets_of}
+use Rattle.acredact.proofs.Common.{GivesLine, IsAddedSome, [], ap, append_assoc, arith, length, length-append, lines_in, parts_left, rules, secrets_of, sym, ◌++◌, ◌+◌, ◌∙◌, ◌∷◌, ◌≡◌}
 use Rattle.acredact.proofs.Loaded.{given_next}
 use Rattle.acredact.proofs.patterns.add_lines.Goals as goal
 

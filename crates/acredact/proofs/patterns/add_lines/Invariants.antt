@@ -1,7 +1,6 @@
 -- The lines in front of what is left are added.
-use Rattle.std.proofs.Common.{ℕ, List, ◌≡◌, ◌+◌, ◌-◌, ◌^◌, ◌++◌, length}
-use Rattle.std.specs.Prelude.{min}
-use Rattle.acredact.specs.Tables.{GivesLine, lines_in, parts_left, secrets_of}
+use Rattle.acredact.proofs.Common.{GivesLine, List, length, lines_in, min, parts_left, secrets_of, ℕ, ◌++◌, ◌+◌, ◌-◌, ◌≡◌}
+use Rattle.std.proofs.Common.{◌^◌}
 use Rattle.acredact.proofs.Loaded.{GivenSoFar}
 use Rattle.acredact.proofs.patterns.add_lines.Given as goal
 

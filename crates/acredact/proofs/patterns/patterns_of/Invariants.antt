@@ -1,7 +1,5 @@
 -- Those so far, and those of what is left.
-use Rattle.acredact.proofs.Common.{pieces_of}
-use Rattle.std.proofs.Common.{◌≡◌, ◌++◌, drop}
-use Rattle.acredact.specs.Tables.{patterns_in, secrets_of}
+use Rattle.acredact.proofs.Common.{drop, patterns_in, pieces_of, secrets_of, ◌++◌, ◌≡◌}
 use Rattle.acredact.proofs.patterns.patterns_of.Given as goal
 
 abbrev pub invariant-loop-rule : goal.invariant-loop-rule

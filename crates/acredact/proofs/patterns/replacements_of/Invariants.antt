@@ -1,7 +1,6 @@
 -- Those so far, and those of what is left.
-use Rattle.acredact.proofs.Common.{pieces_of}
-use Rattle.std.proofs.Common.{◌≡◌, ◌++◌, drop, map}
-use Rattle.acredact.specs.Tables.{piece_by, secrets_of}
+use Rattle.acredact.proofs.Common.{drop, map, pieces_of, secrets_of, ◌++◌, ◌≡◌}
+use Rattle.acredact.specs.Tables.{piece_by}
 use Rattle.acredact.proofs.patterns.replacements_of.Given as goal
 
 abbrev pub invariant-loop-rule : goal.invariant-loop-rule

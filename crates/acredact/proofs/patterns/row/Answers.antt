@@ -1,6 +1,5 @@
 -- What stands behind the TAB is at fault.
-use Rattle.std.proofs.Common.{rules, ◌≡◌, inr}
-use Rattle.std.specs.Prelude.{Err}
+use Rattle.acredact.proofs.Common.{Err, inr, rules, ◌≡◌}
 use Rattle.acredact.proofs.patterns.row.Goals as goal
 
 pub returns-in_err-replacement-clause-fault : goal.returns-in_err-replacement-clause-fault

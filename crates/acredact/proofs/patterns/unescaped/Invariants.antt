@@ -1,5 +1,5 @@
 -- The bytes so far and what is left are the text.
-use Rattle.std.proofs.Common.{◌≡◌, ◌++◌, length}
+use Rattle.acredact.proofs.Common.{length, ◌++◌, ◌≡◌}
 use Rattle.acredact.specs.Tables.{in_table}
 use Rattle.acredact.proofs.patterns.unescaped.Given as goal
 

@@ -1,7 +1,5 @@
 -- The names so far, and those of what is left.
-use Rattle.acredact.proofs.Common.{name_bytes}
-use Rattle.std.proofs.Common.{◌≡◌, ◌++◌, drop}
-use Rattle.acredact.specs.Arguments.{all_given}
+use Rattle.acredact.proofs.Common.{all_given, drop, name_bytes, ◌++◌, ◌≡◌}
 use Rattle.acredact.specs.Calls.{names_given}
 use Rattle.acredact.proofs.prepare.names.Given as goal
 

@@ -1,8 +1,7 @@
 -- The bytes before the place were added.
-use Rattle.acredact.proofs.Common.{Holds256}
-use Rattle.std.proofs.Common.{ℕ, List, ◌++◌, take}
+use Rattle.acredact.proofs.Common.{List, as_compared, take, ℕ, ◌++◌}
+use Rattle.sha2.specs.Hashers.{Holds256}
 use Rattle.std.specs.Prelude.{true}
-use Rattle.acredact.specs.Pseudonyms.{as_compared}
 use Rattle.acredact.proofs.pseudonym.add_folded.Given as goal
 
 abbrev pub invariant-loop-byte : goal.invariant-loop-byte

@@ -1,6 +1,5 @@
 -- What the closure writes is the piece of each match, and it counts each.
-use Rattle.acredact.proofs.Common.{pieces_of}
-use Rattle.std.proofs.Common.{rules, sym}
+use Rattle.acredact.proofs.Common.{pieces_of, rules, sym}
 use Rattle.acredact.proofs.Counted.{lent_does}
 use Rattle.acredact.proofs.redact.redact_counting.Goals as goal
 

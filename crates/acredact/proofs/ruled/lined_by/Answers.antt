@@ -1,7 +1,5 @@
 -- It redacts by what was asked for.
-use Rattle.acredact.proofs.Common.{length-map}
-use Rattle.std.proofs.Common.{refl}
-use Rattle.acredact.specs.Tables.{secret_of}
+use Rattle.acredact.proofs.Common.{length-map, refl, secret_of}
 use Rattle.acredact.proofs.ruled.lined_by.Goals as goal
 
 pub returns : goal.returns

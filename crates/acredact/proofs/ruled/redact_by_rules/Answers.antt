@@ -1,11 +1,6 @@
 -- What was loaded is redacted by, behind what is told of doubtful patterns.
-use Rattle.acredact.proofs.Common.{Keeps-refl, bytes_left}
-use Rattle.std.proofs.Common.{inl, refl, subst, sym}
-use Rattle.acredact.specs.Arguments.{all_given}
-use Rattle.acredact.specs.Calls.{call_of, reading_by}
-use Rattle.acredact.specs.Loading.{Loaded}
+use Rattle.acredact.proofs.Common.{Keeps-refl, Loaded, all_given, bytes_left, call_of, inl, reading_by, refl, secrets_of, subst, sym}
 use Rattle.acredact.specs.Ruled.{AreRuledLoaded, load_as}
-use Rattle.acredact.specs.Tables.{secrets_of}
 use Rattle.acredact.proofs.Outcomes.{comes_early, comes_untold}
 use Rattle.acredact.proofs.RuledCalls.{all_doubts_told}
 use Rattle.acredact.proofs.ruled.redact_by_rules.Goals as goal

@@ -1,10 +1,6 @@
 -- The files are redacted by what was loaded.
-use Rattle.acredact.proofs.Common.{IfErr-weaker, length-map, on_ok_weaker, pieces_of}
-use Rattle.std.proofs.Common.{rules, ℕ, ◌∙◌, ap, inr, length, sym}
-use Rattle.std.specs.Prelude.{replicate}
-use Rattle.acredact.specs.Arguments.{all_given}
-use Rattle.acredact.specs.Calls.{call_of}
-use Rattle.acredact.specs.Ruled.{ruled_load, IsRuledTold}
+use Rattle.acredact.proofs.Common.{IfErr-weaker, IsRuledTold, all_given, ap, call_of, inr, length, length-map, on_ok_weaker, pieces_of, replicate, rules, sym, ℕ, ◌∙◌}
+use Rattle.acredact.specs.Ruled.{ruled_load}
 use Rattle.acredact.proofs.Calls.{tells_weaker}
 use Rattle.acredact.proofs.RuledCalls.{files_done, files_failed, texts_many}
 use Rattle.acredact.proofs.ruled.redact_lines.Goals as goal

@@ -1,6 +1,5 @@
 -- Those so far, and those of what is left.
-use Rattle.acredact.proofs.Common.{pieces_of}
-use Rattle.std.proofs.Common.{◌≡◌, ◌++◌, drop, map}
+use Rattle.acredact.proofs.Common.{drop, map, pieces_of, ◌++◌, ◌≡◌}
 use Rattle.acredact.specs.Ruled.{own_text}
 use Rattle.acredact.proofs.ruled.texts_of.Given as goal
 

@@ -1,8 +1,5 @@
 -- What the status says, by what is answered.
-use Rattle.std.proofs.Common.{inl, inr}
-use Rattle.acredact.specs.Arguments.{all_given}
-use Rattle.acredact.specs.Calls.{call_of}
-use Rattle.acredact.specs.Ruled.{IsRuledTold}
+use Rattle.acredact.proofs.Common.{IsRuledTold, all_given, call_of, inl, inr}
 use Rattle.acredact.proofs.Calls.{tells_last}
 use Rattle.acredact.proofs.Checks.{says_failed, seen_says}
 use Rattle.acredact.proofs.ruled_check.check_by_rules.Goals as goal

@@ -1,10 +1,5 @@
 -- The files are looked at by what was loaded, and what is told of that is written where it is asked for.
-use Rattle.acredact.proofs.Common.{Keeps-refl}
-use Rattle.std.proofs.Common.{◌∙◌, false, inl, refl, sym, true}
-use Rattle.std.specs.Prelude.{Err, Ok}
-use Rattle.acredact.specs.Arguments.{all_given}
-use Rattle.acredact.specs.Calls.{call_of}
-use Rattle.acredact.specs.RuledChecks.{check_load}
+use Rattle.acredact.proofs.Common.{Err, Keeps-refl, Ok, all_given, call_of, check_load, false, inl, refl, sym, true, ◌∙◌}
 use Rattle.acredact.proofs.RuledCalls.{files_looked, outcome_none}
 use Rattle.acredact.proofs.ruled_check.check_cover.Goals as goal
 

@@ -1,10 +1,5 @@
 -- What was loaded is looked for, behind what is told of doubtful patterns.
-use Rattle.acredact.proofs.Common.{Keeps-refl}
-use Rattle.std.proofs.Common.{inl}
-use Rattle.acredact.specs.Arguments.{all_given}
-use Rattle.acredact.specs.Calls.{call_of}
-use Rattle.acredact.specs.RuledChecks.{check_load}
-use Rattle.acredact.specs.Tables.{secrets_of}
+use Rattle.acredact.proofs.Common.{Keeps-refl, all_given, call_of, check_load, inl, secrets_of}
 use Rattle.acredact.proofs.Outcomes.{comes_early, comes_untold}
 use Rattle.acredact.proofs.RuledCalls.{all_doubts_told, check_behind}
 use Rattle.acredact.proofs.ruled_check.check_given.Goals as goal

@@ -1,7 +1,6 @@
 -- It looks for what was loaded.
-use Rattle.std.proofs.Common.{refl}
-use Rattle.acredact.specs.Arguments.{all_given}
-use Rattle.acredact.specs.RuledChecks.{check_load, lines_looked_for}
+use Rattle.acredact.proofs.Common.{all_given, check_load, refl}
+use Rattle.acredact.specs.RuledChecks.{lines_looked_for}
 use Rattle.acredact.proofs.ruled_check.looker_by.Goals as goal
 
 pub returns : goal.returns

@@ -1,6 +1,6 @@
 -- An automaton without a pattern is not needed.
-use Rattle.acredact.proofs.Common.{length-map, nil_from_length}
-use Rattle.std.proofs.Common.{rules, ◌≡◌, ◌∙◌, ap, length, sym}
+use Rattle.acredact.proofs.Common.{ap, length, length-map, rules, sym, ◌∙◌, ◌≡◌}
+use Rattle.std.proofs.lemmas.List.{nil_from_length}
 use Rattle.acredact.proofs.ruled_files.some_of.Goals as goal
 
 pub returns-then-patterns_len-eq0-clause-searched : goal.returns-then-patterns_len-eq0-clause-searched

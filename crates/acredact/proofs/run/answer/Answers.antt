@@ -1,8 +1,5 @@
 -- What each kind of call says, and its status.
-use Rattle.std.proofs.Common.{◌≡◌, ap, refl, rules, sym, ◌∙◌}
-use Rattle.acredact.specs.Arguments.{aim_of, all_given, is_check}
-use Rattle.acredact.specs.Calls.{call_of}
-use Rattle.acredact.specs.declared.options.Aim.TheVariants.{CheckLines, CheckTexts}
+use Rattle.acredact.proofs.Common.{CheckLines, CheckTexts, aim_of, all_given, ap, call_of, is_check, refl, rules, sym, ◌∙◌, ◌≡◌}
 use Rattle.acredact.proofs.Outcomes.{ended_well}
 use Rattle.acredact.proofs.RuledCalls.{ruled_ends}
 use Rattle.acredact.proofs.Statuses.{status_told}

@@ -1,16 +1,9 @@
 -- The arguments are right or wrong.
-use Rattle.acredact.proofs.Common.{Errors, Failure, Keeps-refl, Readers, SinkGhosts, Streams, TellsBytes, Writers, texts}
-use Rattle.std.proofs.Common.{◌≡◌, inl, inr, ℕ, ap, refl, sym, ◌∙◌, arith, ◌<◌, List}
-use Rattle.std.specs.Prelude.{Err, None, Some}
-use Rattle.acredact.specs.Arguments.{all_asked, all_given}
-use Rattle.acredact.specs.Calls.{Call, IsWrongLine, call_of}
-use Rattle.acredact.specs.Failures.{IsFailureLine}
-use Rattle.acredact.specs.Ruled.{IsRuledTold}
+use Rattle.acredact.proofs.Common.{Arguments, Call, CheckLines, CheckTexts, Err, Errors, Failure, IsFailureLine, IsRuledTold, IsWrongLine, Keeps-refl, List, None, Readers, RedactLines, RedactTexts, SinkGhosts, Some, Streams, TellsBytes, Writers, all_asked, all_given, ap, arith, call_of, inl, inr, refl, sym, texts, ℕ, ◌<◌, ◌∙◌, ◌≡◌}
 use Rattle.acredact.specs.Statuses.{SaysOfAim}
-use Rattle.acredact.specs.declared.failure.Failure.TheVariants.{Arguments}
 use Rattle.acredact.specs.declared.mistakes.Mistake.TheVariants.{OutOfMemory}
 use Rattle.acredact.specs.declared.options.Aim.{Aim}
-use Rattle.acredact.specs.declared.options.Aim.TheVariants.{CheckLines, CheckTexts, Explain, RedactLines, RedactTexts}
+use Rattle.acredact.specs.declared.options.Aim.TheVariants.{Explain}
 use Rattle.acredact.proofs.Calls.{call_refused, tells_same}
 use Rattle.acredact.proofs.Checks.{says_failed, status_ended}
 use Rattle.acredact.proofs.Given.{memory_alone, same_given}

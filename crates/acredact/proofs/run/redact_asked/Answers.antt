@@ -1,13 +1,5 @@
 -- No option gives a pattern; or what comes of the files, and then the counts, come behind what is told of patterns of lists and of pieces.
-use Rattle.acredact.proofs.Common.{Other, OutOfMemory, bytes_left, failure_of_stream, on_ok_weaker}
-use Rattle.std.proofs.Common.{rules, inl, inr, refl}
-use Rattle.std.specs.Prelude.{Err, Ok}
-use Rattle.acredact.specs.Arguments.{all_given}
-use Rattle.acredact.specs.Back.{DoesJob}
-use Rattle.acredact.specs.Calls.{call_of}
-use Rattle.acredact.specs.Files.{FilesOutcome, Work, task_of}
-use Rattle.acredact.specs.Loading.{key_in, loaded_in}
-use Rattle.acredact.specs.Summaries.{no_volume}
+use Rattle.acredact.proofs.Common.{DoesJob, Err, FilesOutcome, Ok, Other, OutOfMemory, Work, all_given, bytes_left, call_of, failure_of_stream, inl, inr, key_in, loaded_in, no_volume, on_ok_weaker, refl, rules, task_of}
 use Rattle.acredact.proofs.Calls.{call_ended, call_refused, job_does, may_fail, passed_on, may_prepare, unready_may}
 use Rattle.acredact.proofs.RedactedCalls.{call_cut, call_told}
 use Rattle.acredact.proofs.run.redact_asked.Goals as goal

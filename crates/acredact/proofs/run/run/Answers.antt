@@ -1,6 +1,5 @@
 -- What the status says.
-use Rattle.acredact.specs.Calls.{call_of}
-use Rattle.acredact.specs.declared.options.Aim.TheVariants.{CheckLines, CheckTexts, RedactLines, RedactTexts}
+use Rattle.acredact.proofs.Common.{CheckLines, CheckTexts, RedactLines, RedactTexts, call_of}
 use Rattle.acredact.proofs.Given.{forms_fit}
 use Rattle.acredact.proofs.Hiding.{call_hides}
 use Rattle.acredact.proofs.RuledCalls.{counts_by_rules}

@@ -1,5 +1,5 @@
 -- The lines so far, and those of what is left.
-use Rattle.std.proofs.Common.{◌≡◌, ◌++◌, length}
+use Rattle.acredact.proofs.Common.{length, ◌++◌, ◌≡◌}
 use Rattle.acredact.specs.Summaries.{rule_counts_text}
 use Rattle.acredact.proofs.run_counts.put_rule_counts.Given as goal
 

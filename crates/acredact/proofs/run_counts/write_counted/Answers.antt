@@ -1,12 +1,7 @@
 -- The counts and the summary are of the sums, and are one text.
-use Rattle.acredact.proofs.Common.{TellsBytes, length-map}
-use Rattle.std.proofs.Common.{rules, ◌≡◌, [], length, subst, ◌∙◌, append-nil, refl}
-use Rattle.acredact.specs.Arguments.{all_given}
-use Rattle.acredact.specs.Counts.{lines_of_rules}
+use Rattle.acredact.proofs.Common.{TellsBytes, [], all_given, append-nil, length, length-map, lines_of_rules, refl, rules, secret_of, secrets_of, subst, sums_of, ◌∙◌, ◌≡◌}
 use Rattle.acredact.specs.RunCounts.{IsNumbersLine, counted_text}
 use Rattle.acredact.specs.Summaries.{counts_told_by, numbers_text, rules_lent}
-use Rattle.acredact.specs.Sums.{sums_of}
-use Rattle.acredact.specs.Tables.{secret_of, secrets_of}
 use Rattle.acredact.proofs.Calls.{tells_line}
 use Rattle.acredact.proofs.run_counts.write_counted.Goals.{else-has, else-has-2, then-has+in_ok-put_counts+in_ok-put_rule_counts, then-has-2+in_ok-put_summary}
 use Rattle.acredact.proofs.run_counts.write_counted.Goals as goal

@@ -1,7 +1,6 @@
 -- The first that is too short is the first of what is left.
-use Rattle.std.proofs.Common.{◌≡◌, ◌+◌, drop}
+use Rattle.acredact.proofs.Common.{drop, secrets_of, ◌+◌, ◌≡◌}
 use Rattle.acredact.specs.Short.{first_short}
-use Rattle.acredact.specs.Tables.{secrets_of}
 use Rattle.acredact.proofs.short.refuse_first.Given as goal
 
 abbrev pub invariant-loop-rule : goal.invariant-loop-rule

@@ -1,8 +1,6 @@
 -- Of the patterns so far it is told.
-use Rattle.acredact.proofs.Common.{concat}
-use Rattle.std.proofs.Common.{◌≡◌, ◌+◌, drop}
+use Rattle.acredact.proofs.Common.{concat, drop, secrets_of, ◌+◌, ◌≡◌}
 use Rattle.acredact.specs.Short.{short_lines}
-use Rattle.acredact.specs.Tables.{secrets_of}
 use Rattle.acredact.proofs.Doubting.{ToldSoFar}
 use Rattle.acredact.proofs.short.tell_each.Given as goal
 

@@ -1,7 +1,6 @@
 -- A line tells it.
-use Rattle.std.proofs.Common.{◌≡◌, true, sym, ◌∙◌, append-nil}
+use Rattle.acredact.proofs.Common.{append-nil, secret_of, sym, true, ◌∙◌, ◌≡◌}
 use Rattle.acredact.specs.Short.{is_formless}
-use Rattle.acredact.specs.Tables.{secret_of}
 use Rattle.acredact.proofs.short.tell_if_short.Goals as goal
 
 pub returns-then-is_formless : goal.returns-then-is_formless

@@ -1,6 +1,5 @@
 -- The bytes so far are put.
-use Rattle.std.proofs.Common.{◌≡◌, ◌++◌, drop}
-use Rattle.rule_files.specs.Messages.{as_shown}
+use Rattle.acredact.proofs.Common.{as_shown, drop, ◌++◌, ◌≡◌}
 use Rattle.acredact.proofs.shown.put_shown.Given as goal
 
 abbrev pub invariant-loop-byte : goal.invariant-loop-byte

@@ -1,5 +1,5 @@
 -- The bytes so far are put.
-use Rattle.std.proofs.Common.{◌≡◌, ◌++◌, drop}
+use Rattle.acredact.proofs.Common.{drop, ◌++◌, ◌≡◌}
 use Rattle.acredact.specs.Summaries.{bytes_in_json}
 use Rattle.acredact.proofs.summary.put_bytes.Given as goal
 

@@ -1,5 +1,5 @@
 -- The numbers so far, and what is left.
-use Rattle.std.proofs.Common.{◌≡◌, ◌++◌, drop}
+use Rattle.acredact.proofs.Common.{drop, ◌++◌, ◌≡◌}
 use Rattle.acredact.specs.Summaries.{listed, more_listed}
 use Rattle.acredact.proofs.summary.put_list.Given as goal
 

@@ -1,5 +1,5 @@
 -- The objects so far, and those of what is left.
-use Rattle.std.proofs.Common.{◌≡◌, ◌++◌, length}
+use Rattle.acredact.proofs.Common.{length, ◌++◌, ◌≡◌}
 use Rattle.acredact.specs.Summaries.{more_rules_listed, rules_listed}
 use Rattle.acredact.proofs.summary.put_rules.Given as goal
 

@@ -1,5 +1,5 @@
 -- One count more.
-use Rattle.std.proofs.Common.{drop, arith}
+use Rattle.acredact.proofs.Common.{arith, drop}
 use Rattle.std.proofs.lemmas.List.{length-drop}
 use Rattle.acredact.proofs.Totals.{grown_nothing, grown_then, sum_next, sum_none}
 use Rattle.acredact.proofs.sums.add_counts.Goals as goal

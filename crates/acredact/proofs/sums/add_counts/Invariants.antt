@@ -1,7 +1,5 @@
 -- What is left is to be added.
-use Rattle.std.proofs.Common.{List, ℕ, drop}
-use Rattle.acredact.specs.Sums.{HaveGrown, sum_for}
-use Rattle.acredact.specs.Tables.{secrets_of}
+use Rattle.acredact.proofs.Common.{HaveGrown, List, drop, secrets_of, sum_for, ℕ}
 use Rattle.acredact.proofs.sums.add_counts.Given as goal
 
 abbrev pub invariant-loop-place : goal.invariant-loop-place

@@ -1,7 +1,6 @@
 -- The counts are added to zeros.
-use Rattle.std.proofs.Common.{rules, ◌≡◌, length, ◌∙◌, append-nil, arith}
-use Rattle.std.proofs.lemmas.List.{drop_all, take_at}
-use Rattle.acredact.specs.Tables.{secrets_of}
+use Rattle.acredact.proofs.Common.{append-nil, arith, length, rules, secrets_of, take_at, ◌∙◌, ◌≡◌}
+use Rattle.std.proofs.lemmas.List.{drop_all}
 use Rattle.acredact.proofs.Totals.{sums_are}
 use Rattle.acredact.proofs.sums.sums_of.Goals as goal
 

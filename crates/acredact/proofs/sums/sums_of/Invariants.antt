@@ -1,8 +1,5 @@
 -- The zeros so far, and those of what is left.
-use Rattle.std.proofs.Common.{◌≡◌, ◌++◌, drop}
-use Rattle.std.specs.Prelude.{replicate}
-use Rattle.acredact.specs.Sums.{given_count}
-use Rattle.acredact.specs.Tables.{secrets_of}
+use Rattle.acredact.proofs.Common.{drop, given_count, replicate, secrets_of, ◌++◌, ◌≡◌}
 use Rattle.acredact.proofs.sums.sums_of.Given as goal
 
 abbrev pub invariant-loop-rule : goal.invariant-loop-rule

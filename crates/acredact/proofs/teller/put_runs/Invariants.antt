@@ -1,5 +1,5 @@
 -- What is told of the runs that are left comes behind what was put.
-use Rattle.std.proofs.Common.{◌≡◌, ◌++◌, drop}
+use Rattle.acredact.proofs.Common.{drop, ◌++◌, ◌≡◌}
 use Rattle.acredact.specs.Findings.{runs_findings}
 use Rattle.acredact.proofs.teller.put_runs.Given as goal
 

@@ -1,7 +1,5 @@
 -- No value before what is left is empty.
-use Rattle.acredact.proofs.Common.{pieces_of}
-use Rattle.std.proofs.Common.{◌≡◌, drop}
-use Rattle.std.specs.List.{list_any}
+use Rattle.acredact.proofs.Common.{drop, list_any, pieces_of, ◌≡◌}
 use Rattle.acredact.specs.Values.{no_bytes}
 use Rattle.acredact.proofs.values.are_refused.Given as goal
 

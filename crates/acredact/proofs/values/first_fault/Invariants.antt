@@ -1,6 +1,5 @@
 -- No line before what is left is wrong.
-use Rattle.std.proofs.Common.{◌≡◌, length}
-use Rattle.acredact.specs.Tables.{lines_in, parts_left}
+use Rattle.acredact.proofs.Common.{length, lines_in, parts_left, ◌≡◌}
 use Rattle.acredact.specs.Values.{first_fault}
 use Rattle.acredact.proofs.values.first_fault.Given as goal
 

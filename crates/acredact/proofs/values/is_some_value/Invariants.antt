@@ -1,6 +1,5 @@
 -- No value before what is left is this text.
-use Rattle.std.proofs.Common.{◌≡◌, drop}
-use Rattle.acredact.specs.Reads.{bytes_of_names}
+use Rattle.acredact.proofs.Common.{bytes_of_names, drop, ◌≡◌}
 use Rattle.acredact.specs.Values.{is_some_value}
 use Rattle.acredact.proofs.values.is_some_value.Given as goal
 

@@ -1,7 +1,5 @@
 -- What is left gives the other values.
-use Rattle.acredact.proofs.Common.{pieces_of}
-use Rattle.std.proofs.Common.{◌≡◌, ◌++◌, length}
-use Rattle.acredact.specs.Tables.{lines_in, parts_left}
+use Rattle.acredact.proofs.Common.{length, lines_in, parts_left, pieces_of, ◌++◌, ◌≡◌}
 use Rattle.acredact.specs.Values.{values_in_lines}
 use Rattle.acredact.proofs.values.values_in_text.Given as goal
 

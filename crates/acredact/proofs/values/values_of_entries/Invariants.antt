@@ -1,7 +1,5 @@
 -- What is left gives the other values.
-use Rattle.acredact.proofs.Common.{filter_map, pieces_of}
-use Rattle.std.proofs.Common.{◌≡◌, ◌++◌, drop}
-use Rattle.acredact.specs.Reads.{bytes_of_names}
+use Rattle.acredact.proofs.Common.{bytes_of_names, drop, filter_map, pieces_of, ◌++◌, ◌≡◌}
 use Rattle.acredact.specs.Values.{value_of_entry}
 use Rattle.acredact.proofs.values.values_of_entries.Given as goal
 

@@ -1,6 +1,5 @@
 -- The input is looked at from its beginning.
-use Rattle.std.proofs.Common.{ap}
-use Rattle.acredact.specs.Looks.{sought}
+use Rattle.acredact.proofs.Common.{ap, sought}
 use Rattle.acredact.proofs.Looks.{looked_stream}
 use Rattle.acredact.proofs.OneFile.{begun_writing}
 use Rattle.acredact.proofs.looker.ByPatternsLooker.look.Goals as goal

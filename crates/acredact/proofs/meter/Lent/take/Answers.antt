@@ -1,8 +1,5 @@
 -- What a read gives is counted.
-use Rattle.acredact.proofs.Common.{Consumes-nil}
-use Rattle.std.proofs.Common.{[], take, arith}
-use Rattle.std.proofs.KnownBytes.{Consumes-kept}
-use Rattle.std.proofs.lemmas.List.{length-take-le}
+use Rattle.acredact.proofs.Common.{Consumes-kept, Consumes-nil, [], arith, length-take-le, take}
 use Rattle.acredact.proofs.Totals.{metered_more}
 use Rattle.acredact.proofs.meter.Lent.take.Goals as goal
 

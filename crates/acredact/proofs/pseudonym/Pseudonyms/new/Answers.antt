@@ -1,5 +1,5 @@
 -- Both blocks are those of the key.
-use Rattle.std.proofs.Common.{refl}
+use Rattle.acredact.proofs.Common.{refl}
 use Rattle.acredact.proofs.pseudonym.Pseudonyms.new.Goals as goal
 
 pub returns : goal.returns

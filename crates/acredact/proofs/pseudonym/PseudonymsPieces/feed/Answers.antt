@@ -1,7 +1,6 @@
 -- Where case is not ignored bytes are taken as they stand.
-use Rattle.std.proofs.Common.{◌++◌, append_assoc}
+use Rattle.acredact.proofs.Common.{append_assoc, as_compared, ◌++◌}
 use Rattle.std.proofs.lemmas.List.{map-id}
-use Rattle.acredact.specs.Pseudonyms.{as_compared}
 use Rattle.acredact.proofs.pseudonym.PseudonymsPieces.feed.Goals as goal
 
 pub returns-else-self-clause-more : goal.returns-else-self-clause-more

@@ -1,5 +1,5 @@
 -- What makes pseudonyms does so by the same key.
-use Rattle.std.proofs.Common.{refl}
+use Rattle.acredact.proofs.Common.{refl}
 use Rattle.acredact.proofs.run_pieces.RunPiecesPieces.begin.Goals as goal
 
 pub returns-in-Some-clause-same : goal.returns-in-Some-clause-same

@@ -1,6 +1,5 @@
 -- The input is read to its end, and what is told is what the visits of its lines leave.
-use Rattle.std.proofs.Common.{ap, inr, refl, rules, sym}
-use Rattle.acredact.specs.Looks.{LookedText}
+use Rattle.acredact.proofs.Common.{LookedText, ap, inr, refl, rules, sym}
 use Rattle.acredact.proofs.Looks.{looked_lines}
 use Rattle.acredact.proofs.OneFile.{begun_writing, so_there}
 use Rattle.acredact.proofs.teller.ByLinesLooker.look.Goals as goal

@@ -1,6 +1,5 @@
 -- What is written is the redaction by the patterns of both, and why it ends early is told.
-use Rattle.acredact.proofs.Common.{IfErr-weaker, pieces_of}
-use Rattle.std.proofs.Common.{rules}
+use Rattle.acredact.proofs.Common.{IfErr-weaker, pieces_of, rules}
 use Rattle.aho_backward.specs.Searcher.{IsBackwardOf}
 use Rattle.acredact.proofs.Redactions.{back_ends, never_refused, outcome_plain, uncounted}
 use Rattle.acredact.proofs.ways.ReplacingWay.redact.Goals as goal
