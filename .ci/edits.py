@@ -156,7 +156,7 @@ def only_ensuring(head, indent, clause, answers):
         return head, None
     lines, is_kept = [], True
     for line in head.split("\n"):
-        if not line.startswith(indent + "     "):
+        if not re.match(rf"{indent}    [\s)}}\]]", line):
             ensures = re.match(rf"{indent}    ensures (\w+) ", line)
             is_kept = not ensures or ensures[1] in kept
         lines += [line] if is_kept else []
