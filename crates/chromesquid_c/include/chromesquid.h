@@ -275,9 +275,9 @@ uint32_t cs_cover_all(cs_searcher *searcher, const uint8_t *haystack, size_t hay
                       size_t replace_with_len, uint8_t *room, size_t room_len, size_t *len);
 
 /* Makes patterns that find a secret in the given encoded forms (CS_FORM_BASE64, ...), without
- * duplicates. They find the secret in such a form whether it was encoded alone or together with
- * other bytes: every character that holds a bit of it lies in an occurrence of a pattern. Build a searcher for them and the secret itself; use it with
- * cs_cover_all.
+ * duplicates. The secret may be encoded alone or together with other bytes. Every character that
+ * holds a bit of the secret lies in an occurrence of a pattern. Build a searcher for the patterns
+ * and the secret itself, and use it with cs_cover_all.
  *
  * Returns CS_DONE and stores the concatenated patterns in `room`, and the offset after each of
  * them in `ends`. Stores their total length in bytes in `len`, and their number in `count`.
