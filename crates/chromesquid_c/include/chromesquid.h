@@ -81,8 +81,8 @@ enum {
 enum {
     CS_BY_RULE = 0,       /* CS_ROWS if all searches are unanchored, else CS_NONCONTIGUOUS */
     CS_NONCONTIGUOUS = 1, /* the fastest to build */
-    CS_ROWS = 2           /* the fastest to search. If searches are anchored, or rows do
-                           * not fit, the other is used */
+    CS_ROWS = 2           /* the fastest to search. The other one is used for anchored
+                           * searches, or if rows do not fit */
 };
 
 /* The option that has an invalid value. */
