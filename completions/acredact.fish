@@ -13,7 +13,7 @@ complete -c acredact -l allow-empty -d 'accept empty lists, and unset or empty v
 complete -c acredact -l rules -rF -d 'redact what the rules of FILE mark, line by line'
 complete -c acredact -l after -x -d 'redact what follows KEYWORD in a line, up to the next blank, quote, comma, semicolon, \'&\' or closing bracket'
 complete -c acredact -l max-line -x -d 'redact lines longer than SIZE bytes entirely'
-complete -c acredact -l with -x -d 'write TEXT instead of \'[redacted]\' for patterns that have no replacement of their own'
+complete -c acredact -l with -x -d 'write TEXT instead of \'[redacted]\' for each pattern without a replacement of its own'
 complete -c acredact -l pseudonym -rF -d 'replace equal runs with equal pseudonyms'
 complete -c acredact -l kind -x -a 'cover first longest standard' -d 'choose what is replaced'
 complete -c acredact -l strict -d 'refuse replacements that can spell a pattern with the bytes around them, and doubtful lines of lists'

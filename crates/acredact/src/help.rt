@@ -36,8 +36,8 @@ Rules, for secrets that you cannot list:
                         1048576, 1 MiB)
 
 Replacements:
-  --with TEXT           write TEXT instead of '[redacted]' for patterns that have
-                        no replacement of their own
+  --with TEXT           write TEXT instead of '[redacted]' for each pattern
+                        without a replacement of its own
   --pseudonym KEYFILE   replace equal runs with equal pseudonyms: 12 digits of
                         an HMAC-SHA-256 with the key in KEYFILE; with --forms,
                         of the secret, so its encoded copies get the same one
