@@ -30,7 +30,11 @@ const STANDARD: &[u8] = b"standard";
 
 const FIRST: &[u8] = b"first";
 
+const LEFTMOST_FIRST: &[u8] = b"leftmost-first";
+
 const LONGEST: &[u8] = b"longest";
+
+const LEFTMOST_LONGEST: &[u8] = b"leftmost-longest";
 
 /// Where patterns come from.
 #[derive(Clone, Copy)]
@@ -280,9 +284,9 @@ fn read_kind(argument: &[u8]) -> Result<MatchKind, Refusal<'_>>
 {
     if argument == STANDARD {
         Ok(MatchKind::Standard)
-    } else if argument == FIRST {
+    } else if argument == FIRST || argument == LEFTMOST_FIRST {
         Ok(MatchKind::LeftmostFirst)
-    } else if argument == LONGEST {
+    } else if argument == LONGEST || argument == LEFTMOST_LONGEST {
         Ok(MatchKind::LeftmostLongest)
     } else {
         Err(Refusal::Wrong(Wrong::UnknownKind(argument)))

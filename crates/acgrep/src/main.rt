@@ -69,6 +69,7 @@ use std::process::ExitCode;
 use tell::tell_file;
 use tool_parts::closed::{Noted, Quiet};
 use tool_parts::errors::Errors;
+use tool_parts::patient::Patient;
 use tool_parts::reason::Reason;
 use tool_parts::unopened::{DEVICE, fill_closed};
 
@@ -81,7 +82,7 @@ const UNREAD: u8 = 141;
 fn main(rt: HostRuntime) -> ExitCode {
     let filled = fill_closed(&rt, &rt.stdin(), &rt.stdout(), &rt.stderr());
     let reason = Cell::new(None);
-    let mut errors = Errors::new(FromWrite::new(Quiet::new(rt.stderr(), &reason)), &reason);
+    let mut errors = Errors::new(FromWrite::new(Quiet::new(Patient::new(rt.stderr(), &rt), &reason)), &reason);
     if let Err(reason) = filled {
         tell_file(DEVICE.as_bytes(), Obstacle::Fault(reason), &mut errors);
         return ExitCode::from(2);
@@ -97,7 +98,7 @@ fn main(rt: HostRuntime) -> ExitCode {
         terminal: rt.stdout().is_terminal(),
         colors: colors.as_slice(),
     };
-    let noted = Noted::new(rt.stdout(), &reason);
+    let noted = Noted::new(Patient::new(rt.stdout(), &rt), &reason);
     let Ok(output) = BufWriter::with_capacity(rt.alloc(), OUTPUT_CAPACITY, noted) else {
         return ExitCode::from(refuse(&mut errors));
     };
@@ -106,7 +107,7 @@ fn main(rt: HostRuntime) -> ExitCode {
         given.as_slice(),
         &screen,
         &System::new(&rt, &mut rt.stdin()),
-        &mut rt.stdin(),
+        &mut Patient::new(rt.stdin(), &rt),
         &mut FromWrite::new(output),
         &mut errors,
     );

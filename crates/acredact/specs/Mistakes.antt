@@ -97,6 +97,6 @@ mistake_line UnknownKind = kind_line
 mistake_line UnknownForm = form_line
 mistake_line BadName = variable_line
 mistake_line BadSize = size_line
-mistake_line NoPattern = told_line (alone (codes "no pattern: give -e, -f or -t, or --help"))
+mistake_line NoPattern = told_line (alone (codes "no pattern: give -e, -f, -t or --rules builtin, or --help"))
 mistake_line (Mixed mixture) = told_line (alone (mixture_text mixture))
 mistake_line OutOfMemory = told_line (alone (codes "out of memory"))

@@ -1,6 +1,6 @@
 -- Values that are patterns: of variables, of the environment or of a file, and of whole files.
 use Rattle.acredact.specs.Common.{Bor, bytes_eq, ends_with_byte, strip_last}
-use Rattle.std.specs.Prelude.{◌≡◌, ℕ, ◌+◌, ◌-◌, ◌^◌, ◌||◌, ◌&&◌, not, min, Bool, MatchBool, false, true, List, [], ◌∷◌, ◌++◌, Option, Some, None, if◌then◌else◌, length, nat_eq, option_and_then, option_map, unwrap_or}
+use Rattle.std.specs.Prelude.{◌≡◌, ℕ, ◌+◌, ◌-◌, ◌^◌, ◌||◌, ◌&&◌, ◌==◌, not, min, Bool, MatchBool, false, true, List, [], ◌∷◌, ◌++◌, Option, Some, None, if◌then◌else◌, length, nat_eq, option_and_then, option_map, unwrap_or}
 use Rattle.std.specs.List.{filter_map, find, list_all, list_any, starts_with}
 use Rattle.aho_cover.specs.Words.{is_word_part}
 use Rattle.acredact.specs.Forms.{split_first}
@@ -97,9 +97,36 @@ lacks_value values = nat_eq (length values) 0 || list_any no_bytes values
 abbrev pub are_refused : (allow_empty : Bool) → List (List ℕ) → Bool
 are_refused allow_empty values = not allow_empty && lacks_value values
 
--- a value gives what a pattern among the arguments does, and an empty one nothing
+-- the quotes that shells and files of variables put around a value
+abbrev pub is_quote : ℕ → Bool
+is_quote byte = (byte == 34) || (byte == 39)
+
+-- some bytes, if there are any
+abbrev pub some_bytes : List ℕ → Option (List ℕ)
+some_bytes bytes = if no_bytes bytes then None else Some bytes
+
+-- what is within a pair of quotes around a value, if it has one and something is within
+abbrev pub unquoted : List ℕ → Option (List ℕ)
+unquoted [] = None
+unquoted (quote ∷ rest) =
+    if not (is_quote quote) || not (ends_with_byte quote rest) then None else some_bytes (strip_last quote rest)
+
+-- a pattern gives this if there is one, and otherwise nothing
+abbrev pub GivesSome : (parts : Bool) → Option (List ℕ) → List Secret → Type 0
+GivesSome parts None secrets = secrets ≡ []
+GivesSome parts (Some value) secrets = GivesPattern parts value secrets
+
+-- a value gives what a pattern among the arguments does, and one in quotes also what is within them gives: shells drop the quotes, Docker keeps them
+pub record GivesBoth (parts : Bool) (value : List ℕ) (secrets : List Secret) : Type 0 where
+  pub whole : List Secret
+  pub inner : List Secret
+  pub are : secrets ≡ whole ++ inner
+  pub whole_given : GivesPattern parts value whole
+  pub inner_given : GivesSome parts (unquoted value) inner
+
+-- an empty value gives nothing
 abbrev pub GivesValue : (parts : Bool) → List ℕ → List Secret → Type 0
-GivesValue parts value secrets = MatchBool (no_bytes value) (secrets ≡ []) (GivesPattern parts value secrets)
+GivesValue parts value secrets = MatchBool (no_bytes value) (secrets ≡ []) (GivesBoth parts value secrets)
 
 abbrev pub GiveEach : (parts : Bool) → List (List ℕ) → List Secret → Type 0
 GiveEach parts values secrets = EachGives {S = Unit {0}} (λ value some before after. GivesValue parts value some) values secrets tt tt

@@ -288,7 +288,7 @@ fn tell_mistake<E: Sink>(errors: &mut Errors<'_, E>, mistake: Mistake<'_>)
             errors,
             "option '--max-line' takes a number of bytes, from 1 on",
         ),
-        Mistake::NoPattern => tell_alone(errors, "no pattern: give -e, -f or -t, or --help"),
+        Mistake::NoPattern => tell_alone(errors, "no pattern: give -e, -f, -t or --rules builtin, or --help"),
         Mistake::Mixed(mixture) => tell_alone(errors, mixture_text(mixture)),
         Mistake::OutOfMemory => tell_alone(errors, "out of memory"),
     }

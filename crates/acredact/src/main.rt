@@ -93,6 +93,7 @@ use streams::Streams;
 use tool_parts::closed::{Noted, Quiet};
 use tool_parts::errors::Errors;
 use tool_parts::failure::Failure;
+use tool_parts::patient::Patient;
 use tool_parts::unopened::{DEVICE, fill_closed};
 
 /// How many bytes of output are kept before they are written.
@@ -103,7 +104,7 @@ fn main(rt: HostRuntime) -> ExitCode {
     let given = arguments(&rt);
     let reason = Cell::new(None);
     let looked = Cell::new(None);
-    let mut errors = Errors::new(FromWrite::new(Quiet::new(rt.stderr(), &reason)), &reason);
+    let mut errors = Errors::new(FromWrite::new(Quiet::new(Patient::new(rt.stderr(), &rt), &reason)), &reason);
     if let Err(reason) = filled {
         return ExitCode::from(report(&Unread(DEVICE, reason), &mut errors));
     }
@@ -128,7 +129,7 @@ fn main(rt: HostRuntime) -> ExitCode {
         if !matches!(destination, Destination::StandardOutput) {
             let folder = Host::new(&rt, &looked, named);
             let mut streams = Streams {
-                input: FromRead::new(rt.stdin()),
+                input: FromRead::new(Patient::new(rt.stdin(), &rt)),
                 output: FromWrite::new(outputs.idle()),
                 errors,
             };
@@ -147,11 +148,11 @@ fn main(rt: HostRuntime) -> ExitCode {
             return ExitCode::from(status_behind(told, status));
         }
     }
-    let noted = Noted::new(rt.stdout(), &reason);
+    let noted = Noted::new(Patient::new(rt.stdout(), &rt), &reason);
     match BufWriter::with_capacity(rt.alloc(), OUTPUT_CAPACITY, noted) {
         Ok(output) => {
             let mut streams = Streams {
-                input: FromRead::new(rt.stdin()),
+                input: FromRead::new(Patient::new(rt.stdin(), &rt)),
                 output: FromWrite::new(output),
                 errors,
             };

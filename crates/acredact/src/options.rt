@@ -123,8 +123,8 @@ pub fn kind_by(name: &str) -> Option<MatchKind>
     ensures kind { result ≡ kind_by name.now }
 {
     match name {
-        "longest" => Some(MatchKind::LeftmostLongest),
-        "first" => Some(MatchKind::LeftmostFirst),
+        "longest" | "leftmost-longest" => Some(MatchKind::LeftmostLongest),
+        "first" | "leftmost-first" => Some(MatchKind::LeftmostFirst),
         "standard" => Some(MatchKind::Standard),
         _ => None,
     }

@@ -1,11 +1,12 @@
 //! Values that are patterns: of variables, of the environment or of a file, and of whole files.
 
 ghost use Rattle.std.specs.Prelude.{◌≡◌, IfOk, OnOk};
+ghost use Rattle.std.specs.Io.BufRead.{ends_with_byte};
 ghost use Rattle.std.specs.List.{filter_map};
 ghost use Rattle.aho_core.specs.Replacement.{pieces_of};
 ghost use Rattle.acredact.specs.Reads.{bytes_of_names};
 ghost use Rattle.acredact.specs.Tables.{lines_in, stripped_by};
-ghost use Rattle.acredact.specs.Values.{are_refused, behind_equals, fault_of_line, first_fault, is_named, is_no_variable, is_some_value, is_value_text, is_variable_name, lent, value_of_entry, values_in_lines, values_with, whole_in};
+ghost use Rattle.acredact.specs.Values.{are_refused, behind_equals, fault_of_line, first_fault, is_named, is_no_variable, is_quote, is_some_value, is_value_text, is_variable_name, lent, unquoted, value_of_entry, values_in_lines, values_with, whole_in};
 
 use crate::patterns::{
     BadLine, Form, LineFault, ends_in_return, lines_of, part_of, stripped_by, without_last,
@@ -169,6 +170,41 @@ pub fn first_fault(allow_empty: bool, form: Form, text: &[u8]) -> Option<BadLine
         left = more;
     }
     None
+}
+
+/// Whether a byte is a quote that shells and files of variables put around a value.
+fn is_quote(byte: u8) -> bool
+    ensures is { result ≡ is_quote byte }
+{
+    byte == b'"' || byte == b'\''
+}
+
+/// Whether a text ends with this byte.
+fn ends_in(text: &[u8], byte: u8) -> bool
+    ensures ends { result ≡ ends_with_byte byte text.now }
+{
+    match text.split_last() {
+        Some((last, _)) => *last == byte,
+        None => false,
+    }
+}
+
+/// What is within the quotes around a value, if it has a pair of them and something is within.
+pub fn unquoted(value: &[u8]) -> Option<&[u8]>
+    ensures inner { lent result ≡ unquoted value.entry.now }
+{
+    let Some((first, rest)) = value.split_first() else {
+        return None;
+    };
+    let quote = *first;
+    if !is_quote(quote) || !ends_in(rest, quote) {
+        return None;
+    }
+    let inner = without_last(rest, quote);
+    if inner.is_empty() {
+        return None;
+    }
+    Some(inner)
 }
 
 /// The bytes of a whole file without a line end behind them.

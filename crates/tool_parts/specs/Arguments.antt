@@ -12,8 +12,8 @@ use Rattle.tool_parts.specs.declared.command.Task.TheVariants.{Find, Overlap}
 abbrev pub kind_by : List ℕ → Option MatchKind
 kind_by argument =
     if bytes_eq argument (codes "standard") then Some Standard
-    else if bytes_eq argument (codes "first") then Some LeftmostFirst
-    else if bytes_eq argument (codes "longest") then Some LeftmostLongest
+    else if bytes_eq argument (codes "first") || bytes_eq argument (codes "leftmost-first") then Some LeftmostFirst
+    else if bytes_eq argument (codes "longest") || bytes_eq argument (codes "leftmost-longest") then Some LeftmostLongest
     else None
 
 -- PATTERN..: at least one

@@ -78,8 +78,8 @@ pub fn parse_kind(argument: &str) -> Option<MatchKind>
 {
     match argument {
         "standard" => Some(MatchKind::Standard),
-        "first" => Some(MatchKind::LeftmostFirst),
-        "longest" => Some(MatchKind::LeftmostLongest),
+        "first" | "leftmost-first" => Some(MatchKind::LeftmostFirst),
+        "longest" | "leftmost-longest" => Some(MatchKind::LeftmostLongest),
         _ => None,
     }
 }
