@@ -198,8 +198,3 @@ module _ {E : Type 0} (K : SinkGhosts E) (names : List (List ℕ)) (P : List ℕ
   finished hushed shown status status' old mid new before (inl (same, kept)) = rw (same, kept) before
   finished hushed shown status status' old mid new before (inr (two, told)) =
       rw two (status-some K P hushed shown old new (then-some K P old mid new before.tells (some-weaker K (IsMessage names) P mid new may (told names))))
-
--- what may be told of a call may be where its arguments say this
-pub told-said : (known : Known) (left : Option (List ℕ)) (given : Option Said) (line : List ℕ) → MayTell (names_said given) line → MaySaid known left given line
-told-said known left None line is = is
-told-said known left (Some given) line is = inl is
