@@ -1,7 +1,7 @@
 //! `acfind find KIND [-i] PATTERN..` prints the matches of some patterns in standard input, one after another, as lines
 //! `PATTERN START END`: the pattern's number, and the match's range in bytes, without its end. `acfind overlap PATTERN..`
 //! prints all that occur, those that overlap too. `acfind replace P R ..` prints the input with R in the place of each
-//! match of P.
+//! match of P. `acfind --help` and `acfind --version` write a text.
 //!
 //! `-i` is the case rule in the place after KIND alone. Anywhere else it is a pattern of two bytes, as any argument is that
 //! begins with '-': there is no flag after `overlap` and after `replace`.
@@ -9,6 +9,9 @@
 //! The status is 0 where there is a match and 1 where there is none. It is 2 where nothing is searched and 3 where reading
 //! or writing fails, and then a line on standard error says why.
 #![tactic(auto)]
+
+mod help;
+mod kinds;
 
 ghost use Rattle.std.specs.Prelude.{◌≡◌, ◌<◌, ◌≤◌, IfErr, OnErr, OnOk, true};
 ghost use Rattle.std.specs.Process.{exit_status};
@@ -18,6 +21,8 @@ ghost use Rattle.tool_parts.specs.Failures.{HasStatus};
 ghost use Rattle.tool_parts.specs.Streams.{NoFaults, Unread, Unwritten};
 
 use chromesquid::{FromRead, FromWrite};
+use help::{text_of, write_text};
+use kinds::shorten_kind;
 use std::alloc::Global;
 use std::io::{BufWriter, Read, Write};
 use std::process::ExitCode;
@@ -31,21 +36,30 @@ const OUTPUT_CAPACITY: usize = 64 * 1024;
 
 fn main(rt: HostRuntime) -> ExitCode {
     let filled = fill_closed(&rt, &rt.stdin(), &rt.stdout(), &rt.stderr());
-    let given = arguments(&rt);
+    let mut given = arguments(&rt);
     let mut errors = FromWrite::new(rt.stderr());
     if filled.is_err() {
         return ExitCode::from(report(&Failure::Read, &mut errors));
     }
-    match BufWriter::with_capacity(rt.alloc(), OUTPUT_CAPACITY, rt.stdout()) {
-        Ok(output) => exit_code(
-            rt.alloc(),
-            given,
-            &mut FromRead::new(rt.stdin()),
-            &mut FromWrite::new(output),
-            &mut errors,
-        ),
-        Err(_) => ExitCode::from(report(&Failure::OutOfMemory, &mut errors)),
+    let Ok(output) = BufWriter::with_capacity(rt.alloc(), OUTPUT_CAPACITY, rt.stdout()) else {
+        return ExitCode::from(report(&Failure::OutOfMemory, &mut errors));
+    };
+    let mut output = FromWrite::new(output);
+    if let Ok(arguments) = &mut given {
+        if let Some(text) = text_of(arguments.as_slice()) {
+            return ExitCode::from(write_text(text, &mut output, &mut errors));
+        }
+        if shorten_kind(rt.alloc(), arguments).is_err() {
+            return ExitCode::from(report(&Failure::OutOfMemory, &mut errors));
+        }
     }
+    exit_code(
+        rt.alloc(),
+        given,
+        &mut FromRead::new(rt.stdin()),
+        &mut output,
+        &mut errors,
+    )
 }
 
 /// Runs on the arguments, or tells why there are none, and ends with the status.

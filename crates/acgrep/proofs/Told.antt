@@ -5,12 +5,11 @@ use Rattle.std.specs.Prelude.{IfSome, MatchBool, if◌then◌else◌, nat_lt, sl
 use Rattle.tool_parts.proofs.Lines.{tells-none, tells-weaker, then-some}
 use Rattle.std.specs.Str.{is_utf8}
 use Rattle.tool_parts.specs.Messages.{message_of}
-use Rattle.acgrep.specs.Arguments.{Said, origin_of}
+use Rattle.acgrep.specs.Arguments.{origin_of}
 use Rattle.acgrep.specs.Files.{IsNamed, shown_name}
-use Rattle.acgrep.specs.Folders.{Known}
 use Rattle.acgrep.specs.InTurn.{is_enough, seen_after, status_by}
 use Rattle.acgrep.specs.Runs.{origins_of}
-use Rattle.acgrep.specs.Told.{IsMessage, IsToldCause, IsUnopened, MayName, MaySaid, MayTell, StaysOrFails, TellsIf, TellsOfOutcome, TellsOutcome, TellsStatus, files_told, names_said, no_text_text, obstacle_text, shown_names, source_names}
+use Rattle.acgrep.specs.Told.{IsMessage, IsToldCause, IsUnopened, MayName, StaysOrFails, TellsIf, TellsOfOutcome, TellsOutcome, TellsStatus, files_told, no_text_text, obstacle_text, shown_names, source_names}
 use Rattle.acgrep.specs.declared.arguments.Source.TheVariants.{File}
 use Rattle.acgrep.specs.declared.failure.Obstacle.{Obstacle}
 use Rattle.acgrep.specs.declared.failure.Obstacle.TheVariants.{Closed, Fault, Loop, Output}
@@ -198,8 +197,3 @@ module _ {E : Type 0} (K : SinkGhosts E) (names : List (List ℕ)) (P : List ℕ
   finished hushed shown status status' old mid new before (inl (same, kept)) = rw (same, kept) before
   finished hushed shown status status' old mid new before (inr (two, told)) =
       rw two (status-some K P hushed shown old new (then-some K P old mid new before.tells (some-weaker K (IsMessage names) P mid new may (told names))))
-
--- what may be told of a call may be where its arguments say this
-pub told-said : (known : Known) (left : Option (List ℕ)) (given : Option Said) (line : List ℕ) → MayTell (names_said given) line → MaySaid known left given line
-told-said known left None line is = is
-told-said known left (Some given) line is = inl is

@@ -10,7 +10,8 @@ use Rattle.tool_parts.specs.declared.options.misuse.Misuse.TheVariants.{NoArgume
 use Rattle.tool_parts.specs.declared.reason.Reason.TheVariants.{OutOfMemory as NoMemory}
 use Rattle.acgrep.specs.Arguments.{ReadSoFar, Said, argument_by, nothing_said, number_by, switch_by, valued_letter}
 use Rattle.acgrep.specs.Long.{found_by, option_by}
-use Rattle.acgrep.specs.Told.{TellsWrong, binary_parts, color_parts, devices_parts, folders_parts, format_parts, kind_parts, misuse_parts, number_parts, valued_name, wrong_parts}
+use Rattle.acgrep.specs.Folders.{Known}
+use Rattle.acgrep.specs.Told.{IsMessage, MaySaid, TellsWrong, binary_parts, color_parts, devices_parts, folders_parts, format_parts, kind_parts, misuse_parts, number_parts, valued_name, wrong_parts}
 use Rattle.acgrep.specs.declared.arguments.Awaited.{Awaited}
 use Rattle.acgrep.specs.declared.arguments.Awaited.TheVariants.{Argument, Fresh, Operands}
 use Rattle.acgrep.specs.declared.wrong.Refusal.{Refusal}
@@ -138,6 +139,16 @@ TellsBy parts result = IfErr result (IsTold parts)
 abbrev pub IsFirstMistake : List (List ℕ) → Refusal → Type 0
 IsFirstMistake arguments (Wrong wrong) = mistake_by arguments ≡ Some (wrong_parts wrong)
 IsFirstMistake arguments OutOfMemory = Unit {0}
+
+-- a line tells the first mistake of these arguments
+abbrev pub IsMistake : List (List ℕ) → List ℕ → Type 0
+IsMistake arguments line = (parts : List (List ℕ)) × (mistake_by arguments ≡ Some parts) × (line ≡ concat parts)
+
+-- a line that a call with these arguments may write to standard error, by what they say: where they are wrong, their first mistake, or a
+-- message that names no file
+abbrev pub MayTellOf : Known → (left : Option (List ℕ)) → (arguments : List (List ℕ)) → Option Said → List ℕ → Type 0
+MayTellOf known left arguments None = λ line. IsMessage [] line ⊎ IsMistake arguments line
+MayTellOf known left arguments (Some given) = MaySaid known left (Some given)
 
 -- the line that memory ran out
 abbrev pub memory_line : List ℕ

@@ -182,9 +182,9 @@ wrong_parts (UnknownBinary name) = binary_parts name.now
 wrong_parts (UnknownField field) = field_parts field.now
 wrong_parts (NoNumber valued number) = number_parts (valued_name valued) number.now
 
--- that is told of wrong arguments
+-- right arguments may lack a pattern, and nothing else is told of them; it names none of them
 abbrev pub IsUsage : List ℕ → Type 0
-IsUsage line = (wrong : Wrong) × (line ≡ concat (wrong_parts wrong))
+IsUsage line = line ≡ concat (wrong_parts NoPattern)
 
 -- the files of patterns and those that are searched, as they are told; a pattern among the arguments stands there too
 abbrev pub source_names : List Origin → List (List ℕ)
@@ -270,10 +270,6 @@ module _ {E : Type 0} (K : SinkGhosts E) where
   -- why arguments are wrong
   abbrev pub TellsWrong : Wrong → Errors E → Errors E → Type 0
   TellsWrong wrong old new = TellsBytes K old new (concat (wrong_parts wrong))
-
-  -- or that, or another cause
-  abbrev pub TellsRefusal : Errors E → Errors E → Type 0
-  TellsRefusal old new = (names : List (List ℕ)) → TellsSome K (MayTell names) old new
 
   -- why patterns of these sources are not searched for
   abbrev pub TellsOfSources : List Source → Errors E → Errors E → Type 0

@@ -1,7 +1,7 @@
 //! A visitor of lines that writes what is asked of those that rules mark.
 
 ghost use Rattle.std.specs.Prelude.{◌≡◌, IfErr, OnErr, OnOk};
-ghost use Rattle.std.specs.Io.KnownBytes.{Appends};
+ghost use Rattle.std.specs.Io.KnownBytes.{Appends, Keeps};
 ghost use Rattle.aho_devices.specs.Counts.{AppendsBeginning};
 ghost use Rattle.secret_rules.specs.Visitors.{IsVisitRefusal};
 ghost use Rattle.acgrep.specs.Marked.{is_marked, line_len, more_if, pass_behind, task_line};
@@ -13,6 +13,7 @@ use crate::print::{Place, Style};
 use chromesquid::{Match, Sink, StreamError, write_whole};
 use secret_rules::{LineVisitor, Rule};
 use std::alloc::Global;
+use std::cell::Cell;
 
 /// What is written of the lines of a file.
 #[derive(Clone, Copy)]
@@ -47,6 +48,8 @@ pub struct Marked<'o, 's, 'r, W> {
     pub task: Task<'s, 'r>,
     /// How far the file was searched.
     pub pass: Pass,
+    /// How many line ends were read and not visited yet.
+    pub ends: &'o Cell<usize>,
 }
 
 impl<W: Sink> LineVisitor for Marked<'_, '_, '_, W> {
@@ -59,7 +62,9 @@ impl<W: Sink> LineVisitor for Marked<'_, '_, '_, W> {
         old.pass new.pass line.bytes runs };
 
     fn visit(&mut self, line: &[u8], _end: &[u8], runs: &[Match]) -> Result<(), StreamError> {
-        write_marked(&mut *self.output, &self.task, self.pass.place, line, runs)?;
+        let last = is_last(self.ends);
+        let place = self.pass.place;
+        write_marked(&mut *self.output, &self.task, place, line, runs, last)?;
         self.pass = behind(self.pass, line, runs);
         if needs_one(self.task.shown) && is_marked(runs) {
             return Err(StreamError::WriteZero);
@@ -122,14 +127,22 @@ fn behind(pass: Pass, line: &[u8], runs: &[Match]) -> Pass
     }
 }
 
-/// Writes what is asked of a line, and hands it on. It is put together first: where the output cannot be written to the end, what is there
-/// is a beginning of it.
+/// Counts one line end down, and returns whether this was the last that was read: the next read may wait.
+fn is_last(ends: &Cell<usize>) -> bool {
+    let left = ends.get();
+    ends.set(left.saturating_sub(1));
+    left <= 1
+}
+
+/// Writes what is asked of a line, and hands all on at the last line before a read. It is put together first: where the output cannot be
+/// written to the end, what is there is a beginning of it.
 fn write_marked<W: Sink>(
     output: &mut W,
     task: &Task<'_, '_>,
     place: Place,
     line: &[u8],
     runs: &[Match],
+    last: bool,
 ) -> Result<(), StreamError>
     ensures written { OnOk result (Appends (W.taken output.old) (W.taken output.new)
         (task_line task.now place line.now runs.now)) }
@@ -138,7 +151,7 @@ fn write_marked<W: Sink>(
     ensures only { IfErr result IsVisitRefusal }
 {
     if runs.is_empty() || line.is_empty() {
-        return Ok(());
+        return hand_on(last, output);
     }
     let mut page = Vec::new(task.alloc);
     let put = put_marked(
@@ -153,9 +166,17 @@ fn write_marked<W: Sink>(
     let Ok(()) = put else {
         return Err(StreamError::Memory);
     };
-    if page.is_empty() {
-        return Ok(());
-    }
     write_whole(output, page.as_slice())?;
-    output.flush()
+    hand_on(last, output)
+}
+
+/// Hands on what the output keeps, if that is so.
+fn hand_on<W: Sink>(last: bool, output: &mut W) -> Result<(), StreamError>
+    ensures kept { Keeps (W.taken output.old) (W.taken output.new) }
+    ensures only { IfErr result IsVisitRefusal }
+{
+    if last {
+        return output.flush();
+    }
+    Ok(())
 }

@@ -143,14 +143,22 @@ fn mark_reader<A: Automaton, R: Read + Drop, W: Sink, E: Sink>(
     ensures ready { IsMarking A.Automaton marking.new }
 {
     let reason = Cell::new(None);
-    let mut source = FromRead::new(Noting::new(reader, &reason));
+    let ends = Cell::new(0);
+    let mut source = FromRead::new(Noting::new(reader, &reason, &ends));
     let task = Task {
         alloc: job.alloc,
         shown: job.shown,
         style: job.style,
         rules: marking.rules,
     };
-    let came = mark_source(&mut marking.cover, task, job.first, &mut source, output);
+    let came = mark_source(
+        &mut marking.cover,
+        task,
+        job.first,
+        &ends,
+        &mut source,
+        output,
+    );
     marking.long = marking.long.saturating_add(came.pass.long);
     let selected = came.pass.selected;
     match end_of(came, reason.get(), job.shown) {

@@ -11,6 +11,7 @@ use crate::options::Shown;
 use crate::print::Place;
 use chromesquid::{Automaton, Sink, Source, StreamError};
 use secret_rules::{LineCover, LineError, MarkError, visit_lines};
+use std::cell::Cell;
 use tool_parts::reason::Reason;
 
 /// What comes of the lines of a source.
@@ -40,11 +41,13 @@ pub enum End {
     Rule(usize),
 }
 
-/// Writes what is asked of the lines that a source gives, of which the first stands there.
+/// Writes what is asked of the lines that a source gives, of which the first stands there. `ends` holds how many line ends its last read
+/// gave.
 pub fn mark_source<A: Automaton, S: Source, W: Sink>(
     cover: &mut LineCover<'_, '_, A>,
     task: Task<'_, '_>,
     first: Place,
+    ends: &Cell<usize>,
     source: &mut S,
     sink: &mut W,
 ) -> Came
@@ -62,6 +65,7 @@ pub fn mark_source<A: Automaton, S: Source, W: Sink>(
             selected: 0,
             long: 0,
         },
+        ends,
     };
     let walked = mark_with(cover, source, marked);
     let Walked { output, came } = walked;

@@ -9,9 +9,9 @@ ghost use Rattle.acgrep.specs.Arguments.{said, said_by};
 ghost use Rattle.acgrep.specs.Beside.{unfit_said};
 ghost use Rattle.tool_parts.specs.Names.{name_bytes};
 ghost use Rattle.tool_parts.specs.Telling.{Tells, TellsSome};
-ghost use Rattle.acgrep.specs.Told.{IsLoud, MaySaid, MayTell, StaysOrFails, TellsOfCall, TellsOfSaid, TellsOfSearch, TellsRefusal};
+ghost use Rattle.acgrep.specs.Told.{IsLoud, IsMessage, StaysOrFails, TellsOfCall, TellsOfSaid, TellsOfSearch};
 ghost use Rattle.acgrep.specs.ToldByRules.{IsMarkTold, TellsByRules};
-ghost use Rattle.acgrep.specs.Mistakes.{TellsLacking, TellsMistake, TellsNoPattern, TellsRefused, TellsUnfit};
+ghost use Rattle.acgrep.specs.Mistakes.{MayTellOf, TellsLacking, TellsMistake, TellsNoPattern, TellsRefused, TellsUnfit};
 ghost use Rattle.acgrep.specs.Folders.{known_by, tree_of};
 ghost use Rattle.acgrep.specs.Runs.{AsksAny, AsksByRules, AsksToSearch, BeginsNoMatch, BeginsSaid, BeginsSearch, BeginsFor, GivesNone, IfSaid, IsByPatterns, Searches, SearchesFor, SearchesSaid, WritesNoMatch, are_empty, kind_sought, knows_none, lists_finds, origins_of, selects_none, status_told, takes_any, words_sought};
 ghost use Rattle.acgrep.specs.RunsByRules.{BeginsByRules, SearchesByRules};
@@ -63,6 +63,10 @@ pub fn run<F: Open + Folders, R: Read, W: Sink, E: Sink>(
     ensures unfit { IfSaid arguments.now (λ said. AsksAny said → IfSome (unfit_said said) (λ line. result ≡ 2)) }
     ensures unfitting { IfSaid arguments.now (λ s. AsksAny s → IfSome (unfit_said s)
         (λ line. TellsUnfit E.Sink line errors.old errors.new)) }
+    ensures unfit_unread { IfSaid arguments.now (λ s. AsksAny s → IfSome (unfit_said s)
+        (λ line. input.new ≡ input.old)) }
+    ensures unfit_unwritten { IfSaid arguments.now (λ s. AsksAny s → IfSome (unfit_said s)
+        (λ line. Keeps (W.taken output.old) (W.taken output.new))) }
 
     // A search needs a pattern, and where there is none that is told.
     ensures patternless { IfSaid arguments.now (λ said. AsksToSearch said → GivesNone said
@@ -94,13 +98,13 @@ pub fn run<F: Open + Folders, R: Read, W: Sink, E: Sink>(
     // Where the status tells of no error nothing is told, but under `-q` of files that cannot be read. Where it tells of one, a line
     // says why: whole, unless writing it failed. Under `-s` no line names a file that is searched, and there may be none.
     ensures tells { IsByPatterns (said_by (listed_bytes arguments.now))
-        → Tells E.Sink (MaySaid (known_by F.Open F.Folders files.now) (R.remaining input.old)
-        (said_by (listed_bytes arguments.now))) errors.old errors.new }
+        → Tells E.Sink (MayTellOf (known_by F.Open F.Folders files.now) (R.remaining input.old)
+        (listed_bytes arguments.now) (said_by (listed_bytes arguments.now))) errors.old errors.new }
     ensures silent { IfSaid arguments.now (λ s. IsByPatterns (Some s) → s.flags.quiet ≡ false
         → result < 2 → errors.new ≡ errors.old) }
     ensures says_why { IsLoud (said_by (listed_bytes arguments.now)) → result ≡ 2
-        → TellsSome E.Sink (MaySaid (known_by F.Open F.Folders files.now) (R.remaining input.old)
-        (said_by (listed_bytes arguments.now))) errors.old errors.new }
+        → TellsSome E.Sink (MayTellOf (known_by F.Open F.Folders files.now) (R.remaining input.old)
+        (listed_bytes arguments.now) (said_by (listed_bytes arguments.now))) errors.old errors.new }
 
     // By rules a line may tell of these too, and of lines that are too long with any status.
     ensures tells_marks { IfSaid arguments.now (λ said. AsksByRules said
@@ -122,7 +126,6 @@ pub fn run<F: Open + Folders, R: Read, W: Sink, E: Sink>(
 
 /// Tells why the arguments are refused.
 fn tell_refused<E: Sink>(refusal: Refusal<'_>, errors: &mut Errors<'_, E>)
-    ensures told { TellsRefusal E.Sink errors.old errors.new }
     ensures exact { TellsRefused E.Sink refusal.entry errors.old errors.new }
 {
     match refusal {
@@ -134,9 +137,9 @@ fn tell_refused<E: Sink>(refusal: Refusal<'_>, errors: &mut Errors<'_, E>)
 /// Tells that there is no memory to begin with, and answers the exit status.
 pub fn refuse<E: Sink>(errors: &mut Errors<'_, E>) -> u8
     ensures failed { result ≡ 2 }
-    ensures told { TellsSome E.Sink (MayTell []) errors.old errors.new }
+    ensures told { TellsSome E.Sink (IsMessage []) errors.old errors.new }
 {
-    tell_refused(Refusal::OutOfMemory, errors);
+    tell_memory(errors);
     2
 }
 
@@ -183,6 +186,10 @@ fn answer<F: Open + Folders, R: Read, W: Sink, E: Sink>(
     ensures unfit { AsksAny (said given.entry) → IfSome (unfit_said (said given.entry)) (λ line. result ≡ 2) }
     ensures unfitting { AsksAny (said given.entry) → IfSome (unfit_said (said given.entry))
         (λ line. TellsUnfit E.Sink line errors.old errors.new) }
+    ensures unfit_unread { AsksAny (said given.entry) → IfSome (unfit_said (said given.entry))
+        (λ line. input.new ≡ input.old) }
+    ensures unfit_unwritten { AsksAny (said given.entry) → IfSome (unfit_said (said given.entry))
+        (λ line. Keeps (W.taken output.old) (W.taken output.new)) }
     ensures marks { AsksByRules (said given.entry) → result < 2
         → SearchesByRules (known_by F.Open F.Folders files.now) screen.now (said given.entry)
         (R.remaining input.old) (W.taken output.old) (W.taken output.new) result }

@@ -10,6 +10,9 @@ use std::io::ErrorKind;
 /// The system's number of a call that is not permitted, whoever may open the file.
 const NOT_PERMITTED: i32 = 1;
 
+/// Its number of a file that no device or server is behind, as a socket that is opened by its name.
+const NO_DEVICE: i32 = 6;
+
 /// Its number of a stream that is closed, or open for the other direction alone.
 const NO_DESCRIPTOR: i32 = 9;
 
@@ -22,6 +25,8 @@ pub enum Reason {
     Denied,
     /// The system permits no such call.
     NotPermitted,
+    /// No device or server is behind its name: it is a socket, say.
+    NoDevice,
     /// It is a stream that is closed, or open for the other direction alone.
     NoDescriptor,
     /// It supports no such call.
@@ -93,6 +98,7 @@ impl Reason {
     {
         match error.raw_os_error() {
             Some(NOT_PERMITTED) => Reason::NotPermitted,
+            Some(NO_DEVICE) => Reason::NoDevice,
             Some(NO_DESCRIPTOR) => Reason::NoDescriptor,
             _ => Reason::of_kind(error.kind()),
         }
@@ -139,6 +145,7 @@ impl Reason {
             Reason::NotFound => "No such file or directory",
             Reason::Denied => "Permission denied",
             Reason::NotPermitted => "Operation not permitted",
+            Reason::NoDevice => "No such device or address",
             Reason::NoDescriptor => "Bad file descriptor",
             Reason::Unsupported => "Operation not supported",
             Reason::Directory => "Is a directory",

@@ -61,7 +61,7 @@ by-rules g c Does does = record {
 
 pub returns-then-lacks_pattern-clause-told : goal.returns-then-lacks_pattern-clause-told
 returns-then-lacks_pattern-clause-told g c = λ by.
-    status-some g.E.Sink _ _ _ _ _ (some-one g.E.Sink (MaySaid _ _ (Some (said c.args.given))) _ _ (concat (wrong_parts NoPattern)) (inl (inr (NoPattern, refl))) c.tell_wrong.ensures.told)
+    status-some g.E.Sink _ _ _ _ _ (some-one g.E.Sink (MaySaid _ _ (Some (said c.args.given))) _ _ (concat (wrong_parts NoPattern)) (inl (inr refl)) c.tell_wrong.ensures.told)
 
 pub returns-in_default-read_globs-clause-told : goal.returns-in_default-read_globs-clause-told
 returns-in_default-read_globs-clause-told g c = λ by.
@@ -95,6 +95,8 @@ returns-in-Some g c =
       begins = λ asks. inl (Keeps-refl _);
       unfit = λ asks. each_all unfit _ (λ line. refl);
       unfitting = λ asks. some_unfit c.in-Some.unfit unfit (λ line. TellsUnfit g.E.Sink line c.args.errors.now c.tell_unfit.new.errors) c.in-Some.ensures.unfit (inr c.tell_unfit.ensures.told);
+      unfit_unread = λ asks. each_all unfit _ (λ line. refl);
+      unfit_unwritten = λ asks. each_all unfit _ (λ line. Keeps-refl _);
       marks = λ asks low. absurd (omega (arith, low));
       begins_marks = λ asks. inl (Keeps-refl _);
       told_marks = λ asks. unfit_fits c.in-Some.unfit unfit c.in-Some.ensures.unfit asks.fits;

@@ -1,18 +1,18 @@
 -- What was said was done.
-use Rattle.acgrep.proofs.Common.{Errors, Keeps-refl, Refusal, SinkGhosts, TellsBytes, TellsSome, reason_text, some-tells, some-weaker}
+use Rattle.acgrep.proofs.Common.{Errors, Keeps-refl, Refusal, SinkGhosts, TellsBytes, TellsSome, concat, reason_text, some-one, some-tells, some-weaker}
 use Rattle.std.proofs.Common.{◌≡◌, List, None, Option, Some, [], arith, inl, inr, refl, subst, ℕ}
 use Rattle.std.specs.Prelude.{◌||◌}
 use Rattle.tool_parts.specs.declared.reason.Reason.TheVariants.{OutOfMemory as NoMemory}
 use Rattle.acgrep.specs.Arguments.{AreRefused, Said, said, said_by}
 use Rattle.acgrep.specs.Beside.{unfit_said}
-use Rattle.acgrep.specs.Folders.{known_by}
+use Rattle.acgrep.specs.Folders.{Known, known_by}
 use Rattle.acgrep.specs.Listed.{listed_bytes}
-use Rattle.acgrep.specs.Mistakes.{IsFirstMistake, TellsMistake, TellsRefused, TellsUnfit, memory_line}
-use Rattle.acgrep.specs.Told.{MaySaid, names_said, wrong_parts}
+use Rattle.acgrep.specs.Mistakes.{IsFirstMistake, MayTellOf, TellsMistake, TellsRefused, TellsUnfit, memory_line}
+use Rattle.acgrep.specs.Told.{IsMessage, MaySaid, names_said, wrong_parts}
 use Rattle.acgrep.specs.ToldByRules.{IsMarkTold}
 use Rattle.acgrep.specs.declared.wrong.Refusal.TheVariants.{OutOfMemory, Wrong}
 use Rattle.acgrep.proofs.MarksTold.{some-told}
-use Rattle.acgrep.proofs.Told.{not-quiet, tells-cause, told-said}
+use Rattle.acgrep.proofs.Told.{not-quiet, tells-cause}
 use Rattle.acgrep.proofs.Unfitting.{each_all}
 use Rattle.acgrep.proofs.run.run.Goals as goal
 
@@ -26,6 +26,25 @@ refused-memory : {E : Type 0} (K : SinkGhosts E) (told : Option Said) (given : S
     → TellsRefused K refusal old new → TellsBytes K old new memory_line
 refused-memory K told given (Wrong wrong) old new is refused exact = absurd (cc)
 refused-memory K told given OutOfMemory old new is refused exact = exact
+
+-- that memory ran out is a message
+memory-some : {E : Type 0} (K : SinkGhosts E) (names : List (List ℕ)) (old new : Errors E) → TellsBytes K old new memory_line → TellsSome K (IsMessage names) old new
+memory-some K names old new told = tells-cause K names old new None None (reason_text NoMemory) tt (inl (inl (NoMemory, refl))) told
+
+-- a mistake of these arguments is told, or that memory ran out
+mistake-some : {E : Type 0} (K : SinkGhosts E) (known : Known) (left : Option (List ℕ)) (arguments : List (List ℕ)) (old new : Errors E) → TellsMistake K arguments old new
+    → TellsSome K (MayTellOf known left arguments None) old new
+mistake-some K known left arguments old new (inl memory) =
+    some-weaker K (IsMessage []) (MayTellOf known left arguments None) old new (λ line is. inl is) (memory-some K [] old new memory)
+mistake-some K known left arguments old new (inr (parts, is, told)) = some-one K (MayTellOf known left arguments None) old new (concat parts) (inr (parts, is, refl)) told
+
+-- what a refusal tells may be told of these arguments
+refusal-some : {E : Type 0} (K : SinkGhosts E) (known : Known) (left : Option (List ℕ)) (arguments : List (List ℕ)) (given : Option Said) (refusal : Refusal) (old new : Errors E)
+    → IsFirstMistake arguments refusal → AreRefused given refusal → TellsRefused K refusal old new → TellsSome K (MayTellOf known left arguments given) old new
+refusal-some K known left arguments None refusal old new first refused exact = mistake-some K known left arguments old new (mistake-told K arguments refusal old new first exact)
+refusal-some K known left arguments (Some said) refusal old new first refused exact =
+    some-weaker K (IsMessage (names_said (Some said))) (MaySaid known left (Some said)) old new (λ line is. inl (inl is))
+    (memory-some K (names_said (Some said)) old new (refused-memory K (Some said) said refusal old new refl refused exact))
 
 -- what was said is one thing alone
 said-alone : (P : Said → Type 0) (told : Option Said) (mine : Said) → told ≡ Some mine → P mine → (given : Said) → told ≡ Some given → P given
@@ -45,6 +64,8 @@ returns-in-Ok g c =
       unwritten = λ none. absurd (cc read);
       unfit = said-alone _ _ mine read done.unfit;
       unfitting = said-alone _ _ mine read done.unfitting;
+      unfit_unread = said-alone _ _ mine read done.unfit_unread;
+      unfit_unwritten = said-alone _ _ mine read done.unfit_unwritten;
       patternless = said-alone _ _ mine read done.patternless;
       lacking = said-alone _ _ mine read done.lacking;
       searches = said-alone _ _ mine read done.searches;
@@ -68,10 +89,10 @@ returns-in-Err g c =
     let left = g.R.Read.remaining c.args.input.now in
     let old = c.args.errors.now in
     let new = c.tell_refused.new.errors in
-    let told : TellsSome g.E.Sink (MaySaid known left given) old new = some-weaker g.E.Sink _ _ _ _ (told-said known left given) (c.tell_refused.ensures.told (names_said given)) in
+    let told : TellsSome g.E.Sink (MayTellOf known left arguments given) old new = refusal-some g.E.Sink known left arguments given c.in-Err.refusal old new c.in-Err.ensures.wrong c.in-Err.ensures.refused c.tell_refused.ensures.exact in
     let memory = λ (g' : Said) (is : given ≡ Some g'). refused-memory g.E.Sink given g' c.in-Err.refusal old new is c.in-Err.ensures.refused c.tell_refused.ensures.exact in
     let marked = λ (g' : Said) (is : given ≡ Some g').
-    some-told g.E.Sink [] old new (tells-cause g.E.Sink [] old new None None (reason_text NoMemory) tt (inl (inl (NoMemory, refl))) (memory g' is)) in
+    some-told g.E.Sink [] old new (memory-some g.E.Sink [] old new (memory g' is)) in
     record {
       bound = omega arith;
       usage = λ none. refl;
@@ -80,13 +101,15 @@ returns-in-Err g c =
       unwritten = λ none. Keeps-refl _;
       unfit = λ given is asks. each_all (unfit_said given) _ (λ line. refl);
       unfitting = λ given is asks. each_all (unfit_said given) (λ (line : List ℕ). TellsUnfit g.E.Sink line old new) (λ line. inl (memory given is));
+      unfit_unread = λ given is asks. each_all (unfit_said given) _ (λ line. refl);
+      unfit_unwritten = λ given is asks. each_all (unfit_said given) _ (λ line. Keeps-refl _);
       patternless = λ given is asks none. refl;
       lacking = λ given is asks none. inl (memory given is);
       searches = λ given is asks low. absurd (omega (arith, low));
       begins = λ given is asks. inl (Keeps-refl _);
       marks = λ given is asks low. absurd (omega (arith, low));
       begins_marks = λ given is asks. inl (Keeps-refl _);
-      tells = λ by. some-tells g.E.Sink (MaySaid known left given) old new told;
+      tells = λ by. some-tells g.E.Sink (MayTellOf known left arguments given) old new told;
       silent = λ given is by loud low. absurd (omega (arith, low));
       says_why = λ loud failed. told;
       tells_marks = λ given is asks. some-tells g.E.Sink IsMarkTold old new (marked given is);

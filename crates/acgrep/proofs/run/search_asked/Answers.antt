@@ -10,7 +10,7 @@ use Rattle.acgrep.proofs.run.search_asked.Goals.{After-search, In-Some}
 use Rattle.acgrep.proofs.run.search_asked.Goals as goal
 
 pub returns-in-None-clause-told : goal.returns-in-None-clause-told
-returns-in-None-clause-told g c = status-some g.E.Sink _ _ _ _ _ (some-one g.E.Sink _ _ _ (concat (wrong_parts NoPattern)) (inl (inr (NoPattern, refl))) c.tell_wrong.ensures.told)
+returns-in-None-clause-told g c = status-some g.E.Sink _ _ _ _ _ (some-one g.E.Sink _ _ _ (concat (wrong_parts NoPattern)) (inl (inr refl)) c.tell_wrong.ensures.told)
 
 -- where options give patterns, all operands name files
 sources_all : (sources : List Source) (operands : List (List ℕ)) → 0 < length sources

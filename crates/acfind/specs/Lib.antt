@@ -1,0 +1,2 @@
+-- The definitions that the contracts of acfind cite.
+pub mod Kinds
