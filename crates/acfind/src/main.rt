@@ -11,7 +11,6 @@
 #![tactic(auto)]
 
 mod help;
-mod kinds;
 
 ghost use Rattle.std.specs.Prelude.{◌≡◌, ◌<◌, ◌≤◌, IfErr, OnErr, OnOk, true};
 ghost use Rattle.std.specs.Process.{exit_status};
@@ -22,12 +21,12 @@ ghost use Rattle.tool_parts.specs.Streams.{NoFaults, Unread, Unwritten};
 
 use chromesquid::{FromRead, FromWrite};
 use help::{text_of, write_text};
-use kinds::shorten_kind;
 use std::alloc::Global;
 use std::io::{BufWriter, Read, Write};
 use std::process::ExitCode;
 use tool_parts::arguments::arguments;
 use tool_parts::failure::Failure;
+use tool_parts::patient::Patient;
 use tool_parts::run::{report, run};
 use tool_parts::unopened::fill_closed;
 
@@ -36,27 +35,25 @@ const OUTPUT_CAPACITY: usize = 64 * 1024;
 
 fn main(rt: HostRuntime) -> ExitCode {
     let filled = fill_closed(&rt, &rt.stdin(), &rt.stdout(), &rt.stderr());
-    let mut given = arguments(&rt);
-    let mut errors = FromWrite::new(rt.stderr());
+    let given = arguments(&rt);
+    let mut errors = FromWrite::new(Patient::new(rt.stderr(), &rt));
     if filled.is_err() {
         return ExitCode::from(report(&Failure::Read, &mut errors));
     }
-    let Ok(output) = BufWriter::with_capacity(rt.alloc(), OUTPUT_CAPACITY, rt.stdout()) else {
+    let stdout = Patient::new(rt.stdout(), &rt);
+    let Ok(output) = BufWriter::with_capacity(rt.alloc(), OUTPUT_CAPACITY, stdout) else {
         return ExitCode::from(report(&Failure::OutOfMemory, &mut errors));
     };
     let mut output = FromWrite::new(output);
-    if let Ok(arguments) = &mut given {
+    if let Ok(arguments) = &given {
         if let Some(text) = text_of(arguments.as_slice()) {
             return ExitCode::from(write_text(text, &mut output, &mut errors));
-        }
-        if shorten_kind(rt.alloc(), arguments).is_err() {
-            return ExitCode::from(report(&Failure::OutOfMemory, &mut errors));
         }
     }
     exit_code(
         rt.alloc(),
         given,
-        &mut FromRead::new(rt.stdin()),
+        &mut FromRead::new(Patient::new(rt.stdin(), &rt)),
         &mut output,
         &mut errors,
     )

@@ -1,2 +1,0 @@
--- The definitions that the contracts of acfind cite.
-pub mod Kinds
