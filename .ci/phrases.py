@@ -41,12 +41,13 @@ COMMENT_OR_STRING = {
     ".py": r"""(?s)\"{3}.*?\"{3}|#[^\n]*|"(?:[^"\\\n]|\\.)*"|'(?:[^'\\\n]|\\.)*'""",
     "": r"""(?s)'(?:[^'\\\n]|\\.)'|/\*.*?\*/|//[^\n]*|"(?:[^"\\]|\\.)*\"""",
 }
+CODE = "`"  # in the place of code, which no phrase goes over
 SHORT = 12  # a shorter string is a word for a program, not a sentence
 
 
-def blanked(expression, text):
-    """Returns the text with spaces where the expression matches, so that every line keeps its number."""
-    return re.sub(expression, lambda it: re.sub(r"\S", " ", it[0]), text)
+def blanked(expression, text, mark=" "):
+    """Returns the text with a mark for each character where the expression matches, so that every line keeps its number."""
+    return re.sub(expression, lambda it: re.sub(r"\S", mark, it[0]), text)
 
 
 def sentences_of_source(text, ending):
@@ -56,16 +57,16 @@ def sentences_of_source(text, ending):
         if len(it[0]) >= SHORT:
             prose = prose[: it.start()] + it[0] + prose[it.end() :]
     # Marks of comments at the start of a line are no words: a phrase may go on over them.
-    return blanked(r"(?m)^\s*(?://[/!]?|#|\*)", blanked(NAMES, prose))
+    return blanked(r"(?m)^\s*(?://[/!]?|#|\*)", blanked(NAMES, prose, CODE))
 
 
 def prose_of(file, text):
     """Returns the sentences of a file, each where it is in the file, with spaces for everything else."""
     ending = file[file.rindex(".") :]
     if ending == ".md":
-        return blanked(PAGE_CODE, text)
+        return blanked(PAGE_CODE, text, CODE)
     if ending in (".1", ".3"):
-        return blanked(MANUAL_CODE, text)
+        return blanked(MANUAL_CODE, text, CODE)
     return sentences_of_source(text, ending)
 
 
