@@ -22,14 +22,14 @@ PHRASES = {
     "is not valid": r"means nothing",
     "writes, leaks": r"pass(es|ed)? on",
     "single": r"lone",
-    "the name of the thing": r"that of (its|the|a|--)",
+    "the name of the thing": r"that of (its|the|a|(?=--))",
     "in any": r"in whatever",
     "size, length, number": r"how (large|long|many) (it|they) (is|are)",
-    "if no": r"where (no|nothing|none) ",
+    "if no": r"where (no|nothing|none)",
     "allocates": r"takes? (no )?memory",
     "at most; default": r"not of more than",
     "with the option": r"(is|are) asked for",
-    "a whole sentence": r"what (nothing|no)|of (each|several) the|of equal|gives? no \d",
+    "a whole sentence": r"what (nothing|no)|of (each|several) the|of equal|gives? no \d+",
 }
 # A name matches with the letters and digits around it, so a phrase begins and ends with a whole word.
 EXPRESSIONS = [(re.compile(rf"(?i)(?<!\w)(?:{words})(?!\w)".replace(" ", r"\s+")), instead) for instead, words in PHRASES.items()]
@@ -54,7 +54,7 @@ def sentences_of_source(text, ending):
     """Returns the text with spaces for everything except comments and long strings."""
     prose = re.sub(r"\S", " ", text)
     for it in re.finditer(COMMENT_OR_STRING.get(ending, COMMENT_OR_STRING[""]), text):
-        if len(it[0]) >= SHORT:
+        if it[0][0] not in "\"'" or len(it[0]) >= SHORT:
             prose = prose[: it.start()] + it[0] + prose[it.end() :]
     # Marks of comments at the start of a line are no words: a phrase may go on over them.
     return blanked(r"(?m)^\s*(?://[/!]?|#|\*)", blanked(NAMES, prose, CODE))
