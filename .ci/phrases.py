@@ -31,7 +31,7 @@ PHRASES = {
     "with the option": r"(is|are) asked for",
     "a whole sentence": r"what (nothing|no)|of (each|several) the|of equal|gives? no \d+",
 }
-# A name matches with the letters and digits around it, so a phrase begins and ends with a whole word.
+# A phrase begins and ends at the edge of a word.
 EXPRESSIONS = [(re.compile(rf"(?i)(?<!\w)(?:{words})(?!\w)".replace(" ", r"\s+")), instead) for instead, words in PHRASES.items()]
 
 PAGE_CODE = r"(?ms)^\s*```.*?^\s*```|^    [^\n]*|`[^`\n]*(?:\n[^`\n]+)?`|\]\([^)\s]*\)|<!--.*?-->"
@@ -41,7 +41,7 @@ COMMENT_OR_STRING = {
     ".py": r"""(?s)\"{3}.*?\"{3}|#[^\n]*|"(?:[^"\\\n]|\\.)*"|'(?:[^'\\\n]|\\.)*'""",
     "": r"""(?s)'(?:[^'\\\n]|\\.)'|/\*.*?\*/|//[^\n]*|"(?:[^"\\]|\\.)*\"""",
 }
-CODE = "`"  # in the place of code, which no phrase goes over
+CODE = "`"  # replaces code, so that no phrase reaches across it
 SHORT = 12  # a shorter string is a word for a program, not a sentence
 
 
@@ -56,7 +56,7 @@ def sentences_of_source(text, ending):
     for it in re.finditer(COMMENT_OR_STRING.get(ending, COMMENT_OR_STRING[""]), text):
         if it[0][0] not in "\"'" or len(it[0]) >= SHORT:
             prose = prose[: it.start()] + it[0] + prose[it.end() :]
-    # Marks of comments at the start of a line are no words: a phrase may go on over them.
+    # A phrase may continue after the mark of a comment at the start of the next line.
     return blanked(r"(?m)^\s*(?://[/!]?|#|\*)", blanked(NAMES, prose, CODE))
 
 
