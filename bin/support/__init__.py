@@ -1,5 +1,6 @@
-"""What the scripts of bin and .ci in Python share: where things stand, files, processes and pages. `texts` makes random texts, `timing` measures
-programs, `chart` draws a chart, `labels` moves the labels of a picture, `peers` builds the programs of others that are measured beside ours, and `line_rules` is a model of rules."""
+"""What the scripts of bin and .ci in Python share: the folders of this repository, files, processes and pages. `texts` makes random texts,
+`timing` measures programs, `chart` draws a chart, `labels` moves the labels of a picture, `peers` builds the programs of others that
+ours are compared with, and `line_rules` is a model of rules."""
 import argparse, importlib.machinery, importlib.util, os, re, shutil, signal, subprocess, sys, textwrap
 
 TOP = os.path.realpath(os.path.join(os.path.dirname(os.path.realpath(__file__)), "..", ".."))
