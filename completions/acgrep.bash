@@ -8,7 +8,7 @@ _acgrep() {
         option=${COMP_WORDS[COMP_CWORD - 2]} joined=yes
     fi
     case $option in
-    --kind) words='first longest standard' ;;
+    --kind) words='leftmost-first leftmost-longest standard' ;;
     --color) [[ ! $joined ]] || words='always auto never' ;;
     -d | --directories) words='read recurse skip' ;;
     -D | --devices) words='read skip' ;;

@@ -8,7 +8,7 @@ _acredact() {
         option=${COMP_WORDS[COMP_CWORD - 2]} joined=yes
     fi
     case $option in
-    --kind) words='cover first longest standard' ;;
+    --kind) words='cover leftmost-first leftmost-longest standard' ;;
     -e | --pattern | --env | --forms | --after | --max-line | --with) return ;;
     esac
     [[ $words || $word != -* ]] || words='-e --pattern -f --file -t --table --env --env-file --whole -i --ignore-case -w --word --forms --crlf --allow-empty --rules --after --max-line --with --pseudonym --kind --strict --output --in-place --count --summary --check --help --version --'
