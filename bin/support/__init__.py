@@ -1,6 +1,7 @@
-"""What the scripts of bin and .ci in Python share: where things stand, files, processes and pages. `texts` makes random texts, `timing` measures
-programs, `chart` draws a chart, `peers` builds the programs of others that are measured beside ours, and `line_rules` is a model of rules."""
-import argparse, importlib.machinery, importlib.util, os, re, shutil, signal, subprocess, sys
+"""What the scripts of bin and .ci in Python share: the folders of this repository, files, processes and pages. `texts` makes random texts,
+`timing` measures programs, `chart` draws a chart, `labels` moves the labels of a picture, `peers` builds the programs of others that
+ours are compared with, and `line_rules` is a model of rules."""
+import argparse, importlib.machinery, importlib.util, os, re, shutil, signal, subprocess, sys, textwrap
 
 TOP = os.path.realpath(os.path.join(os.path.dirname(os.path.realpath(__file__)), "..", ".."))
 STANDS = os.path.join(TOP, "bin", "program")  # the programs and the C library, as they were proved and built
@@ -72,9 +73,20 @@ def end_of(child, seconds, given=None):
         return None
 
 
+def wrapped(lines):
+    """Yields lines of at most 100 columns, but every row of a table as one line."""
+    for line in "\n".join(lines).split("\n"):
+        if line.startswith("|") or len(line) <= 100:
+            yield line
+        else:
+            indent = "  " if line.startswith(("- ", "  ")) else ""  # the lines of a list stay below its mark
+            yield from textwrap.wrap(line, 100, subsequent_indent=indent, break_long_words=False, break_on_hyphens=False)
+
+
 def write_part(command, lines):
     """Writes these lines into docs/SPEED.md, between the marks that name the command."""
-    page = re.sub(PART.format(re.escape(command)), lambda it: it[1] + "\n".join(lines) + "\n" + it[2], read("docs/SPEED.md"), count=1, flags=re.S)
+    part = "\n".join(wrapped(lines))
+    page = re.sub(PART.format(re.escape(command)), lambda it: f"{it[1]}{part}\n{it[2]}", read("docs/SPEED.md"), count=1, flags=re.S)
     write(os.path.join(TOP, "docs", "SPEED.md"), page)
 
 

@@ -1,4 +1,4 @@
-"""The chart of `bin/speeds --page`: panels of bars, as SVG, on a ground of its own: light, or dark where the reader's pages are."""
+"""The chart of `bin/speeds --page`: panels of bars, as SVG. It has a background of its own, which is dark if the reader prefers dark pages."""
 
 INK, GROUND, BLUE, GREY = "#4b5563", "#ffffff", "#3b82f6", "#9aa3ad"  # the ink has a contrast of more than 4.5 to 1 on its ground, and so in the dark
 DARK = "@media (prefers-color-scheme: dark) { svg { fill: #c9d1d9; } .ground { fill: #0d1117; } }"
@@ -13,7 +13,7 @@ def words_at(x, y, words, size=12, more=""):
 
 
 def bar_at(x, y, length, colour):
-    """A bar from x to the right; one that is too long ends in a cut piece."""
+    """A bar from x to the right. A bar that is too long is cut off, and has a gap before its end."""
     if length <= LONGEST:
         return f'<rect x="{x:g}" y="{y:g}" width="{max(length, 1.5):.1f}" height="11" rx="2" fill="{colour}"/>'
     end = x + LONGEST
@@ -23,8 +23,10 @@ def bar_at(x, y, length, colour):
 
 
 def panel(x, y, title, note, groups, most, shown):
-    """A panel, and where it ends: groups of a label and bars, each of a name and a number. The first bar of a group is ours, and
-    numbers above `most` are cut."""
+    """A panel, and where it ends: groups of a label and bars, each of a name and a number. The first bar of a group is ours. Bars of
+    numbers above `most` are cut off, and the note then says so."""
+    if any(number > most for _, bars in groups for _, number in bars):
+        note += "; a gap marks a bar that is cut off"
     parts = [words_at(x, y, title, 15, ' font-weight="700"'), words_at(x, y + 17, note)]
     y += 30
     for label, bars in groups:

@@ -5,61 +5,62 @@ pub const VERSION: &[u8] = b"acredact 0.1.0\n";
 
 /// What `--help` writes.
 pub const HELP: &[u8] = b"usage: acredact [OPTIONS] [FILE..]
-Writes each FILE with a text in the place of each run of bytes that lie in
-matches of the patterns. FILE '-' is standard input, which is read too where no
-FILE is given.
+Copies each FILE to standard output, with every match of the patterns replaced.
+If no FILE is given, or if FILE is '-', it reads standard input.
 
-Patterns, one at least, or rules:
+Patterns (at least one, or rules):
   -e, --pattern PATTERN redact PATTERN
   -f, --file FILE       redact each line of FILE
-  -t, --table TABLE     redact by TABLE: each line is a pattern, a TAB and its
-                        replacement, where \\t, \\n and \\\\ stand for bytes
-  --env NAME            redact the value of NAME in the environment; NAME* is
-                        each that begins so
+  -t, --table TABLE     redact with replacements from TABLE: each line is a
+                        pattern, a TAB and its replacement, with \\t, \\n and
+                        \\\\ for a TAB, a line end and a backslash
+  --env NAME            redact the value of NAME in the environment: NAME* means
+                        all variables whose names start with NAME
   --env-file FILE       redact the value in each line NAME=VALUE of FILE
-  --whole FILE          redact what FILE holds, without a line end behind it
-  -i, --ignore-case     ASCII letters are the same in both cases
+  --whole FILE          redact the whole content of FILE, without a line end at
+                        its end
+  -i, --ignore-case     redact patterns in upper and lower case (ASCII letters)
+  -w, --word            redact whole words only
   --forms FORMS         redact encoded patterns too: FORMS is all, or some of
                         base64,hex,url,json,xml,shell,lines,json+base64
-  -w, --word            redact what no letter, digit or '_' stands beside
-  --crlf                a carriage return at the end of a line of FILE or TABLE
-                        is no part of it
-  --allow-empty         FILE and TABLE may have no line, and variables no value
+  --crlf                accept lists with Windows line endings
+  --allow-empty         accept empty lists, and unset or empty variables
 
-Rules, which mark what is not known, line by line:
-  --rules FILE          redact by the rules of FILE, TOML as gitleaks has it; by
-                        builtin, those of the program
-  --after KEYWORD       redact what stands behind KEYWORD, up to the next blank,
-                        quote, comma, semicolon, '&' or closing bracket
-  --max-line SIZE       redact a line of more than SIZE bytes whole, not of more
-                        than 1048576
+Rules, for secrets that you cannot list:
+  --rules FILE          redact what the rules of FILE mark, line by line: TOML
+                        in the format of gitleaks, or 'builtin' for the rules of
+                        this program
+  --after KEYWORD       redact what follows KEYWORD in a line, up to the next
+                        blank, quote, comma, semicolon, '&' or closing bracket
+  --max-line SIZE       redact lines longer than SIZE bytes entirely (default:
+                        1048576, 1 MiB)
 
 Replacements:
-  --kind KIND           what is replaced: cover (the default), each byte of each
-                        match; longest, first or standard, one of several that
-                        overlap, and then a part of another can stay
-  --with TEXT           the replacement of patterns that have none of their own,
-                        not '[redacted]'
-  --pseudonym KEYFILE   replace each run by 12 digits, which are the same for
-                        equal runs: HMAC-SHA-256 by the key in KEYFILE; with
-                        --forms, for equal secrets, in whatever form they are
-  --strict              refuse replacements that can spell a pattern with what
-                        stands beside them, and doubtful lines of lists
+  --with TEXT           write TEXT instead of '[redacted]' for each pattern
+                        without a replacement of its own
+  --pseudonym KEYFILE   replace equal runs with equal pseudonyms: 12 digits of
+                        an HMAC-SHA-256 with the key in KEYFILE; with --forms,
+                        of the secret, so its encoded copies get the same one
+  --kind KIND           choose what is replaced: cover (the default), every byte
+                        of every match; leftmost-longest (or longest),
+                        leftmost-first (or first) or standard, one of several
+                        overlapping matches, so a part of another can remain
+  --strict              refuse replacements that can spell a pattern with the
+                        bytes around them, and doubtful lines of lists
 
 Output:
-  --output FILE         write a new file, which takes the place of FILE if all
-                        was redacted
-  --in-place            do so with each FILE
-  --count               write to standard error how often the text of each
-                        pattern was written
-  --summary             write there how many files and bytes were read, and
-                        these counts, as a JSON object
-  --check               write nothing: the status is 1 if something would be
-                        replaced, and 0 if nothing; by rules and with --summary,
-                        write FILE:LINE: and the rule, for each such line
+  --output FILE         replace FILE with the output, if everything was redacted
+  --in-place            replace each FILE with its redaction
+  --count               report on standard error how often each pattern was
+                        replaced
+  --summary             report on standard error how many files and bytes were
+                        read, and how often each pattern was replaced, as JSON
+  --check               write nothing: exit with status 1 if something would be
+                        replaced, and 0 if not; with rules and --summary, print
+                        FILE:LINE: and the rule for each line with a secret
 
 Others:
-  --                    what follows is no option
-  --help                write this text
-  --version             write the version
+  --                    treat all following arguments as files
+  --help                print this help
+  --version             print the version
 ";
