@@ -85,7 +85,8 @@ enum {
                            * searches, or if rows do not fit */
 };
 
-/* The option that has an invalid value. */
+/* The option that has an invalid value. If several have one, the first of these is reported:
+ * CS_SIZE, CS_LATER, then the others in this order. */
 enum {
     CS_MATCH_KIND = 1,
     CS_START_KIND = 2,
@@ -264,7 +265,7 @@ uint32_t cs_replace_all(cs_searcher *searcher, const uint8_t *haystack, size_t h
 
 /* Replaces each run of bytes that lie in matches, so that no byte of a match remains, even if
  * matches overlap or touch. The longest pattern that matches at the start of the run
- * determines the replacement. If a pattern is given twice, the first one wins.
+ * determines the replacement. If several patterns are that long, the first one wins.
  *
  * Returns CS_DONE or CS_NO_ROOM, and allocates, like cs_replace_all.
  *
@@ -318,10 +319,10 @@ uint32_t cs_state_is(cs_searcher *searcher, uint32_t state, cs_state *out);
 /* Stores in `pattern` the number of the pattern at `index` in the list of a state, and returns
  * CS_DONE. The first one is the best of those that end at the current offset.
  *
- * With CS_STANDARD, the list has all patterns that end there: the longest first, then by number.
- * With the leftmost kinds, take the last state that lists patterns before a dead state: the match
- * of the search is the first pattern in its list. An anchored search uses only patterns that are
- * as long as the bytes read so far.
+ * With CS_STANDARD, a state that is not dead lists all patterns that end there: the longest first,
+ * then by number. With the leftmost kinds, take the last state that lists patterns before a dead
+ * state or the end: the match of the search is the first pattern in its list. In an anchored
+ * search, a list counts only if its first pattern is as long as the bytes read so far.
  *
  * Errors: CS_NO_SEARCHER; CS_NO_PATTERN if the state does not list that many patterns. On failure,
  * `pattern` is unchanged. */
@@ -345,8 +346,8 @@ uint32_t cs_stream_new(cs_searcher *searcher, cs_stream *out);
 uint32_t cs_stream_push(cs_stream *stream, const uint8_t *bytes, size_t bytes_len, size_t *taken);
 
 /* Finds the next match in all bytes pushed so far, from the end of the previous match. Returns
- * CS_FOUND and stores the match, with its offsets in the stream, in `found`. Returns CS_DONE if no
- * match is certain yet, or none is left.
+ * CS_FOUND and stores the match, with its offsets in the stream, in `found`: later bytes cannot
+ * change it. Returns CS_DONE if no match is certain yet or, after cs_stream_end, if none is left.
  *
  * With CS_STANDARD, a match is certain as soon as its last byte is pushed. With the leftmost kinds,
  * a match is certain at the first later byte that continues no match that could take its place,
