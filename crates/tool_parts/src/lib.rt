@@ -12,6 +12,7 @@ pub mod errors;
 pub mod failure;
 pub mod options;
 pub mod parts;
+pub mod patient;
 pub mod print;
 pub mod reason;
 mod replace;

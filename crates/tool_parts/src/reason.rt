@@ -13,6 +13,9 @@ const NOT_PERMITTED: i32 = 1;
 /// Its number of a stream that is closed, or open for the other direction alone.
 const NO_DESCRIPTOR: i32 = 9;
 
+/// Its number of a process that has opened as many files as it may.
+const MANY_FILES: i32 = 24;
+
 /// Why a file cannot be opened or read to its end, or the output not be written.
 #[derive(Clone, Copy, PartialEq, Eq)]
 pub enum Reason {
@@ -24,6 +27,8 @@ pub enum Reason {
     NotPermitted,
     /// It is a stream that is closed, or open for the other direction alone.
     NoDescriptor,
+    /// The process has opened as many files as it may.
+    ManyFiles,
     /// It supports no such call.
     Unsupported,
     /// It is a directory.
@@ -94,6 +99,7 @@ impl Reason {
         match error.raw_os_error() {
             Some(NOT_PERMITTED) => Reason::NotPermitted,
             Some(NO_DESCRIPTOR) => Reason::NoDescriptor,
+            Some(MANY_FILES) => Reason::ManyFiles,
             _ => Reason::of_kind(error.kind()),
         }
     }
@@ -140,6 +146,7 @@ impl Reason {
             Reason::Denied => "Permission denied",
             Reason::NotPermitted => "Operation not permitted",
             Reason::NoDescriptor => "Bad file descriptor",
+            Reason::ManyFiles => "Too many open files",
             Reason::Unsupported => "Operation not supported",
             Reason::Directory => "Is a directory",
             Reason::Irregular => "Not a regular file",
