@@ -19,6 +19,8 @@ complete -c acredact -l pseudonym -rF -d 'replace each run by 12 digits, which a
 complete -c acredact -l strict -d 'refuse replacements that can spell a pattern with what stands beside them, and doubtful lines of lists'
 complete -c acredact -l output -rF -d 'write a new file, which takes the place of FILE if all was redacted'
 complete -c acredact -l in-place -d 'put what was redacted in the place of each FILE'
+complete -c acredact -l keep-mode -d 'give a new file the whole mode of the old one, and not only the group permissions that others have too'
+complete -c acredact -l overwrite -d 'write the new file\'s bytes into the old one at the end'
 complete -c acredact -l count -d 'write to standard error how often the text of each pattern was written'
 complete -c acredact -l summary -d 'write to standard error how many files and bytes were read, and the counts, as a JSON object'
 complete -c acredact -l check -d 'write nothing, and tell by the status whether something would be replaced'

@@ -50,6 +50,10 @@ Output:
   --output FILE         write a new file, which takes the place of FILE if all
                         was redacted
   --in-place            do so with each FILE
+  --keep-mode           give a new file the whole mode of the old one, and not
+                        only the group permissions that others have too
+  --overwrite           write the new file's bytes into the old one at the end:
+                        it keeps its owner, rights and links; not atomic
   --count               write to standard error how often the text of each
                         pattern was written
   --summary             write there how many files and bytes were read, and
