@@ -11,7 +11,7 @@ _acredact() {
     --kind) words='cover leftmost-first leftmost-longest standard' ;;
     -e | --pattern | --env | --forms | --after | --max-line | --with) return ;;
     esac
-    [[ $words || $word != -* ]] || words='-e --pattern -f --file -t --table --env --env-file --whole -i --ignore-case -w --word --forms --crlf --allow-empty --rules --after --max-line --with --pseudonym --kind --strict --output --in-place --count --summary --check --help --version --'
+    [[ $words || $word != -* ]] || words='-e --pattern -f --file -t --table --env --env-file --whole -i --ignore-case -w --word --forms --crlf --allow-empty --rules --after --max-line --with --pseudonym --kind --strict --output --in-place --keep-mode --overwrite --count --summary --check --help --version --'
     mapfile -t COMPREPLY < <(compgen -W "$words" -- "$word")
 }
 complete -o default -F _acredact acredact

@@ -19,6 +19,8 @@ complete -c acredact -l kind -x -a 'cover leftmost-first leftmost-longest standa
 complete -c acredact -l strict -d 'refuse replacements that can spell a pattern with the bytes around them, and doubtful lines of lists'
 complete -c acredact -l output -rF -d 'replace FILE with the output, if everything was redacted'
 complete -c acredact -l in-place -d 'replace each FILE by its redaction'
+complete -c acredact -l keep-mode -d 'give the new file the whole mode of the old one, and not only the group permissions that everyone has'
+complete -c acredact -l overwrite -d 'write the finished output into the old file, so that it keeps owner, permissions, access lists and links'
 complete -c acredact -l count -d 'report on standard error how often each pattern was replaced'
 complete -c acredact -l summary -d 'write the numbers of files and bytes read, and the counts, to standard error as JSON'
 complete -c acredact -l check -d 'write nothing; the exit status says whether something would be replaced'

@@ -3,6 +3,7 @@ use Rattle.acredact.specs.Common.{Form, Standard, argument_form, bytes_eq, joine
 use Rattle.std.specs.Prelude.{◌≡◌, ◌⊎◌, ℕ, ◌==◌, ◌++◌, ◌||◌, ◌&&◌, not, Bool, true, false, List, [], ◌∷◌, Option, Some, None, Result, Ok, Err, IfErr, IfOk, codes, is_some, map, option_and_then, unwrap_or, String, Vec, if◌then◌else◌}
 use Rattle.std.specs.Result.{result_ok}
 use Rattle.aho_core.specs.declared.search.MatchKind.{MatchKind}
+use Rattle.aho_core.specs.declared.search.MatchKind.TheVariants.{LeftmostFirst, LeftmostLongest}
 use Rattle.tool_parts.specs.Arguments.{kind_by, texts}
 use Rattle.tool_parts.specs.declared.options.misuse.Misuse.TheVariants.{NoArgument, TakesNone}
 use Rattle.acredact.specs.Forms.{are_forms}
@@ -11,7 +12,7 @@ use Rattle.acredact.specs.LineSizes.{is_size}
 use Rattle.acredact.specs.Mistakes.{letter_line, misuse_line, mistake_line, option_name, value_line, value_name}
 use Rattle.acredact.specs.Values.{is_variable_name}
 use Rattle.acredact.specs.declared.options.Word.{Word}
-use Rattle.acredact.specs.declared.options.Word.TheVariants.{IgnoreCase, Kind, Pattern, Patterns, Table, Env, EnvFile, Whole, With, Pseudonym, Forms, AsWord, Rules, After, MaxLine, Output, InPlace, Count, Summary, Crlf, AllowEmpty, Strict, Check, Help, Version, File}
+use Rattle.acredact.specs.declared.options.Word.TheVariants.{IgnoreCase, Kind, Pattern, Patterns, Table, Env, EnvFile, Whole, With, Pseudonym, Forms, AsWord, Rules, After, MaxLine, Output, InPlace, KeepMode, Overwrite, Count, Summary, Crlf, AllowEmpty, Strict, Check, Help, Version, File}
 use Rattle.acredact.specs.declared.arguments.Expects.{Expects}
 use Rattle.acredact.specs.declared.arguments.Expects.TheVariants.{Any, Value, Name}
 use Rattle.acredact.specs.declared.destination.Destination.{Destination}
@@ -19,10 +20,12 @@ use Rattle.acredact.specs.declared.destination.Destination.TheVariants.{EachFile
 use Rattle.acredact.specs.declared.options.Aim.{Aim}
 use Rattle.acredact.specs.declared.options.Aim.TheVariants.{CheckLines, CheckTexts, Explain, RedactLines, RedactTexts}
 use Rattle.acredact.specs.declared.options.Item.{Item}
+use Rattle.acredact.specs.declared.options.Rights.{Rights}
+use Rattle.acredact.specs.declared.options.Rights.TheVariants.{Every, Mode, Shared}
 use Rattle.acredact.specs.declared.mistakes.Mistake.{Mistake}
 use Rattle.acredact.specs.declared.mistakes.Mistake.TheVariants.{Mixed, OutOfMemory}
 use Rattle.acredact.specs.declared.mistakes.Mixture.{Mixture}
-use Rattle.acredact.specs.declared.mistakes.Mixture.TheVariants.{StrictKind, PseudonymKind, PseudonymWith, PseudonymTable, FormsKind, WordsKind, WordsForms, RulesKind, RulesInPlace, RulesStrict, MaxLineAlone, CountCheck, SummaryCheck, OutputCheck, InPlaceCheck, InPlaceOutput}
+use Rattle.acredact.specs.declared.mistakes.Mixture.TheVariants.{StrictKind, PseudonymKind, PseudonymWith, PseudonymTable, FormsKind, WordsKind, WordsForms, RulesKind, RulesInPlace, RulesStrict, RightsAlone, MaxLineAlone, CountCheck, SummaryCheck, OutputCheck, InPlaceCheck, InPlaceOutput}
 
 -- an option with its value, or a file with its name
 pub record Given : Type 0 where
@@ -46,9 +49,16 @@ takes_value word = is_some (value_name word)
 abbrev pub is_cover : List ℕ → Bool
 is_cover name = bytes_eq name (codes "cover")
 
+-- the match kinds, each by its short name or by its whole one
+abbrev pub kind_named : List ℕ → Option MatchKind
+kind_named name =
+    if bytes_eq name (codes "leftmost-longest") then Some LeftmostLongest
+    else if bytes_eq name (codes "leftmost-first") then Some LeftmostFirst
+    else kind_by name
+
 -- the values that an option can have
 abbrev pub is_value_of : Word → List ℕ → Bool
-is_value_of Kind value = is_cover value || is_some (kind_by value)
+is_value_of Kind value = is_cover value || is_some (kind_named value)
 is_value_of Forms value = are_forms value
 is_value_of Env value = is_variable_name value
 is_value_of MaxLine value = is_size value
@@ -173,6 +183,8 @@ is_same Forms Forms = true
 is_same AsWord AsWord = true
 is_same Output Output = true
 is_same InPlace InPlace = true
+is_same KeepMode KeepMode = true
+is_same Overwrite Overwrite = true
 is_same Count Count = true
 is_same Summary Summary = true
 is_same Crlf Crlf = true
@@ -212,7 +224,7 @@ covers_asked items = is_cover (unwrap_or (last_value Kind items) (codes "cover")
 
 -- the match kind that is searched by: for a cover all matches count, wherever they end
 abbrev pub kind_asked : List Given → MatchKind
-kind_asked items = unwrap_or (option_and_then kind_by (last_value Kind items)) Standard
+kind_asked items = unwrap_or (option_and_then kind_named (last_value Kind items)) Standard
 
 -- whether it is asked for how often the text of each pattern is written: as lines, or in a summary
 abbrev pub counts_asked : List Given → Bool
@@ -229,6 +241,19 @@ words_asked items = covers_asked items && has AsWord items
 abbrev pub gives_rules : List Given → Bool
 gives_rules items = has Rules items || has After items
 
+-- the rights of a new file are of one that is replaced
+abbrev pub rights_mixture_of : List Given → Option Mixture
+rights_mixture_of given =
+    if (has KeepMode given || has Overwrite given) && not (has InPlace given || has Output given) then Some RightsAlone
+    else None
+
+-- which rights a new file gets
+abbrev pub rights_asked : List Given → Rights
+rights_asked given =
+    if has Overwrite given then Every
+    else if has KeepMode given then Mode
+    else Shared
+
 -- the options that do not go together with rules; the length of lines is that of rules
 abbrev pub rules_mixture_of : List Given → Option Mixture
 rules_mixture_of given =
@@ -236,7 +261,7 @@ rules_mixture_of given =
     else if gives_rules given && not (covers_asked given) then Some RulesKind
     else if gives_rules given && has InPlace given then Some RulesInPlace
     else if gives_rules given && has Strict given then Some RulesStrict
-    else None
+    else rights_mixture_of given
 
 -- those of --word and --in-place
 abbrev pub words_mixture_of : List Given → Option Mixture

@@ -1,7 +1,7 @@
 -- What the options give, one after another, and why they do not.
 use Rattle.acredact.specs.Common.{Bor, ReadFault, Reason, is_input}
 use Rattle.std.specs.Prelude.{◌≡◌, ◌⊎◌, ℕ, ◌<◌, ◌≤◌, Bool, true, false, List, [], ◌∷◌, Option, Some, None, IfSome, Result, Err, if◌then◌else◌, length, option_map, Vec}
-use Rattle.std.specs.List.{Any, filter_map}
+use Rattle.std.specs.List.{Any}
 use Rattle.tool_parts.specs.declared.failure.Failure.TheVariants.{OutOfMemory as NoMemory}
 use Rattle.tool_parts.specs.declared.reason.Reason.TheVariants.{OutOfMemory}
 use Rattle.acredact.specs.Pseudonyms.{pseudonym_rule}
@@ -12,7 +12,7 @@ use Rattle.acredact.specs.Named.{all_named}
 use Rattle.acredact.specs.Parts.{GivesPattern}
 use Rattle.acredact.specs.Reads.{EachGives, OfName, ReadsText}
 use Rattle.acredact.specs.Tables.{AreOfLines, Secret, lines_in, secrets_of}
-use Rattle.acredact.specs.Values.{GiveEach, are_refused, first_fault, is_some_value, value_of_entry, values_in_lines, whole_in}
+use Rattle.acredact.specs.Values.{GiveEach, are_refused, first_fault, is_some_value, values_in_entries, values_in_lines, whole_in}
 use Rattle.acredact.specs.declared.options.Word.{Word}
 use Rattle.acredact.specs.declared.options.Word.TheVariants.{Env, EnvFile, Forms, IgnoreCase, Pattern, Patterns, Pseudonym, Table, Whole}
 use Rattle.acredact.specs.declared.failure.Failure.{Failure}
@@ -92,7 +92,7 @@ pub record GivesSecrets (reading : Reading) (listed : Listed) (name : List ℕ) 
 
 -- the values of the entries of this name give these
 abbrev pub GivesEnvironment : Reading → List ℕ → List Secret → Type 0
-GivesEnvironment reading name secrets = (entries : List (List ℕ)) × reading.environment entries × GivesValues reading.rules (filter_map (value_of_entry name) entries) secrets
+GivesEnvironment reading name secrets = (entries : List (List ℕ)) × reading.environment entries × GivesValues reading.rules (values_in_entries name entries) secrets
 
 -- the secrets that an option gives
 abbrev pub OptionGives : Reading → Word → List ℕ → List Secret → (left left' : Option (List ℕ)) → Type 0
@@ -231,14 +231,14 @@ IsListedFailure rules listed file text failure = IsMarkedFailure file text failu
 -- no variable that has a value is called so, and a value of some variable is: it is not told
 abbrev pub IsValueForName : Rules → List (List ℕ) → List ℕ → Type 0
 IsValueForName rules entries name =
-    (are_refused rules.allow_empty (filter_map (value_of_entry name) entries) ≡ true) × (is_some_value entries name ≡ true)
+    (are_refused rules.allow_empty (values_in_entries name entries) ≡ true) × (is_some_value entries name ≡ true)
 
 -- nor do the values of the environment
 abbrev pub IsEnvironmentFailure : Reading → List ℕ → Failure → Type 0
 IsEnvironmentFailure reading name failure =
     ((entries : List (List ℕ)) × reading.environment entries
     × (((failure ≡ ValueForName) × IsValueForName reading.rules entries name)
-    ⊎ ((IsValueForName reading.rules entries name → ⊥) × IsValuesFailure reading.rules name (filter_map (value_of_entry name) entries) failure)))
+    ⊎ ((IsValueForName reading.rules entries name → ⊥) × IsValuesFailure reading.rules name (values_in_entries name entries) failure)))
     ⊎ (failure ≡ Other NoMemory)
 
 -- the text is that of the list, where the folder tells it

@@ -8,7 +8,7 @@ use Rattle.tool_parts.specs.declared.options.misuse.Misuse.TheVariants.{NotFound
 use Rattle.acredact.specs.Mistakes.{misuse_line}
 use Rattle.acredact.specs.declared.long.Row.{Row}
 use Rattle.acredact.specs.declared.options.Word.{Word}
-use Rattle.acredact.specs.declared.options.Word.TheVariants.{IgnoreCase, Kind, Pattern, Patterns, Table, Env, EnvFile, Whole, With, Pseudonym, Forms, AsWord, Rules, After, MaxLine, Output, InPlace, Count, Summary, Crlf, AllowEmpty, Strict, Check, Help, Version}
+use Rattle.acredact.specs.declared.options.Word.TheVariants.{IgnoreCase, Kind, Pattern, Patterns, Table, Env, EnvFile, Whole, With, Pseudonym, Forms, AsWord, Rules, After, MaxLine, Output, InPlace, KeepMode, Overwrite, Count, Summary, Crlf, AllowEmpty, Strict, Check, Help, Version}
 
 -- an option with its long name
 abbrev pub named_row : Row → Named Word
@@ -35,6 +35,8 @@ all_options = named (codes "ignore-case") IgnoreCase
     ∷ named (codes "allow-empty") AllowEmpty
     ∷ named (codes "output") Output
     ∷ named (codes "in-place") InPlace
+    ∷ named (codes "keep-mode") KeepMode
+    ∷ named (codes "overwrite") Overwrite
     ∷ named (codes "count") Count
     ∷ named (codes "summary") Summary
     ∷ named (codes "strict") Strict

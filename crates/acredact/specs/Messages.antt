@@ -37,6 +37,18 @@ no_file_line name = line_about name (codes "standard input cannot be replaced")
 abbrev pub no_output_line : List ℕ → List ℕ
 no_output_line name = line_about name (codes "standard output is no file: leave out --output")
 
+-- the line that tells that the output would replace a file of patterns, rules or a key: its name, and no byte of it
+abbrev pub own_list_line : List ℕ → List ℕ
+own_list_line name = line_about name (codes "output file also gives patterns, rules or a key")
+
+-- the line that warns that a new file did not get all permissions of its group: its name alone
+abbrev pub narrowed_line : List ℕ → List ℕ
+narrowed_line name = line_about name (codes "warning: group permissions removed: --keep-mode keeps them, --overwrite keeps every right")
+
+-- the line that names the complete redaction of a file that was overwritten only in part
+abbrev pub complete_line : List ℕ → List ℕ
+complete_line name = line_about name (codes "this file holds the complete output")
+
 -- the line that tells something of what has a number
 abbrev pub numbered_line : (what : List ℕ) → ℕ → (why : List ℕ) → List ℕ
 numbered_line what number why = codes "acredact" ++ (what ++ (decimal number ++ why))

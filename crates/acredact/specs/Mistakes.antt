@@ -8,7 +8,7 @@ use Rattle.acredact.specs.Messages.{alone, told_line}
 use Rattle.acredact.specs.declared.mistakes.Mistake.{Mistake}
 use Rattle.acredact.specs.declared.mistakes.Mistake.TheVariants.{UnknownLetter, NotFound, NoValue, TakesNone, UnknownKind, UnknownForm, BadName, BadSize, NoPattern, Mixed, OutOfMemory}
 use Rattle.acredact.specs.declared.mistakes.Mixture.{Mixture}
-use Rattle.acredact.specs.declared.mistakes.Mixture.TheVariants.{StrictKind, PseudonymKind, PseudonymWith, PseudonymTable, FormsKind, WordsKind, WordsForms, RulesKind, RulesInPlace, RulesStrict, MaxLineAlone, CountCheck, SummaryCheck, OutputCheck, InPlaceCheck, InPlaceOutput}
+use Rattle.acredact.specs.declared.mistakes.Mixture.TheVariants.{StrictKind, PseudonymKind, PseudonymWith, PseudonymTable, FormsKind, WordsKind, WordsForms, RulesKind, RulesInPlace, RulesStrict, RightsAlone, MaxLineAlone, CountCheck, SummaryCheck, OutputCheck, InPlaceCheck, InPlaceOutput}
 use Rattle.acredact.specs.declared.options.Word.{Word}
 use Rattle.acredact.specs.declared.options.Word.TheVariants.{Kind, Pattern, Patterns, Table, Env, EnvFile, Whole, With, Pseudonym, Forms, Rules, After, MaxLine, Output}
 
@@ -24,6 +24,7 @@ mixture_text WordsForms = codes "--word and --forms do not go together: a form c
 mixture_text RulesKind = codes "--rules and --after need --kind cover: what rules mark may overlap"
 mixture_text RulesInPlace = codes "--in-place does not go with --rules and --after: give --output"
 mixture_text RulesStrict = codes "--strict does not go with --rules and --after: it promises nothing of what rules mark"
+mixture_text RightsAlone = codes "--keep-mode and --overwrite need --in-place or --output: without them no file is replaced"
 mixture_text MaxLineAlone = codes "--max-line needs --rules or --after: without them no line is kept"
 mixture_text SummaryCheck = codes "--summary and --check do not go together without rules: a check counts nothing"
 mixture_text OutputCheck = codes "--output and --check do not go together: a check writes nothing"

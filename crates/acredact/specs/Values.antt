@@ -1,7 +1,7 @@
 -- Values that are patterns: of variables, of the environment or of a file, and of whole files.
 use Rattle.acredact.specs.Common.{Bor, bytes_eq, ends_with_byte, strip_last}
-use Rattle.std.specs.Prelude.{◌≡◌, ℕ, ◌+◌, ◌-◌, ◌^◌, ◌||◌, ◌&&◌, ◌==◌, not, min, Bool, MatchBool, false, true, List, [], ◌∷◌, ◌++◌, Option, Some, None, if◌then◌else◌, length, nat_eq, option_and_then, option_map, unwrap_or}
-use Rattle.std.specs.List.{filter_map, find, list_all, list_any, starts_with}
+use Rattle.std.specs.Prelude.{◌≡◌, ℕ, ◌+◌, ◌-◌, ◌^◌, ◌||◌, ◌&&◌, not, min, Bool, MatchBool, false, true, List, [], ◌∷◌, ◌++◌, Option, Some, None, if◌then◌else◌, length, nat_eq, option_and_then, option_map, unwrap_or}
+use Rattle.std.specs.List.{find, flat_map, list_all, list_any, starts_with}
 use Rattle.aho_cover.specs.Words.{is_word_part}
 use Rattle.acredact.specs.Forms.{split_first}
 use Rattle.acredact.specs.Parts.{GivesPattern}
@@ -45,10 +45,35 @@ is_value_text text (Some value) = bytes_eq value text || bytes_eq value (strip_l
 abbrev pub is_some_value : List (List ℕ) → List ℕ → Bool
 is_some_value entries text = list_any (λ entry. is_value_text text (behind_equals entry)) entries
 
--- a value more, if there is one
+abbrev pub no_bytes : List ℕ → Bool
+no_bytes value = nat_eq (length value) 0
+
+-- the quotes that shells leave out around a value
+abbrev pub is_quote : ℕ → Bool
+is_quote byte = nat_eq byte 34 || nat_eq byte 39
+
+-- a value without the quotes around it, where it has two equal ones and something between them
+abbrev pub unquoted : List ℕ → Option (List ℕ)
+unquoted [] = None
+unquoted (first ∷ rest) =
+    if is_quote first && (ends_with_byte first rest && not (no_bytes (strip_last first rest))) then Some (strip_last first rest) else None
+
+-- a value, and that without quotes
+abbrev pub with_inner : List ℕ → Option (List ℕ) → List (List ℕ)
+with_inner value None = value ∷ []
+with_inner value (Some inner) = value ∷ inner ∷ []
+
+abbrev pub spellings_in : Option (List ℕ) → List (List ℕ)
+spellings_in None = []
+spellings_in (Some value) = with_inner value (unquoted value)
+
+-- a value more in each way, if there is one
 abbrev pub values_with : List (List ℕ) → Option (List ℕ) → List (List ℕ)
-values_with values None = values
-values_with values (Some value) = values ++ (value ∷ [])
+values_with values value = values ++ spellings_in value
+
+-- those of the entries of the environment that have a name
+abbrev pub values_in_entries : (name : List ℕ) → List (List ℕ) → List (List ℕ)
+values_in_entries name entries = flat_map (λ entry. spellings_in (value_of_entry name entry)) entries
 
 -- a line of a file of variables that is blank, or a comment, holds none
 abbrev pub is_no_variable : List ℕ → Bool
@@ -59,10 +84,7 @@ value_in_line line = if is_no_variable line then None else behind_equals line
 
 -- and those of some lines
 abbrev pub values_in_lines : Form → List (List ℕ) → List (List ℕ)
-values_in_lines form lines = filter_map (λ line. value_in_line (stripped_by form line)) lines
-
-abbrev pub no_bytes : List ℕ → Bool
-no_bytes value = nat_eq (length value) 0
+values_in_lines form lines = flat_map (λ line. spellings_in (value_in_line (stripped_by form line))) lines
 
 -- what is wrong with such a line: no equals sign stands in it, or its value is empty and may not be
 abbrev pub fault_of_value : (allow_empty : Bool) → Option (List ℕ) → Option LineFault
@@ -97,36 +119,9 @@ lacks_value values = nat_eq (length values) 0 || list_any no_bytes values
 abbrev pub are_refused : (allow_empty : Bool) → List (List ℕ) → Bool
 are_refused allow_empty values = not allow_empty && lacks_value values
 
--- the quotes that shells and files of variables put around a value
-abbrev pub is_quote : ℕ → Bool
-is_quote byte = (byte == 34) || (byte == 39)
-
--- some bytes, if there are any
-abbrev pub some_bytes : List ℕ → Option (List ℕ)
-some_bytes bytes = if no_bytes bytes then None else Some bytes
-
--- what is within a pair of quotes around a value, if it has one and something is within
-abbrev pub unquoted : List ℕ → Option (List ℕ)
-unquoted [] = None
-unquoted (quote ∷ rest) =
-    if not (is_quote quote) || not (ends_with_byte quote rest) then None else some_bytes (strip_last quote rest)
-
--- a pattern gives this if there is one, and otherwise nothing
-abbrev pub GivesSome : (parts : Bool) → Option (List ℕ) → List Secret → Type 0
-GivesSome parts None secrets = secrets ≡ []
-GivesSome parts (Some value) secrets = GivesPattern parts value secrets
-
--- a value gives what a pattern among the arguments does, and one in quotes also what is within them gives: shells drop the quotes, Docker keeps them
-pub record GivesBoth (parts : Bool) (value : List ℕ) (secrets : List Secret) : Type 0 where
-  pub whole : List Secret
-  pub inner : List Secret
-  pub are : secrets ≡ whole ++ inner
-  pub whole_given : GivesPattern parts value whole
-  pub inner_given : GivesSome parts (unquoted value) inner
-
--- an empty value gives nothing
+-- a value gives what a pattern among the arguments does, and an empty one nothing
 abbrev pub GivesValue : (parts : Bool) → List ℕ → List Secret → Type 0
-GivesValue parts value secrets = MatchBool (no_bytes value) (secrets ≡ []) (GivesBoth parts value secrets)
+GivesValue parts value secrets = MatchBool (no_bytes value) (secrets ≡ []) (GivesPattern parts value secrets)
 
 abbrev pub GiveEach : (parts : Bool) → List (List ℕ) → List Secret → Type 0
 GiveEach parts values secrets = EachGives {S = Unit {0}} (λ value some before after. GivesValue parts value some) values secrets tt tt

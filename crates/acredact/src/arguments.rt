@@ -2,7 +2,7 @@
 
 ghost use Rattle.std.specs.Prelude.{◌≡◌, ◌++◌, [], ◌∷◌, Ok, Some, IfErr, IfOk, OnOk, string_bytes};
 ghost use Rattle.tool_parts.specs.Arguments.{texts};
-ghost use Rattle.acredact.specs.Arguments.{FailsAs, IsMistake, IsMistakeOfCall, ReadsAs, all_asked, all_given, by_any, by_argument, given, given_by, is_value_of, by_joined, by_letters, mixture_of, by_name, by_taken, rules_mixture_of, words_mixture_of, by_value};
+ghost use Rattle.acredact.specs.Arguments.{FailsAs, IsMistake, IsMistakeOfCall, ReadsAs, all_asked, all_given, by_any, by_argument, given, given_by, is_value_of, by_joined, by_letters, mixture_of, by_name, by_taken, rights_mixture_of, rules_mixture_of, words_mixture_of, by_value};
 
 use crate::forms::are_forms;
 use crate::line_size::size_of;
@@ -103,6 +103,17 @@ fn rules_mixture_of(items: &[Item<'_>]) -> Option<Mixture>
     }
     if rules && has(items, Word::Strict) {
         return Some(Mixture::RulesStrict);
+    }
+    rights_mixture_of(items)
+}
+
+/// That of `--keep-mode` or `--overwrite`, where no file is replaced.
+fn rights_mixture_of(items: &[Item<'_>]) -> Option<Mixture>
+    ensures mixture { result ≡ rights_mixture_of (all_given items.now) }
+{
+    let rights = has(items, Word::KeepMode) || has(items, Word::Overwrite);
+    if rights && !(has(items, Word::InPlace) || has(items, Word::Output)) {
+        return Some(Mixture::RightsAlone);
     }
     None
 }

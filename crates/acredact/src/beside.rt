@@ -4,9 +4,11 @@ ghost use Rattle.std.specs.Prelude.{◌≡◌, None, OnOk, is_some, true, ⊤};
 
 use crate::folder::Place;
 use crate::held::{Held, lock};
-use crate::left::{folder_of, name_beside, remove_left};
+use crate::left::{complete_name, folder_of, name_beside, remove_left};
+use crate::options::Rights;
 use crate::outputs::Outputs;
-use crate::seen::{Seen, known, stays_at};
+use crate::overwriting::Overwriting;
+use crate::seen::{Seen, known, place_at, stays_at};
 use chromesquid::FromWrite;
 use std::alloc::{AllocError, Global};
 use std::cell::Cell;
@@ -65,6 +67,15 @@ struct Made {
     seen: Seen,
 }
 
+/// What has to be told of a file.
+#[derive(Drop)]
+pub enum Notice {
+    /// The new file of this name did not get all permissions of its group.
+    Narrowed(String),
+    /// The file of this name is complete, and another one was overwritten with its bytes only in part.
+    Complete(String),
+}
+
 /// New files of the process, each in the folder of the one whose place it is to take.
 #[derive(Drop)]
 pub struct Beside<'c, 'l, 'r, R> {
@@ -74,6 +85,10 @@ pub struct Beside<'c, 'l, 'r, R> {
     rt: &'r R,
     /// The number of the process.
     process: u32,
+    /// Which rights a new file gets.
+    rights: Rights,
+    /// What has to be told.
+    notices: Vec<Notice>,
     /// Where it is noted why a file cannot be written.
     reason: &'c Cell<Option<Reason>>,
     /// Where it is noted which file is to be replaced.
@@ -92,6 +107,7 @@ impl<'c, 'l, 'r, R: Files<File = File>> Beside<'c, 'l, 'r, R> {
         alloc: Global,
         rt: &'r R,
         process: u32,
+        rights: Rights,
         reason: &'c Cell<Option<Reason>>,
         looked: &'l Cell<Option<Place>>,
     ) -> Beside<'c, 'l, 'r, R>
@@ -104,6 +120,8 @@ impl<'c, 'l, 'r, R: Files<File = File>> Beside<'c, 'l, 'r, R> {
             alloc,
             rt,
             process,
+            rights,
+            notices: Vec::new(alloc),
             reason,
             looked,
             cleared: None,
@@ -174,20 +192,94 @@ impl<'c, 'l, 'r, R: Files<File = File>> Beside<'c, 'l, 'r, R> {
         ensures held { self.new.held ≡ self.old.held }
     {
         let _locked = lock(&file);
-        let other = known(file.try_clone())?;
-        let seen = Seen::of(&known(file.metadata())?);
-        self.made = Some(Made {
-            name,
-            file: other,
-            seen,
-        });
-        Ok(file)
+        match other_handle(&file) {
+            Ok((other, seen)) => {
+                self.made = Some(Made {
+                    name,
+                    file: other,
+                    seen,
+                });
+                Ok(file)
+            }
+            Err(reason) => {
+                let _removed = fs::remove_file(self.rt, name.as_str());
+                Err(reason)
+            }
+        }
+    }
+
+    /// What has to be told of files.
+    pub fn notices(&self) -> &[Notice] {
+        self.notices.as_slice()
+    }
+
+    /// That the new file of this name does not get all permissions of its group, where it does not. There is room for it then.
+    fn narrowed(&mut self, name: &str) -> Result<Option<Notice>, AllocError> {
+        let narrowed = match &self.held {
+            Some(held) => permissions_by(self.rights, &held.seen) != held.seen.permissions(),
+            None => false,
+        };
+        if !narrowed {
+            return Ok(None);
+        }
+        self.notices.reserve(1)?;
+        Ok(Some(Notice::Narrowed(String::from_str(self.alloc, name)?)))
+    }
+
+    /// Overwrites the file of this name with the bytes of the new one, and removes that. Where the file is overwritten only in part, the new
+    /// one stays.
+    fn overwrite(&mut self, made: &Made, name: &str) -> Result<(), Reason> {
+        known(made.file.sync_all())?;
+        let Some(held) = &self.held else {
+            return Err(Reason::NotFound);
+        };
+        held.stays(self.rt, name)?;
+        let place = made.seen.place;
+        let new = made.name.as_str();
+        stays_at(self.rt, new, Some(place))?;
+        let over = Overwriting::new(self.rt, (new, place), (name, held.seen.place))?;
+        let Ok(complete) = complete_name(self.alloc, name, self.process) else {
+            return Err(Reason::OutOfMemory);
+        };
+        if place_at(self.rt, complete.as_str())?.is_some() {
+            return Err(Reason::Exists);
+        }
+        if self.notices.reserve(1).is_err() {
+            return Err(Reason::OutOfMemory);
+        }
+        known(fs::rename(self.rt, new, complete.as_str()))?;
+        self.sync_folder(name);
+        match over.copy() {
+            Ok(()) => {
+                let _removed = fs::remove_file(self.rt, complete.as_str());
+                Ok(())
+            }
+            Err(reason) => {
+                let _noted = self.notices.push(Notice::Complete(complete));
+                Err(reason)
+            }
+        }
+    }
+
+    /// Has the new file, or its bytes, take the place of the one of this name.
+    fn place(&mut self, made: &Made, name: &str) -> Result<(), Reason> {
+        if self.held.is_some() && self.rights == Rights::Every {
+            return self.overwrite(made, name);
+        }
+        let Ok(notice) = self.narrowed(name) else {
+            return Err(Reason::OutOfMemory);
+        };
+        self.replace(made, name)?;
+        if let Some(notice) = notice {
+            let _noted = self.notices.push(notice);
+        }
+        Ok(())
     }
 
     /// Has the new file take the place of the one of this name.
     fn replace(&self, made: &Made, name: &str) -> Result<(), Reason> {
         if let Some(held) = &self.held {
-            give(&made.file, &made.seen, &held.seen)?;
+            give(&made.file, &made.seen, &held.seen, self.rights)?;
         }
         known(made.file.sync_all())?;
         match &self.held {
@@ -221,14 +313,30 @@ impl<'c, 'l, 'r, R: Files<File = File>> Beside<'c, 'l, 'r, R> {
     }
 }
 
+/// Another handle of a file, and what is looked at of it.
+fn other_handle(file: &File) -> Result<(File, Seen), Reason> {
+    let other = known(file.try_clone())?;
+    let seen = Seen::of(&known(file.metadata())?);
+    Ok((other, seen))
+}
+
+/// Which permissions a new file gets that replaces another one.
+fn permissions_by(rights: Rights, old: &Seen) -> u32 {
+    match rights {
+        Rights::Shared => old.shared_permissions(),
+        Rights::Mode | Rights::Every => old.permissions(),
+    }
+}
+
 /// Gives a new file the owner and the group of another one, and then its permissions.
-fn give(file: &File, made: &Seen, old: &Seen) -> Result<(), Reason> {
+fn give(file: &File, made: &Seen, old: &Seen, rights: Rights) -> Result<(), Reason> {
     if made.owner != old.owner || made.group != old.group {
         if fchown(file, Some(old.owner), Some(old.group)).is_err() {
             return Err(Reason::Owner);
         }
     }
-    known(file.set_permissions(Permissions::from_mode(old.permissions())))
+    let permissions = permissions_by(rights, old);
+    known(file.set_permissions(Permissions::from_mode(permissions)))
 }
 
 impl<'c, R: Files<File = File>> Outputs for Beside<'c, '_, '_, R> {
@@ -264,17 +372,19 @@ impl<'c, R: Files<File = File>> Outputs for Beside<'c, '_, '_, R> {
         name: &str,
         _file: &FromWrite<Slot<BufWriter<Noted<'c, File>>>>,
     ) -> Result<(), Reason> {
-        let Some(made) = &self.made else {
+        let Some(made) = self.made.take() else {
             return Err(Reason::NotFound);
         };
-        match self.replace(made, name) {
+        match self.place(&made, name) {
             Ok(()) => {
                 self.sync_folder(name);
-                self.made = None;
                 self.end();
                 Ok(())
             }
-            Err(reason) => Err(reason),
+            Err(reason) => {
+                self.made = Some(made);
+                Err(reason)
+            }
         }
     }
 

@@ -6,7 +6,7 @@ ghost use Rattle.tool_parts.specs.Telling.{TellsBytes, TellsSome};
 ghost use Rattle.acredact.specs.Calls.{IsRefusedLine};
 ghost use Rattle.acredact.specs.Failures.{EndsCall, IsFailureLine, IsOtherLine, bad_line, is_of_output, short_line};
 ghost use Rattle.acredact.specs.LineFaults.{line_fault_text};
-ghost use Rattle.acredact.specs.Messages.{alone, line_about, no_file_line, no_output_line, numbered_line, output_line, told_line, unclean_line};
+ghost use Rattle.acredact.specs.Messages.{alone, complete_line, line_about, narrowed_line, no_file_line, no_output_line, numbered_line, output_line, own_list_line, told_line, unclean_line};
 ghost use Rattle.acredact.specs.Mistakes.{mistake_line, misuse_line, mixture_text, named_line};
 
 use crate::clean::{Flaw, Unclean};
@@ -31,6 +31,10 @@ const NO_PATTERN: &str = "no pattern: give --allow-empty to allow it";
 
 /// What is told of a variable without a value.
 const NO_VALUE: &str = "no value: give --allow-empty to pass it over";
+
+/// What is told of a new file that did not get all permissions of its group.
+const NARROWED: &str =
+    "warning: group permissions removed: --keep-mode keeps them, --overwrite keeps every right";
 
 /// What is told of a pattern that holds a line end, behind its number.
 const LINE_END: &[u8] = b" holds a line end: it stands in no line, and rules go line by line\n";
@@ -148,6 +152,31 @@ pub fn tell_no_output<E: Sink>(errors: &mut Errors<'_, E>, name: &str)
         name,
         "standard output is no file: leave out --output",
     );
+}
+
+/// Tells as a line that the output would replace a file of patterns, rules or a key.
+pub fn tell_own_list<E: Sink>(errors: &mut Errors<'_, E>, name: &str)
+    ensures told { TellsBytes E.Sink errors.old errors.new (own_list_line name.now) }
+{
+    tell_about(
+        errors,
+        name,
+        "output file also gives patterns, rules or a key",
+    );
+}
+
+/// Warns as a line that a new file did not get all permissions of its group.
+pub fn tell_narrowed<E: Sink>(errors: &mut Errors<'_, E>, name: &str)
+    ensures told { TellsBytes E.Sink errors.old errors.new (narrowed_line name.now) }
+{
+    tell_about(errors, name, NARROWED);
+}
+
+/// Tells as a line that this file is the complete redaction of one that was overwritten only in part.
+pub fn tell_complete<E: Sink>(errors: &mut Errors<'_, E>, name: &str)
+    ensures told { TellsBytes E.Sink errors.old errors.new (complete_line name.now) }
+{
+    tell_about(errors, name, "this file holds the complete output");
 }
 
 /// Tells as a line what is wrong with something, and why.
@@ -288,7 +317,10 @@ fn tell_mistake<E: Sink>(errors: &mut Errors<'_, E>, mistake: Mistake<'_>)
             errors,
             "option '--max-line' takes a number of bytes, from 1 on",
         ),
-        Mistake::NoPattern => tell_alone(errors, "no pattern: give -e, -f, -t or --rules builtin, or --help"),
+        Mistake::NoPattern => tell_alone(
+            errors,
+            "no pattern: give -e, -f, -t or --rules builtin, or --help",
+        ),
         Mistake::Mixed(mixture) => tell_alone(errors, mixture_text(mixture)),
         Mistake::OutOfMemory => tell_alone(errors, "out of memory"),
     }
@@ -342,6 +374,9 @@ fn mixture_text(mixture: Mixture) -> &'static str
         }
         Mixture::RulesStrict => {
             "--strict does not go with --rules and --after: it promises nothing of what rules mark"
+        }
+        Mixture::RightsAlone => {
+            "--keep-mode and --overwrite need --in-place or --output: without them no file is replaced"
         }
         Mixture::MaxLineAlone => {
             "--max-line needs --rules or --after: without them no line is kept"

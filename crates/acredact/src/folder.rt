@@ -108,7 +108,7 @@ impl<'c, 'n, 'r, R: Files> Host<'c, 'n, 'r, R> {
 }
 
 /// The regular file that a name leads to, if it does.
-fn place_of<R: Files>(rt: &R, name: &str) -> Option<Place> {
+pub fn place_of<R: Files>(rt: &R, name: &str) -> Option<Place> {
     match fs::metadata(rt, name) {
         Ok(metadata) if metadata.is_file() => Some(Place::of(&metadata)),
         _ => None,

@@ -51,6 +51,11 @@ Replacements:
 Output:
   --output FILE         replace FILE with the output, if everything was redacted
   --in-place            replace each FILE with its redaction
+  --keep-mode           give the new file the whole mode of the old one, and not
+                        only the group permissions that everyone has
+  --overwrite           write the finished output into the old file, so that it
+                        keeps owner, permissions, access lists and links; this
+                        is not atomic
   --count               report on standard error how often each pattern was
                         replaced
   --summary             report on standard error how many files and bytes were

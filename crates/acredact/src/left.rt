@@ -11,6 +11,9 @@ use std::{fs, io};
 /// name by chance: what looks like it is removed.
 const MARK: &str = ".acredact-unfinished-";
 
+/// What stands there in the name of a complete new file, while its bytes are written into the old one. No call removes what is called so.
+const COMPLETE: &str = ".acredact-complete-";
+
 /// How many bytes of names are read of a folder at once. A name has 255 at most.
 const ROOM: usize = 8192;
 
@@ -22,6 +25,11 @@ pub fn name_beside(
     number: usize,
 ) -> Result<String, AllocError> {
     format!(in alloc; "{name}{MARK}{process}-{number}")
+}
+
+/// The name that a new file has while the one of this name is overwritten with its bytes.
+pub fn complete_name(alloc: Global, name: &str, process: u32) -> Result<String, AllocError> {
+    format!(in alloc; "{name}{COMPLETE}{process}")
 }
 
 /// The name of the folder of a file, with which a path of a file in it begins.

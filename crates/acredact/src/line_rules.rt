@@ -87,11 +87,8 @@ fn add_after<'a>(alloc: Global, rules: &mut Vec<LineRule>, keyword: &str) -> Res
     let rule = LineRule::after(alloc, keyword)?;
     match flaw_of(alloc, &rule)? {
         None => Ok(push_rule(rules, rule)?),
-        Some(flaw) => {
-            // The message must not repeat the keyword: it may be a secret that was given by mistake.
-            let unnamed = LineRule::after(alloc, "")?;
-            Err(no_rule(alloc, AFTER, 1, &unnamed, flaw))
-        }
+        // The rule is called as its keyword, which may be a secret: it is told by a number.
+        Some(flaw) => Err(no_rule(alloc, AFTER, 1, &LineRule::after(alloc, "")?, flaw)),
     }
 }
 

@@ -9,7 +9,7 @@ ghost use Rattle.acredact.specs.Calls.{AreGivenBy, CannotGiveBy, rules_asked};
 ghost use Rattle.acredact.specs.Loading.{CannotLoad, CannotLoadKey, CannotRead, GivesEnvironment, GivesSecrets, GivesValues, HoldsByKind, HoldsSecrets, HoldsVariables, IsEnvironmentFailure, IsFileFailure, IsKeyGiven, IsKindFailure, IsValuesFailure, IsVariablesFailure, IsPatternFailure, IsTextFailure, IsTextReason, OptionGives, is_failed_text, key_in, reading_of_lists, rules_for};
 ghost use Rattle.acredact.specs.Parts.{AddsSome, ArePartsBy, GivesPattern};
 ghost use Rattle.acredact.specs.Reads.{OfName, ReadsText};
-ghost use Rattle.acredact.specs.Values.{GivesBoth, GivesSome, GivesValue, lent};
+ghost use Rattle.acredact.specs.Values.{GivesValue};
 ghost use Rattle.acredact.specs.declared.options.Word.TheVariants.{Pseudonym};
 ghost use Rattle.acredact.specs.declared.failure.Failure.TheVariants.{Pattern};
 ghost use Rattle.acredact.specs.declared.patterns.LineFault.TheVariants.{OutOfMemory};
@@ -23,7 +23,7 @@ use crate::parts::add_parts;
 use crate::patterns::{BadLine, Form, LineFault, Place, add_line, add_lines, mark_of};
 use crate::rule::Rule;
 use crate::values::{
-    are_refused, first_fault, is_some_value, unquoted, values_in_text, values_of_entries, whole_in,
+    are_refused, first_fault, is_some_value, values_in_text, values_of_entries, whole_in,
 };
 use chromesquid::{FromRead, Source};
 use std::alloc::Global;
@@ -209,7 +209,7 @@ fn add_values<'a, F>(
     Ok(())
 }
 
-/// Adds the rule of a value, and that of what is within quotes around it. An empty value has none.
+/// Adds the rule of a value, if that is not empty.
 fn add_value<F>(
     lists: &Lists<'_, '_, F>,
     rules: &mut Vec<Rule>,
@@ -221,40 +221,9 @@ fn add_value<F>(
     if value.is_empty() {
         return Ok(());
     }
-    match add_both(lists, rules, value, list) {
+    match add_pattern(lists, rules, value, list) {
         Ok(()) => Ok(()),
         Err(_) => Err(LineFault::OutOfMemory),
-    }
-}
-
-/// Adds the rule of a value that is not empty, and that of what is within quotes around it.
-fn add_both<'a, F>(
-    lists: &Lists<'_, '_, F>,
-    rules: &mut Vec<Rule>,
-    value: &[u8],
-    list: usize,
-) -> Result<(), Failure<'a>>
-    ensures added { OnOk result (AddsSome (GivesBoth lists.now.parts value.now) rules.old rules.new) }
-{
-    match add_pattern(lists, rules, value, list) {
-        Ok(()) => {}
-        Err(failure) => return Err(failure),
-    }
-    add_within(lists, rules, unquoted(value), list)
-}
-
-/// Adds the rule of what is within quotes, if there is something.
-fn add_within<'a, F>(
-    lists: &Lists<'_, '_, F>,
-    rules: &mut Vec<Rule>,
-    inner: Option<&[u8]>,
-    list: usize,
-) -> Result<(), Failure<'a>>
-    ensures added { OnOk result (AddsSome (GivesSome lists.now.parts (lent inner.entry)) rules.old rules.new) }
-{
-    match inner {
-        Some(inner) => add_pattern(lists, rules, inner, list),
-        None => Ok(()),
     }
 }
 

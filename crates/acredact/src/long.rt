@@ -35,6 +35,8 @@ const ROWS: &[Row] = &[
     Row(b"allow-empty", Word::AllowEmpty),
     Row(b"output", Word::Output),
     Row(b"in-place", Word::InPlace),
+    Row(b"keep-mode", Word::KeepMode),
+    Row(b"overwrite", Word::Overwrite),
     Row(b"count", Word::Count),
     Row(b"summary", Word::Summary),
     Row(b"strict", Word::Strict),

@@ -39,6 +39,8 @@ mod mistakes;
 mod named;
 mod options;
 mod outputs;
+mod overwriting;
+mod own_lists;
 mod parts;
 mod patterns;
 mod prepare;
@@ -73,16 +75,19 @@ ghost use Rattle.acredact.specs.Checks.{MatchedAsked, UnmatchedAsked};
 ghost use Rattle.acredact.specs.Ruled.{RuledAsked, RuledBegins};
 ghost use Rattle.acredact.specs.RuledChecks.{RuledFound, RuledClean};
 
-use apart::{Apart, Told, arguments, status_behind, tell_apart};
-use beside::Beside;
+use apart::{Apart, Told, arguments as text_arguments, status_behind, tell_apart};
+use arguments::items;
+use beside::{Beside, Notice};
 use chromesquid::{FromRead, FromWrite, Sink};
 use destination::{Destination, read_destination};
-use failure::Failure::Unread;
-use failure::{FAILED, refuse, report};
+use failure::Failure::{Arguments, Unread};
+use failure::{FAILED, refuse, report, tell_complete, tell_narrowed, tell_own_list};
 use folder::{Folder, Host};
 use in_place::replace_in_place;
 use into::make_and_run;
+use options::rights_of;
 use outputs::Outputs;
+use own_lists::own_list;
 use run::run;
 use std::alloc::Global;
 use std::cell::Cell;
@@ -101,10 +106,13 @@ const OUTPUT_CAPACITY: usize = 64 * 1024;
 
 fn main(rt: HostRuntime) -> ExitCode {
     let filled = fill_closed(&rt, &rt.stdin(), &rt.stdout(), &rt.stderr());
-    let given = arguments(&rt);
+    let given = text_arguments(&rt);
     let reason = Cell::new(None);
     let looked = Cell::new(None);
-    let mut errors = Errors::new(FromWrite::new(Quiet::new(Patient::new(rt.stderr(), &rt), &reason)), &reason);
+    let mut errors = Errors::new(
+        FromWrite::new(Quiet::new(Patient::new(rt.stderr(), &rt), &reason)),
+        &reason,
+    );
     if let Err(reason) = filled {
         return ExitCode::from(report(&Unread(DEVICE, reason), &mut errors));
     }
@@ -117,11 +125,23 @@ fn main(rt: HostRuntime) -> ExitCode {
         }
         let arguments = apart.arguments.as_slice();
         let number = process::id(rt.process());
-        let mut outputs = Beside::new(rt.alloc(), &rt, number, &reason, &looked);
         let destination = match read_destination(rt.alloc(), arguments) {
             Ok(destination) => destination,
             Err(failure) => return ExitCode::from(report(&failure, &mut errors)),
         };
+        let given = match items(rt.alloc(), arguments) {
+            Ok(given) => given,
+            Err(mistake) => {
+                return ExitCode::from(report(&Arguments(mistake), &mut errors));
+            }
+        };
+        let given = given.as_slice();
+        if let Some(name) = own_list(&rt, given) {
+            tell_own_list(&mut errors, name);
+            return ExitCode::from(FAILED);
+        }
+        let rights = rights_of(given);
+        let mut outputs = Beside::new(rt.alloc(), &rt, number, rights, &reason, &looked);
         let named = match destination {
             Destination::NewFile(name) => Some(name),
             _ => None,
@@ -145,6 +165,7 @@ fn main(rt: HostRuntime) -> ExitCode {
                 ),
                 None => { replace_in_place(alloc, arguments, &folder, &mut outputs, &mut streams) }
             };
+            tell_notices(&mut streams.errors, outputs.notices());
             return ExitCode::from(status_behind(told, status));
         }
     }
@@ -165,6 +186,16 @@ fn main(rt: HostRuntime) -> ExitCode {
             )
         }
         Err(_) => ExitCode::from(refuse(Failure::OutOfMemory, &mut errors)),
+    }
+}
+
+/// Tells what has to be told of new files.
+fn tell_notices<E: Sink>(errors: &mut Errors<'_, E>, notices: &[Notice]) {
+    for notice in notices {
+        match notice {
+            Notice::Narrowed(name) => tell_narrowed(errors, name.as_str()),
+            Notice::Complete(name) => tell_complete(errors, name.as_str()),
+        }
     }
 }
 

@@ -30,6 +30,8 @@ pub enum Mixture {
     RulesInPlace,
     /// `--rules` or `--after` with `--strict`, which promises nothing of what rules mark.
     RulesStrict,
+    /// `--keep-mode` or `--overwrite` with neither `--in-place` nor `--output`: no file is replaced.
+    RightsAlone,
     /// `--max-line` without rules: no line is kept.
     MaxLineAlone,
     /// `--count` with `--check`, which counts nothing.

@@ -1,8 +1,7 @@
 //! The options of a call: which there are, and what was given.
 
 ghost use Rattle.std.specs.Prelude.{◌≡◌, option_map};
-ghost use Rattle.tool_parts.specs.Arguments.{kind_by};
-ghost use Rattle.acredact.specs.Arguments.{aim_of, all_given, counts_asked, covers_asked, given, has, in_place_asked, is_cover, is_same, kind_asked, last_value, output_asked, takes_value, gives_pattern, gives_rules, words_asked};
+ghost use Rattle.acredact.specs.Arguments.{aim_of, all_given, counts_asked, covers_asked, given, has, in_place_asked, is_cover, is_same, kind_asked, kind_named, last_value, output_asked, rights_asked, takes_value, gives_pattern, gives_rules, words_asked};
 ghost use Rattle.acredact.specs.Mistakes.{value_name};
 
 use chromesquid::MatchKind;
@@ -44,6 +43,10 @@ pub enum Word {
     Output,
     /// `--in-place`: each file is replaced, and nothing goes to standard output.
     InPlace,
+    /// `--keep-mode`: the new file gets the whole mode of the file that it replaces.
+    KeepMode,
+    /// `--overwrite`: the old file is overwritten with the bytes of the new one.
+    Overwrite,
     /// `--count`: how often the text of each pattern was written is told.
     Count,
     /// `--summary`: how much was read, and how often the text of each pattern was written, is told as JSON.
@@ -62,6 +65,17 @@ pub enum Word {
     Version,
     /// A file that is read; `-` is standard input.
     File,
+}
+
+/// What a new file gets of the rights of the file that it replaces.
+#[derive(Clone, Copy, PartialEq, Eq)]
+pub enum Rights {
+    /// The permissions of the owner and of others, and those of the group that others have too.
+    Shared,
+    /// The whole mode.
+    Mode,
+    /// Every right: the old file stays and is overwritten.
+    Every,
 }
 
 /// What a call is to do.
@@ -120,7 +134,7 @@ pub fn takes_value(word: Word) -> bool
 
 /// The match kind of this name.
 pub fn kind_by(name: &str) -> Option<MatchKind>
-    ensures kind { result ≡ kind_by name.now }
+    ensures kind { result ≡ kind_named name.now }
 {
     match name {
         "longest" | "leftmost-longest" => Some(MatchKind::LeftmostLongest),
@@ -194,6 +208,19 @@ pub fn replaces_in_place(items: &[Item<'_>]) -> bool
     ensures asked { result ≡ in_place_asked (all_given items.now) }
 {
     has(items, Word::InPlace) && !has(items, Word::Help) && !has(items, Word::Version)
+}
+
+/// Which rights a new file gets.
+pub fn rights_of(items: &[Item<'_>]) -> Rights
+    ensures rights { result ≡ rights_asked (all_given items.now) }
+{
+    if has(items, Word::Overwrite) {
+        return Rights::Every;
+    }
+    if has(items, Word::KeepMode) {
+        return Rights::Mode;
+    }
+    Rights::Shared
 }
 
 /// Whether a cover is asked for: so it is where no kind is given.

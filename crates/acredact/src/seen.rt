@@ -14,6 +14,9 @@ use tool_parts::reason::Reason;
 /// Who may read, write and run a file, without the bits by which a program runs as another user.
 const PERMISSIONS: u32 = 0o777;
 
+/// The same without those of its group.
+const UNGROUPED: u32 = 0o707;
+
 /// What is looked at of a file that is opened.
 #[derive(Clone, Copy, PartialEq, Eq)]
 pub struct Seen {
@@ -54,6 +57,23 @@ impl Seen {
             changed: metadata.ctime(),
             changed_part: metadata.ctime_nsec(),
         }
+    }
+
+    /// The same, but of its group only what others may too: where the file has an access list, the bits of its group are what the list
+    /// allows at most, and not what its group may.
+    pub fn shared_permissions(&self) -> u32 {
+        self.mode & UNGROUPED
+            | self.of_group(0o040, 0o004)
+            | self.of_group(0o020, 0o002)
+            | self.of_group(0o010, 0o001)
+    }
+
+    /// This bit of its group, where others have this one.
+    fn of_group(&self, group: u32, others: u32) -> u32 {
+        if self.mode & others == 0 {
+            return 0;
+        }
+        self.mode & group
     }
 
     /// Who may read, write and run it. By no bit of this a program runs as another user.

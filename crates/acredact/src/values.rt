@@ -2,11 +2,10 @@
 
 ghost use Rattle.std.specs.Prelude.{◌≡◌, IfOk, OnOk};
 ghost use Rattle.std.specs.Io.BufRead.{ends_with_byte};
-ghost use Rattle.std.specs.List.{filter_map};
 ghost use Rattle.aho_core.specs.Replacement.{pieces_of};
 ghost use Rattle.acredact.specs.Reads.{bytes_of_names};
 ghost use Rattle.acredact.specs.Tables.{lines_in, stripped_by};
-ghost use Rattle.acredact.specs.Values.{are_refused, behind_equals, fault_of_line, first_fault, is_named, is_no_variable, is_quote, is_some_value, is_value_text, is_variable_name, lent, unquoted, value_of_entry, values_in_lines, values_with, whole_in};
+ghost use Rattle.acredact.specs.Values.{are_refused, behind_equals, fault_of_line, first_fault, is_named, is_no_variable, is_quote, is_some_value, is_value_text, is_variable_name, lent, unquoted, value_of_entry, values_in_entries, values_in_lines, values_with, whole_in};
 
 use crate::patterns::{
     BadLine, Form, LineFault, ends_in_return, lines_of, part_of, stripped_by, without_last,
@@ -47,14 +46,14 @@ fn value_of_entry<'e>(name: &[u8], entry: &'e [u8]) -> Option<&'e [u8]>
     }
 }
 
-/// The values of those entries of the environment that have this name.
+/// The values of those entries of the environment that have this name, each with its quotes and without.
 pub fn values_of_entries<'e>(
     alloc: Global,
     entries: &'e [Vec<u8>],
     name: &[u8],
 ) -> Result<Vec<&'e [u8]>, AllocError>
     ensures values { IfOk result (λ values. pieces_of values.items
-        ≡ filter_map (value_of_entry name.now) (bytes_of_names entries.entry.now)) }
+        ≡ values_in_entries name.now (bytes_of_names entries.entry.now)) }
 {
     let mut values = Vec::new(alloc);
     for entry in entries {
@@ -85,13 +84,49 @@ fn is_value_text(text: &[u8], value: Option<&[u8]>) -> bool
     }
 }
 
-/// Adds a value, if there is one.
+/// Whether a byte is a quote that shells leave out around a value.
+fn is_quote(byte: u8) -> bool
+    ensures quote { result ≡ is_quote byte }
+{
+    byte == b'"' || byte == b'\''
+}
+
+/// Whether a text ends in this byte.
+fn ends_in(text: &[u8], byte: u8) -> bool
+    ensures ends { result ≡ ends_with_byte byte text.now }
+{
+    match text.split_last() {
+        Some((last, _)) => *last == byte,
+        None => false,
+    }
+}
+
+/// A value without the quotes around it, where it has two equal ones and something between them.
+fn unquoted(value: &[u8]) -> Option<&[u8]>
+    ensures unquoted { lent result ≡ unquoted value.entry.now }
+{
+    match value.split_first() {
+        Some((first, rest)) => {
+            let inner = without_last(rest, *first);
+            if is_quote(*first) && ends_in(rest, *first) && !inner.is_empty() {
+                return Some(inner);
+            }
+            None
+        }
+        None => None,
+    }
+}
+
+/// Adds a value, if there is one, and that without the quotes around it, if it has some.
 fn push_value<'e>(values: &mut Vec<&'e [u8]>, value: Option<&'e [u8]>) -> Result<(), AllocError>
     ensures pushed { OnOk result (pieces_of values.new.items
         ≡ values_with (pieces_of values.old.items) (lent value.entry)) }
 {
     if let Some(value) = value {
         values.push(value)?;
+        if let Some(inner) = unquoted(value) {
+            values.push(inner)?;
+        }
     }
     Ok(())
 }
@@ -113,7 +148,7 @@ fn behind_equals(text: &[u8]) -> Option<&[u8]>
     part_of(text, b'=').1
 }
 
-/// The values in a text of variables, one in each line.
+/// The values in a text of variables, one in each line, each with its quotes and without.
 pub fn values_in_text<'t>(
     alloc: Global,
     form: Form,
@@ -170,41 +205,6 @@ pub fn first_fault(allow_empty: bool, form: Form, text: &[u8]) -> Option<BadLine
         left = more;
     }
     None
-}
-
-/// Whether a byte is a quote that shells and files of variables put around a value.
-fn is_quote(byte: u8) -> bool
-    ensures is { result ≡ is_quote byte }
-{
-    byte == b'"' || byte == b'\''
-}
-
-/// Whether a text ends with this byte.
-fn ends_in(text: &[u8], byte: u8) -> bool
-    ensures ends { result ≡ ends_with_byte byte text.now }
-{
-    match text.split_last() {
-        Some((last, _)) => *last == byte,
-        None => false,
-    }
-}
-
-/// What is within the quotes around a value, if it has a pair of them and something is within.
-pub fn unquoted(value: &[u8]) -> Option<&[u8]>
-    ensures inner { lent result ≡ unquoted value.entry.now }
-{
-    let Some((first, rest)) = value.split_first() else {
-        return None;
-    };
-    let quote = *first;
-    if !is_quote(quote) || !ends_in(rest, quote) {
-        return None;
-    }
-    let inner = without_last(rest, quote);
-    if inner.is_empty() {
-        return None;
-    }
-    Some(inner)
 }
 
 /// The bytes of a whole file without a line end behind them.

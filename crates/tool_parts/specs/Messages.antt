@@ -1,7 +1,7 @@
 -- A message on standard error: `PROGRAM: NAME: line N: CAUSE` and a line end.
 use Rattle.std.specs.Prelude.{ℕ, List, [], ◌++◌, Option, Some, None, codes, decimal}
 use Rattle.tool_parts.specs.declared.reason.Reason.{Reason}
-use Rattle.tool_parts.specs.declared.reason.Reason.TheVariants.{NotFound, Denied, NotPermitted, NoDevice, NoDescriptor, Unsupported, Directory, Irregular, NoDirectory, Links, LongName, Invalid, Full, TooLarge, Quota, ReadOnly, Busy, Runs, Stale, Late, Exists, OtherDevice, ManyLinks, NotSeekable, Interrupted, Unavailable, Locked, NoLock, Changed, Owner, Closed, OutOfMemory, PositionLimit, ReadFault, Fault}
+use Rattle.tool_parts.specs.declared.reason.Reason.TheVariants.{NotFound, Denied, NotPermitted, NoDevice, NoDescriptor, ManyFiles, Unsupported, Directory, Irregular, NoDirectory, Links, LongName, Invalid, Full, TooLarge, Quota, ReadOnly, Busy, Runs, Stale, Late, Exists, OtherDevice, ManyLinks, NotSeekable, Interrupted, Unavailable, Locked, NoLock, Changed, Owner, Closed, OutOfMemory, PositionLimit, ReadFault, Fault}
 
 -- what a message tells: of what and of which line of it, where it says that, and why something was not done
 pub record Message : Type 0 where
@@ -36,6 +36,7 @@ reason_text Denied = codes "Permission denied"
 reason_text NotPermitted = codes "Operation not permitted"
 reason_text NoDevice = codes "No such device or address"
 reason_text NoDescriptor = codes "Bad file descriptor"
+reason_text ManyFiles = codes "Too many open files"
 reason_text Unsupported = codes "Operation not supported"
 reason_text Directory = codes "Is a directory"
 reason_text Irregular = codes "Not a regular file"

@@ -5,7 +5,7 @@ use Rattle.std.specs.declared.io.Error.{Error}
 use Rattle.std.specs.declared.io.ErrorKind.{ErrorKind}
 use Rattle.std.specs.declared.io.ErrorKind.TheVariants.{NotFound, PermissionDenied, Unsupported, BrokenPipe, WouldBlock, NotADirectory, IsADirectory, FilesystemLoop, InvalidInput, StorageFull, QuotaExceeded, FileTooLarge, InvalidFilename, Interrupted, OutOfMemory, ReadOnlyFilesystem, ResourceBusy, ExecutableFileBusy, StaleNetworkFileHandle, TimedOut, AlreadyExists, CrossesDevices, TooManyLinks, NotSeekable}
 use Rattle.tool_parts.specs.declared.reason.Reason.{Reason}
-use Rattle.tool_parts.specs.declared.reason.Reason.TheVariants.{NotFound as Missing, Denied, NotPermitted, NoDevice, NoDescriptor, Unsupported as NoSuchCall, Directory, NoDirectory, Links, LongName, Invalid, Full, TooLarge, Quota, ReadOnly, Busy, Runs, Stale, Late, Exists, OtherDevice, ManyLinks, NotSeekable as NoPlaces, Interrupted as BySignal, Unavailable, Closed, OutOfMemory as NoMemory, Fault}
+use Rattle.tool_parts.specs.declared.reason.Reason.TheVariants.{NotFound as Missing, Denied, NotPermitted, NoDevice, NoDescriptor, ManyFiles, Unsupported as NoSuchCall, Directory, NoDirectory, Links, LongName, Invalid, Full, TooLarge, Quota, ReadOnly, Busy, Runs, Stale, Late, Exists, OtherDevice, ManyLinks, NotSeekable as NoPlaces, Interrupted as BySignal, Unavailable, Closed, OutOfMemory as NoMemory, Fault}
 
 -- each kind of error that has a text of its own, and a fault for all others
 abbrev pub reason_of : ErrorKind → Reason
@@ -35,9 +35,11 @@ reason_of Unsupported = NoSuchCall
 reason_of OutOfMemory = NoMemory
 reason_of _ = Fault
 
--- the reason of an error: its number says which of three reasons without a kind of their own it is, and otherwise its kind decides
+-- the reason of an error: its number says which of four reasons without a kind of their own it is, and otherwise its kind decides
 pub record IsReasonOf (error : Error) (reason : Reason) : Type 0 where
   pub not_permitted : raw_os_error error ≡ Some (pos 1) → reason ≡ NotPermitted
   pub no_device : raw_os_error error ≡ Some (pos 6) → reason ≡ NoDevice
   pub no_descriptor : raw_os_error error ≡ Some (pos 9) → reason ≡ NoDescriptor
-  pub by_kind : raw_os_error error ≢ Some (pos 1) → raw_os_error error ≢ Some (pos 6) → raw_os_error error ≢ Some (pos 9) → reason ≡ reason_of (error_kind error)
+  pub many_files : raw_os_error error ≡ Some (pos 24) → reason ≡ ManyFiles
+  pub by_kind : raw_os_error error ≢ Some (pos 1) → raw_os_error error ≢ Some (pos 6) → raw_os_error error ≢ Some (pos 9)
+      → raw_os_error error ≢ Some (pos 24) → reason ≡ reason_of (error_kind error)

@@ -16,6 +16,9 @@ const NO_DEVICE: i32 = 6;
 /// Its number of a stream that is closed, or open for the other direction alone.
 const NO_DESCRIPTOR: i32 = 9;
 
+/// Its number of a process that has opened as many files as it may.
+const MANY_FILES: i32 = 24;
+
 /// Why a file cannot be opened or read to its end, or the output not be written.
 #[derive(Clone, Copy, PartialEq, Eq)]
 pub enum Reason {
@@ -29,6 +32,8 @@ pub enum Reason {
     NoDevice,
     /// It is a stream that is closed, or open for the other direction alone.
     NoDescriptor,
+    /// The process has opened as many files as it may.
+    ManyFiles,
     /// It supports no such call.
     Unsupported,
     /// It is a directory.
@@ -100,6 +105,7 @@ impl Reason {
             Some(NOT_PERMITTED) => Reason::NotPermitted,
             Some(NO_DEVICE) => Reason::NoDevice,
             Some(NO_DESCRIPTOR) => Reason::NoDescriptor,
+            Some(MANY_FILES) => Reason::ManyFiles,
             _ => Reason::of_kind(error.kind()),
         }
     }
@@ -147,6 +153,7 @@ impl Reason {
             Reason::NotPermitted => "Operation not permitted",
             Reason::NoDevice => "No such device or address",
             Reason::NoDescriptor => "Bad file descriptor",
+            Reason::ManyFiles => "Too many open files",
             Reason::Unsupported => "Operation not supported",
             Reason::Directory => "Is a directory",
             Reason::Irregular => "Not a regular file",
