@@ -5,7 +5,8 @@ use Rattle.std.specs.Prelude.{codes, unwrap_or}
 use Rattle.std.proofs.lemmas.Slice.Eq.{bytes_eq-Decides}
 use Rattle.chromesquid.proofs.Built.{count_of, finds_by, shortest_of, start_of}
 use Rattle.chromesquid.specs.Searcher.{Answers, IsBuiltFrom}
-use Rattle.acredact.specs.Arguments.{is_cover, kind_named}
+use Rattle.tool_parts.specs.Arguments.{kind_by}
+use Rattle.acredact.specs.Arguments.{is_cover}
 use Rattle.acredact.specs.Checks.{IsByTexts}
 use Rattle.acredact.specs.Ready.{IsReadyFor}
 use Rattle.acredact.specs.declared.options.Word.TheVariants.{Kind}
@@ -17,9 +18,9 @@ rules_shortest [] = omega arith
 rules_shortest (rule ∷ rules) = omega (arith, rule.some, rules_shortest rules)
 
 -- a cover is by the standard kind
-standard_by : (asked : Option (List ℕ)) → is_cover (unwrap_or asked (codes "cover")) ≡ true → unwrap_or (option_and_then kind_named asked) Standard ≡ Standard
+standard_by : (asked : Option (List ℕ)) → is_cover (unwrap_or asked (codes "cover")) ≡ true → unwrap_or (option_and_then kind_by asked) Standard ≡ Standard
 standard_by None is = refl
-standard_by (Some name) is = ap (λ (name : List ℕ). unwrap_or (kind_named name) Standard) ((bytes_eq-Decides name (codes "cover")).0 is)
+standard_by (Some name) is = ap (λ (name : List ℕ). unwrap_or (kind_by name) Standard) ((bytes_eq-Decides name (codes "cover")).0 is)
 
 -- a searcher of such patterns begins streams
 begins_of : (searcher : Searcher) (p : Patterns) → IsBuiltFrom searcher p → Answers searcher No → 1 ≤ shortest (map length p.words) → CanBegin of_searcher searcher

@@ -3,7 +3,6 @@ use Rattle.acredact.specs.Common.{Form, Standard, argument_form, bytes_eq, joine
 use Rattle.std.specs.Prelude.{◌≡◌, ◌⊎◌, ℕ, ◌==◌, ◌++◌, ◌||◌, ◌&&◌, not, Bool, true, false, List, [], ◌∷◌, Option, Some, None, Result, Ok, Err, IfErr, IfOk, codes, is_some, map, option_and_then, unwrap_or, String, Vec, if◌then◌else◌}
 use Rattle.std.specs.Result.{result_ok}
 use Rattle.aho_core.specs.declared.search.MatchKind.{MatchKind}
-use Rattle.aho_core.specs.declared.search.MatchKind.TheVariants.{LeftmostFirst, LeftmostLongest}
 use Rattle.tool_parts.specs.Arguments.{kind_by, texts}
 use Rattle.tool_parts.specs.declared.options.misuse.Misuse.TheVariants.{NoArgument, TakesNone}
 use Rattle.acredact.specs.Forms.{are_forms}
@@ -49,16 +48,9 @@ takes_value word = is_some (value_name word)
 abbrev pub is_cover : List ℕ → Bool
 is_cover name = bytes_eq name (codes "cover")
 
--- the match kinds, each by its short name or by its whole one
-abbrev pub kind_named : List ℕ → Option MatchKind
-kind_named name =
-    if bytes_eq name (codes "leftmost-longest") then Some LeftmostLongest
-    else if bytes_eq name (codes "leftmost-first") then Some LeftmostFirst
-    else kind_by name
-
 -- the values that an option can have
 abbrev pub is_value_of : Word → List ℕ → Bool
-is_value_of Kind value = is_cover value || is_some (kind_named value)
+is_value_of Kind value = is_cover value || is_some (kind_by value)
 is_value_of Forms value = are_forms value
 is_value_of Env value = is_variable_name value
 is_value_of MaxLine value = is_size value
@@ -224,7 +216,7 @@ covers_asked items = is_cover (unwrap_or (last_value Kind items) (codes "cover")
 
 -- the match kind that is searched by: for a cover all matches count, wherever they end
 abbrev pub kind_asked : List Given → MatchKind
-kind_asked items = unwrap_or (option_and_then kind_named (last_value Kind items)) Standard
+kind_asked items = unwrap_or (option_and_then kind_by (last_value Kind items)) Standard
 
 -- whether it is asked for how often the text of each pattern is written: as lines, or in a summary
 abbrev pub counts_asked : List Given → Bool

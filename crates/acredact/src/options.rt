@@ -1,7 +1,8 @@
 //! The options of a call: which there are, and what was given.
 
 ghost use Rattle.std.specs.Prelude.{◌≡◌, option_map};
-ghost use Rattle.acredact.specs.Arguments.{aim_of, all_given, counts_asked, covers_asked, given, has, in_place_asked, is_cover, is_same, kind_asked, kind_named, last_value, output_asked, rights_asked, takes_value, gives_pattern, gives_rules, words_asked};
+ghost use Rattle.tool_parts.specs.Arguments.{kind_by};
+ghost use Rattle.acredact.specs.Arguments.{aim_of, all_given, counts_asked, covers_asked, given, has, in_place_asked, is_cover, is_same, kind_asked, last_value, output_asked, rights_asked, takes_value, gives_pattern, gives_rules, words_asked};
 ghost use Rattle.acredact.specs.Mistakes.{value_name};
 
 use chromesquid::MatchKind;
@@ -134,7 +135,7 @@ pub fn takes_value(word: Word) -> bool
 
 /// The match kind of this name.
 pub fn kind_by(name: &str) -> Option<MatchKind>
-    ensures kind { result ≡ kind_named name.now }
+    ensures kind { result ≡ kind_by name.now }
 {
     match name {
         "longest" | "leftmost-longest" => Some(MatchKind::LeftmostLongest),
