@@ -135,7 +135,7 @@ pub trait Automaton: Sealed {
 
     /// Puts the next of all matches into the state, as `AhoCorasick::try_find_overlapping` does.
     fn try_find_overlapping(&self, input: &Input<'_>, state: &mut OverlappingState) -> Result<(), MatchError> {
-        self.inner().searcher.try_find_overlapping(input.clone(), state)
+        self.inner().searcher.next_unless_done(input, state)
     }
 
     /// The matches, each searched for from the end of the one before.
@@ -151,7 +151,7 @@ pub trait Automaton: Sealed {
     where
         Self: Sized,
     {
-        Ok(FindOverlappingIter { of: PhantomData, found: self.inner().searcher.try_find_overlapping_iter(input)? })
+        Ok(FindOverlappingIter { of: PhantomData, found: self.inner().searcher.overlapping_iter(input)? })
     }
 
     /// As `AhoCorasick::try_replace_all`.

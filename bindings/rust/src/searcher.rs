@@ -129,15 +129,33 @@ impl AhoCorasick {
         AhoCorasickBuilder::new()
     }
 
-    /// Whether a pattern occurs. Panics as `find` does.
+    /// Returns whether a pattern occurs in the input. It never panics: every input is searched,
+    /// whatever `start_kind` the searcher was built with, and a span that is done has no match.
     pub fn is_match<'h, I: Into<Input<'h>>>(&self, input: I) -> bool {
         let input = input.into();
-        or_panic(self.refusal(&input));
+        if input.is_done() {
+            return false;
+        }
         if input.get_anchored() == Anchored::No {
-            let haystack = input.haystack().get(input.get_range());
-            return haystack.map_or(false, |haystack| self.shares.share().with(|handle| handle.is_match(haystack)));
+            let haystack = &input.haystack()[input.get_range()];
+            return self.shares.share().with(|handle| handle.is_match(haystack));
+        }
+        if self.allows(Anchored::Yes).is_err() {
+            return self.starts_with_match(&input);
         }
         searched(&mut self.shares.share(), &input.earliest(true)).is_some()
+    }
+
+    /// Returns whether a pattern occurs at the start of the span, by an unanchored search of as
+    /// many bytes as the longest pattern has.
+    fn starts_with_match(&self, input: &Input<'_>) -> bool {
+        let end = input.end().min(input.start().saturating_add(self.max_pattern_len()));
+        let front = &input.haystack()[input.start()..end];
+        if self.match_kind == MatchKind::Standard {
+            return self.overlapping_in(front, 0).iter().any(|it| it.start() == 0);
+        }
+        // If any match starts there, the leftmost match does.
+        searched(&mut self.shares.share(), &Input::new(front)).map_or(false, |it| it.start() == 0)
     }
 
     /// The first match. Panics where the searcher was not built for such a search.
