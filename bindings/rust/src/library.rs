@@ -252,7 +252,7 @@ impl Handle {
     pub(crate) fn share(&mut self) -> Option<Handle> {
         let mut other = Handle::none();
         // SAFETY: both are handles, and two different ones.
-        (unsafe { cs_share(&mut self.0, &mut other.0) } == DONE).then_some(other)
+        (unsafe { cs_share(&mut self.0, &mut other.0) } == DONE).then(|| other)
     }
 
     /// Whether a pattern occurs in the haystack. The searcher answers unanchored searches.
@@ -451,7 +451,7 @@ impl Stream {
     pub(crate) fn push(&mut self, bytes: &[u8]) -> Option<usize> {
         let mut taken = 0;
         // SAFETY: the bytes are lent for the call.
-        (unsafe { cs_stream_push(&mut self.0, bytes.as_ptr(), bytes.len(), &mut taken) } == DONE).then_some(taken)
+        (unsafe { cs_stream_push(&mut self.0, bytes.as_ptr(), bytes.len(), &mut taken) } == DONE).then(|| taken)
     }
 
     /// The next match that is certain, by its place in the stream.

@@ -15,14 +15,19 @@ use crate::searcher::{self, AhoCorasick};
 const MOST: usize = 128;
 
 /// Which of several matches is found.
-#[derive(Clone, Copy, Debug, Default, PartialEq, Eq)]
+#[derive(Clone, Copy, Debug, PartialEq, Eq)]
 #[non_exhaustive]
 pub enum MatchKind {
     /// Of those that start first, the one whose pattern stands first.
-    #[default]
     LeftmostFirst,
     /// Of those that start first, the longest.
     LeftmostLongest,
+}
+
+impl Default for MatchKind {
+    fn default() -> MatchKind {
+        MatchKind::LeftmostFirst
+    }
 }
 
 impl From<MatchKind> for crate::MatchKind {

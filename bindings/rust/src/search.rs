@@ -6,11 +6,10 @@ use std::{
 };
 
 /// Which of several matches is found.
-#[derive(Clone, Copy, Debug, Default, PartialEq, Eq)]
+#[derive(Clone, Copy, Debug, PartialEq, Eq)]
 #[non_exhaustive]
 pub enum MatchKind {
     /// The one that ends first.
-    #[default]
     Standard,
     /// Of those that start first, the one whose pattern stands first.
     LeftmostFirst,
@@ -18,16 +17,27 @@ pub enum MatchKind {
     LeftmostLongest,
 }
 
+impl Default for MatchKind {
+    fn default() -> MatchKind {
+        MatchKind::Standard
+    }
+}
+
 /// Which searches a searcher is built for.
-#[derive(Clone, Copy, Debug, Default, PartialEq, Eq)]
+#[derive(Clone, Copy, Debug, PartialEq, Eq)]
 pub enum StartKind {
     /// All.
     Both,
     /// Those that are not anchored.
-    #[default]
     Unanchored,
     /// Those that are anchored.
     Anchored,
+}
+
+impl Default for StartKind {
+    fn default() -> StartKind {
+        StartKind::Unanchored
+    }
 }
 
 /// Whether a match has to start where the span does.

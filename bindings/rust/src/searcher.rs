@@ -240,7 +240,10 @@ impl AhoCorasick {
     {
         let mut copied = 0;
         for found in self.try_find_iter(haystack)? {
-            let Some(text) = haystack.get(found.range()) else { continue };
+            let text = match haystack.get(found.range()) {
+                Some(text) => text,
+                None => continue,
+            };
             dst.push_str(&haystack[copied..found.start()]);
             copied = found.end();
             if !replace_with(&found, text, dst) {
