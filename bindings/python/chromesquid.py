@@ -104,6 +104,15 @@ class ReplacementError(TypeError, ValueError):
     """The replacements are no list or tuple with one for each pattern, and no mapping that has each pattern, and nothing else, as a key."""
 
 
+class _Prepared(NamedTuple):
+    """Replacements as the library takes them, with what they were made from."""
+
+    given: Any  # the tuple that a caller gave; None for a list or a mapping, which can change
+    pieces: Tuple[Haystack, ...]
+    of_text: Optional[bool]  # whether all of them are of type str; None if they are of both types
+    slices: Any
+
+
 class _Slice(ctypes.Structure):
     _fields_ = [("at", ctypes.c_char_p), ("len", ctypes.c_size_t)]
 
@@ -303,8 +312,21 @@ def _text(given: Any) -> str:
     return given if type(given) is str else "".join([given if issubclass(type(given), str) else str(given)])
 
 
-def _pattern_bytes(pattern: Haystack) -> bytes:
-    return _text(pattern).encode(*_ENCODING) if isinstance(pattern, str) else bytes(memoryview(pattern))
+def _pattern_bytes(pattern: Haystack, what: str = "a pattern") -> bytes:
+    if type(pattern) is bytes:
+        return pattern
+    return _text(pattern).encode(*_ENCODING) if isinstance(pattern, str) else bytes(_viewed(pattern, what))
+
+
+def _viewed(given: Any, what: str) -> memoryview:
+    """Returns the buffer of an object. The error of one that has none says what it should be."""
+    try:
+        return memoryview(given)
+    except TypeError:
+        if isinstance(given, (bytes, bytearray, memoryview)):  # a class that refuses by itself
+            raise
+        kind = type(given).__name__
+    raise TypeError(f"{what} must be a str, bytes or another buffer, not {kind}")
 
 
 def _slices(items: Sequence[bytes]) -> Any:
@@ -316,7 +338,7 @@ def _borrowed(haystack: Bytes) -> Any:
     """The bytes of a buffer as the library takes them. They are copied only where they have to be."""
     if type(haystack) is bytes:  # one of a class of its own may tell another length than it has
         return haystack
-    view = memoryview(haystack)
+    view = _viewed(haystack, "a haystack")
     if not view.c_contiguous or view.nbytes == 0:
         return view.tobytes()
     return _Lent(view) if view.readonly else (ctypes.c_char * view.nbytes).from_buffer(view.cast("B"))
@@ -359,8 +381,9 @@ class AhoCorasick:
         items: Union[Sequence[Any], Mapping[Any, Any], None] = None,
     ) -> None:
         given = _patterns_of(patterns)
-        if isinstance(ignore_case, str) or isinstance(prefilter, str):
-            raise TypeError("ignore_case and prefilter are True or False, and no str")
+        for name, flag in ("ignore_case", ignore_case), ("prefilter", prefilter):
+            if hasattr(type(flag), "__len__"):  # a str or a list, whose truth is whether it is empty
+                raise TypeError(f"{name} must be True or False, not {type(flag).__name__}")
         if kind not in _KINDS:
             raise ValueError(f"there is no kind {kind!r}, but {', '.join(_KINDS)}")
         if automaton not in _AUTOMATA:
@@ -375,6 +398,8 @@ class AhoCorasick:
         self.__kind, self._ignore_case, self._prefilter = kind, bool(ignore_case), bool(prefilter)
         self._longest = max(map(len, words), default=0)
         self._handle = _Handle()
+        # The replacements of the last call, in one object: threads read and set it as a whole.
+        self.__prepared: Optional[_Prepared] = None
         self._begin_process()
         _searchers[id(self)] = self
         self.__rest = automaton, max_index, max_pattern, max_len
@@ -552,10 +577,10 @@ class AhoCorasick:
             answer = self._small.replace_all(haystack, replace_with)
             if answer is not NotImplemented:
                 return answer
-        pieces = self._pieces(replace_with, isinstance(haystack, str))
+        prepared = self._prepare(replace_with, isinstance(haystack, str))
         if _is_wide(haystack) and "" in self._patterns:
-            return self._replaced(haystack, pieces)
-        return self._written(_replace_all, haystack, pieces)
+            return self._replaced(haystack, prepared.pieces)
+        return self._written(_replace_all, haystack, prepared.slices)
 
     @overload
     def cover_all(self, haystack: str, replace_with: Replacements) -> str: ...  # type: ignore[misc]
@@ -572,10 +597,10 @@ class AhoCorasick:
 
         The replacements are those of `replace_all`. Raises ReplacementError where there is not one for each pattern, and SearchError where
         the kind is not "standard" or a pattern is empty."""
-        pieces = self._pieces(replace_with, isinstance(haystack, str))
+        prepared = self._prepare(replace_with, isinstance(haystack, str))
         if self.__kind != "standard":
             raise SearchError(f"covers are of kind standard, and this searcher is of kind {self.__kind}")
-        return self._written(_cover_all, haystack, pieces)
+        return self._written(_cover_all, haystack, prepared.slices)
 
     def __reduce__(self) -> Tuple[Any, ...]:
         given = self._patterns, self.__kind, self._ignore_case, self._prefilter, *self.__rest
@@ -586,29 +611,48 @@ class AhoCorasick:
     def __repr__(self) -> str:
         return f"<AhoCorasick of {len(self._patterns)} patterns, {self.__kind}>"
 
-    def _pieces(self, replace_with: Replacements, of_text: Optional[bool]) -> List[Haystack]:
-        """The replacements by their patterns' numbers: of type str or not, as is said, or all alike. None of them is printed."""
-        pieces = self._pieces_by_pattern(replace_with) if isinstance(replace_with, Mapping) else self._pieces_in_order(replace_with)
+    def _prepare(self, replace_with: Replacements, of_text: Optional[bool]) -> _Prepared:
+        """Returns the replacements by their patterns' numbers, as the library takes them: all of
+        type str, or none, as `of_text` says; if that is None, all of one type. No message shows a
+        replacement. What the last call prepared is used again if each of them is the same object."""
+        kept = self.__prepared
+        if kept is not None and kept.given is replace_with:
+            return _of_type(kept, of_text)
+        pieces = self._pieces(replace_with)
+        given = replace_with if type(replace_with) is tuple else None
+        if kept is not None and len(pieces) == len(kept.pieces) and all(map(operator.is_, pieces, kept.pieces)):
+            self.__prepared = kept if given is None else kept._replace(given=given)
+            return _of_type(kept, of_text)
         texts = sum(isinstance(it, str) for it in pieces)
-        if of_text is None and texts not in (0, len(pieces)):
-            raise TypeError("the replacements are all of type str, or all of bytes")
-        if of_text is not None and texts != of_text * len(pieces):
-            raise TypeError("the replacements are of the type of the haystack")
-        return pieces
+        all_texts = texts > 0 if texts in (0, len(pieces)) else None
+        prepared = _of_type(_Prepared(given, pieces, all_texts, None), of_text)
+        words = [_pattern_bytes(it, "a replacement") for it in pieces]
+        prepared = prepared._replace(slices=_slices(words))
+        if {*map(type, pieces)} in ({str}, {bytes}):  # others can change
+            self.__prepared = prepared
+        return prepared
 
-    def _pieces_by_pattern(self, replace_with: Mapping[Any, Haystack]) -> List[Haystack]:
+    def _pieces(self, replace_with: Replacements) -> Tuple[Haystack, ...]:
+        if isinstance(replace_with, Mapping):
+            return self._pieces_by_pattern(replace_with)
+        return self._pieces_in_order(replace_with)
+
+    def _pieces_by_pattern(self, replace_with: Mapping[Any, Haystack]) -> Tuple[Haystack, ...]:
+        if type(replace_with) is dict and len(replace_with) == len(self._patterns):
+            with contextlib.suppress(KeyError):  # then the loop below finds the pattern
+                return tuple(map(replace_with.__getitem__, self._patterns))
         for number, pattern in enumerate(self._patterns):
             if pattern not in replace_with:
                 raise ReplacementError(f"the mapping has no replacement for pattern {number}")
         if len(replace_with) != len(set(self._patterns)):
             raise ReplacementError("the mapping has a key that is no pattern")
-        return [replace_with[it] for it in self._patterns]
+        return tuple([replace_with[it] for it in self._patterns])
 
-    def _pieces_in_order(self, replace_with: Sequence[Haystack]) -> List[Haystack]:
+    def _pieces_in_order(self, replace_with: Sequence[Haystack]) -> Tuple[Haystack, ...]:
         if not isinstance(replace_with, (list, tuple)):
             kind = type(replace_with).__name__
             raise ReplacementError(f"the replacements are a list, a tuple, or a mapping from each pattern to its own, and no {kind}")
-        pieces = list(replace_with)
+        pieces = tuple(replace_with)
         if len(pieces) != len(self._patterns):
             raise ReplacementError(f"there are {len(pieces)} replacements for {len(self._patterns)} patterns")
         return pieces
@@ -731,8 +775,8 @@ class AhoCorasick:
             copied = it.end
         return "".join([*parts, text[copied:]])
 
-    def _written(self, function: Any, haystack: Haystack, replace_with: Sequence[Haystack]) -> Union[str, bytes]:
-        written = self._written_by(function, self._bytes_of(haystack), _slices([_pattern_bytes(it) for it in replace_with]))
+    def _written(self, function: Any, haystack: Haystack, pieces: Any) -> Union[str, bytes]:
+        written = self._written_by(function, self._bytes_of(haystack), pieces)
         return written.decode(*_ENCODING) if isinstance(haystack, str) else written
 
     def _written_by(self, function: Any, given: Any, pieces: Any) -> bytes:
@@ -745,6 +789,15 @@ class AhoCorasick:
                 return room.raw[: wanted.value]
 
 
+def _of_type(prepared: _Prepared, of_text: Optional[bool]) -> _Prepared:
+    """Returns the replacements if they are of the type that is wanted, or of one type if none is."""
+    if prepared.pieces and of_text is not None and prepared.of_text is not of_text:
+        raise TypeError("the replacements are of the type of the haystack")
+    if prepared.pieces and prepared.of_text is None:
+        raise TypeError("the replacements are all of type str, or all of bytes")
+    return prepared
+
+
 def _patterns_of(patterns: Iterable[Haystack]) -> List[Haystack]:
     if isinstance(patterns, (str, bytes, bytearray, memoryview)):
         raise TypeError("the patterns are a list of str or of bytes, and not one of them")
@@ -752,7 +805,12 @@ def _patterns_of(patterns: Iterable[Haystack]) -> List[Haystack]:
         raise TypeError("the patterns are a list, whose places are their numbers, and no set, which has no order")
     if hasattr(patterns, "read"):
         raise TypeError("the patterns are a list, and no reader, whose lines would keep their ends")
-    return list(patterns)
+    try:
+        given = iter(patterns)
+    except TypeError:
+        kind = type(patterns).__name__
+        raise TypeError(f"the patterns must be a list of str or of bytes, not {kind}") from None
+    return list(given)
 
 
 def _items_of(items: Union[Sequence[Any], Mapping[Any, Any]], patterns: Sequence[Union[str, bytes]]) -> Tuple[Any, ...]:
@@ -932,7 +990,7 @@ def _slots_of(it: Any) -> Any:
 
 # What an AhoCorasick is built with anew; what else it has is copied.
 _BUILT = frozenset(f"_{it}" for it in "patterns of_texts ignore_case prefilter longest handle small".split()).union(
-    f"_AhoCorasick__{it}" for it in "items kind lock own rest".split()
+    f"_AhoCorasick__{it}" for it in "items kind lock own prepared rest".split()
 )
 
 
@@ -1021,7 +1079,7 @@ class Stream:
 
     def _rest(self, piece: Haystack) -> memoryview:
         """The bytes of a piece."""
-        rest = memoryview(self._searcher._bytes_of(piece) if isinstance(piece, str) else piece)
+        rest = memoryview(self._searcher._bytes_of(piece)) if isinstance(piece, str) else _viewed(piece, "a piece")
         return (rest if rest.c_contiguous else memoryview(rest.tobytes())).cast("B")
 
     def _push(self, rest: memoryview) -> int:
@@ -1066,10 +1124,10 @@ class Replacer:
     SearchError where a pattern is empty."""
 
     def __init__(self, searcher: AhoCorasick, replace_with: Replacements) -> None:
-        pieces = searcher._pieces(replace_with, None)
+        prepared = searcher._prepare(replace_with, None)
         self._stream = Stream(searcher)
-        self._pieces = _slices([_pattern_bytes(it) for it in pieces])
-        self._of_text = isinstance(pieces[0], str) if pieces else None
+        self._pieces = prepared.slices
+        self._of_text = prepared.of_text if prepared.pieces else None
         self._decoder = codecs.getincrementaldecoder(_ENCODING[0])(_ENCODING[1])
         self._len = ctypes.c_size_t()
         self._room = ctypes.create_string_buffer(65536)
@@ -1170,7 +1228,7 @@ def forms(secret: Haystack, names: Union[str, Iterable[str]] = "all") -> Union[L
         ['6b65792f31', '6B65792F31', 'key%2F1', 'key%2f1', 'key/1', '%6B%65%79%2F%31', '%6b%65%79%2f%31']
 
     Raises FormError where the secret has fewer than four bytes."""
-    patterns = _form_patterns(_pattern_bytes(secret), _form_bits(names))
+    patterns = _form_patterns(_pattern_bytes(secret, "a secret"), _form_bits(names))
     return [it.decode(*_ENCODING) for it in patterns] if isinstance(secret, str) else patterns
 
 
@@ -1201,13 +1259,15 @@ class Redactor:
         if isinstance(secrets, Mapping):
             raise TypeError("the secrets are a list, and no mapping, whose keys they would be")
         given, bits, patterns = _patterns_of(secrets), _form_bits(forms), {}
+        if not given:
+            raise FormError("there are no secrets, so nothing would be redacted")
         for number, secret in enumerate(given):
-            word = _pattern_bytes(secret)
+            word = _pattern_bytes(secret, "a secret")
             if len(word) < (4 if bits else 1):
                 raise FormError(f"secret {number} has fewer than four bytes, and so no forms" if word else f"secret {number} is empty")
             for one in _spellings(secret, word):
                 patterns.update(dict.fromkeys([one, *(_form_patterns(one, bits) if bits and len(one) >= 4 else ())]))
-        self._searcher, self._replacement, self._count = AhoCorasick(list(patterns)), _pattern_bytes(replacement), len(given)
+        self._searcher, self._replacement, self._count = AhoCorasick(list(patterns)), _pattern_bytes(replacement, "the replacement"), len(given)
         self._pieces = _slices([self._replacement] * len(patterns))
         self._longest = max(map(len, patterns), default=0)
         # How a pattern may begin.
@@ -1293,7 +1353,7 @@ class Coverer:
         of_text = isinstance(piece, str)
         if self._of_text not in (None, of_text):
             raise TypeError("the pieces of a stream are all of type str, or all of bytes")
-        given = _pattern_bytes(piece)
+        given = _pattern_bytes(piece, "a piece")
         with _alone(self._lock):
             if self._has_ended:
                 raise SearchError(_WHY_REFUSED[_ENDED])
