@@ -1,4 +1,5 @@
-"""Tests of the binding, beside a slow model that looks at every place. Run them with python3 -m unittest."""
+"""Tests of the binding, compared with a slow model that looks at every offset. Run them with
+python3 -m unittest."""
 
 import array
 import base64
@@ -238,7 +239,7 @@ class Rows(unittest.TestCase):
                 self.assertRaises(TypeError, call, given, wrong)
         with self.assertRaisesRegex(ReplacementError, "no replacement for pattern 1"):
             searcher.replace_all(given, {"login": "user"})
-        with self.assertRaisesRegex(ReplacementError, "a list, a tuple, or a mapping from each pattern to its own, and no set"):
+        with self.assertRaisesRegex(ReplacementError, "a list, a tuple, or a mapping from patterns, not set"):
             searcher.replace_all(given, set(table))
 
     def test_what_is_no_list_of_patterns_and_no_stream(self):
@@ -488,7 +489,7 @@ class Streams(unittest.TestCase):
 
             self.assertRaises(KeyboardInterrupt, at_each_step, lambda stream=stream: stream.push(b"m"), interrupt)
             for call in (lambda stream=stream: stream.push(b"m"), stream.end):
-                self.assertRaisesRegex(SearchError, "cut off", call)
+                self.assertRaisesRegex(SearchError, "cut one off", call)
 
     def test_pieces_and_writers_of_classes_of_others(self):
         class Odd(bytes):
@@ -1107,7 +1108,7 @@ class Forms(unittest.TestCase):
 
     def test_what_has_no_forms(self):
         for names in ("hexx", ["all", "hex"], ["hex", ""], ["HEX"]):
-            with self.assertRaisesRegex(ValueError, "there is no form"):
+            with self.assertRaisesRegex(ValueError, "unknown form"):
                 forms("secret", names)
         for secret in ("", "key", b"abc"):
             with self.assertRaisesRegex(FormError, "fewer than four bytes has no forms"):
@@ -1317,7 +1318,7 @@ class Logs(unittest.TestCase):
         self.assertTrue(self.handler.filter(record))
         self.assertEqual((record.parts, record.named, vars(record)[5]), (["a *"], {"a": "*", "b": clean}, "*"))
         self.assertIs(record.clean, clean)
-        self.assertEqual(record.broken, "(Broken that cannot be looked at is left out)")
+        self.assertEqual(record.broken, "(Broken that cannot be examined is left out)")
         self.assertIsInstance(record.deep, str)
         self.assertEqual((vars(record)["*"], hasattr(record, "swordfish"), record.exc_info), (1, False, None))
         self.assertNotIn("swordfish", record.deep + record.exc_text)
@@ -1392,7 +1393,7 @@ class Library(unittest.TestCase):
                 environment = {**os.environ, "CHROMESQUID_LIBRARY": named, "PYTHONPATH": os.pathsep.join(sys.path)}
                 ended = subprocess.run([sys.executable, "-c", "import chromesquid"], env=environment, stderr=subprocess.PIPE, universal_newlines=True, check=False)
                 self.assertEqual(ended.returncode, 1)
-                self.assertIn(f"ImportError: CHROMESQUID_LIBRARY is '{named}', and no folder that holds libchromesquid.so.0", ended.stderr)
+                self.assertIn(f"ImportError: CHROMESQUID_LIBRARY is '{named}', which is not a folder with libchromesquid.so.0", ended.stderr)
 
 
 PAGE = os.path.join(os.path.dirname(os.path.abspath(__file__)), "README.md")
