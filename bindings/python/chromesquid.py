@@ -9,17 +9,17 @@
     >>> searcher.replace_all("frodo and samwise", ["S", "s", "F"])
     'F and S'
 
-Patterns are numbered in the order in which they are given, from 0. Offsets count bytes in a haystack of
-bytes, and characters in a str.
+Patterns are numbered in the order in which they are given, from 0. Offsets count bytes in a
+haystack of bytes, and characters in a str.
 
-A call on a short haystack takes a few microseconds with ctypes, and less than one with the extension
-module _chromesquid.
+A call on a short haystack takes a few microseconds with ctypes, and less than one with the
+extension module _chromesquid.
 
-This file needs a processor of x86-64-v2 and libchromesquid.so.0, which bin/clib builds. It looks for the
-library in the folder that the environment variable CHROMESQUID_LIBRARY names. Without the variable, it
-looks next to this file, and then where bin/install or the system has libraries. On a processor with AVX2
-it uses the library in glibc-hwcaps of that folder. `python3 -m chromesquid` prints which library it
-found, after a test search."""
+This file needs a processor of x86-64-v2 and libchromesquid.so.0, which bin/clib builds. It looks
+for the library in the folder that the environment variable CHROMESQUID_LIBRARY names. Without the
+variable, it looks next to this file, and then where bin/install or the system has libraries. On a
+processor with AVX2 it uses the library in glibc-hwcaps of that folder. `python3 -m chromesquid`
+prints which library it found, after a test search."""
 
 from __future__ import annotations
 
@@ -64,8 +64,9 @@ __all__ = [
 Haystack = Union[str, bytes, bytearray, memoryview, Any]
 Bytes = Union[bytes, bytearray, memoryview, Any]
 _Raw = bytes
-# One for each pattern: a sequence in the order of the patterns, or a mapping from the patterns as given.
-# The type is List[Any], because a type checker does not accept a list of str as a list of Haystack.
+# One for each pattern: a sequence in the order of the patterns, or a mapping from the patterns as
+# given. The type is List[Any], because a type checker does not accept a list of str as a list of
+# Haystack.
 Replacements = Union[List[Any], Tuple[Haystack, ...], Mapping[Any, Haystack]]
 
 
@@ -78,9 +79,9 @@ class Match(NamedTuple):
 
 
 class BuildError(ValueError):
-    """There are too many patterns, or one is too long. `pattern` is the number of the refused pattern, or
-    None if the patterns need too many states. `requested` is the value above its limit: a pattern's number,
-    its length, or an index. `limit` is the limit.
+    """There are too many patterns, or one is too long. `pattern` is the number of the refused
+    pattern, or None if the patterns need too many states. `requested` is the value above its limit:
+    a pattern's number, its length, or an index. `limit` is the limit.
 
         >>> try: AhoCorasick(["sam", "samwise"], max_len=5)
         ... except BuildError as error: print(error), (error.pattern, error.requested, error.limit)
@@ -101,13 +102,13 @@ class SearchError(ValueError):
 
 
 class FormError(ValueError):
-    """There are no secrets, or one is empty, or it has no forms because it has fewer than four bytes. The
-    message has the number of the secret, and never shows it."""
+    """There are no secrets, or one is empty, or it has no forms because it has fewer than four
+    bytes. The message has the number of the secret, and never shows it."""
 
 
 class ReplacementError(TypeError, ValueError):
-    """The replacements are not one for each pattern: a list or a tuple of another length, a mapping whose
-    keys are not exactly the patterns, or an object of another type."""
+    """The replacements are not one for each pattern: a list or a tuple of another length, a mapping
+    whose keys are not exactly the patterns, or an object of another type."""
 
 
 class _Prepared(NamedTuple):
@@ -234,8 +235,8 @@ _VERSION = 100
 
 
 def _has_avx2() -> bool:
-    """Returns whether the processor is x86-64-v3, so that its library is tried. From glibc 2.33 on, the
-    loader checks that too."""
+    """Returns whether the processor is x86-64-v3, so that its library is tried. From glibc 2.33 on,
+    the loader checks that too."""
     flags: List[bytes] = []
     with contextlib.suppress(OSError), open("/proc/cpuinfo", "rb") as file:
         flags = next((line.split() for line in file if line.startswith(b"flags")), flags)
@@ -280,9 +281,9 @@ _free = _function("cs_free", None, _HANDLE)
 _share = _function("cs_share", ctypes.c_uint32, _HANDLE, _HANDLE)
 _is_match = _function("cs_is_match", ctypes.c_uint32, _HANDLE, *_HAYSTACK)
 _find = _function("cs_find", ctypes.c_uint32, _HANDLE, *_HAYSTACK, ctypes.POINTER(_Match))
-# A short search ends sooner than another thread could start, so it keeps the interpreter's lock. It has no
-# parameter types, whose checks take half of such a call: its arguments are addresses, bytes and a length
-# below 2^31.
+# A short search ends sooner than another thread could start, so it keeps the interpreter's lock. It
+# has no parameter types, whose checks take half of such a call: its arguments are addresses, bytes
+# and a length below 2^31.
 _find_short, _is_match_short = (ctypes.PyDLL(_loaded._name)[it] for it in ("cs_find", "cs_is_match"))
 _find_short.restype = _is_match_short.restype = ctypes.c_uint32
 _SHORT = 512
@@ -316,8 +317,8 @@ __version__ = ".".join(map(str, version()))
 
 
 def _text(given: Any) -> str:
-    """Returns the actual characters of a string. A subclass of str may report another length or other
-    bytes, and an object that only claims to be a str has its characters from str()."""
+    """Returns the actual characters of a string. A subclass of str may report another length or
+    other bytes, and an object that only claims to be a str has its characters from str()."""
     return given if type(given) is str else "".join([given if issubclass(type(given), str) else str(given)])
 
 
@@ -339,12 +340,14 @@ def _viewed(given: Any, what: str) -> memoryview:
 
 
 def _slices(items: Sequence[bytes]) -> Any:
-    """Returns the byte strings in the form that the library accepts. The library keeps none of them."""
+    """Returns the byte strings in the form that the library accepts. The library keeps none of
+    them."""
     return (_Slice * len(items))(*(_Slice(item, len(item)) for item in items))
 
 
 def _borrowed(haystack: Bytes) -> Any:
-    """Returns the bytes of a buffer in the form that the library accepts, copied only if necessary."""
+    """Returns the bytes of a buffer in the form that the library accepts, copied only if
+    necessary."""
     if type(haystack) is bytes:  # a subclass may report a wrong length
         return haystack
     view = _viewed(haystack, "a haystack")
@@ -354,32 +357,33 @@ def _borrowed(haystack: Bytes) -> Any:
 
 
 class AhoCorasick:
-    """A searcher for a list of patterns, all of type str or all of bytes. The patterns may come from any
-    ordered iterable; a mapping gives its keys.
+    """A searcher for a list of patterns, all of type str or all of bytes. The patterns may come
+    from any ordered iterable; a mapping gives its keys.
 
-    `kind` selects one of several possible matches. "standard" finds the match that ends first. Of the
-    matches that start first, "leftmost-first" finds the one whose pattern was given first, and
+    `kind` selects one of several possible matches. "standard" finds the match that ends first. Of
+    the matches that start first, "leftmost-first" finds the one whose pattern was given first, and
     "leftmost-longest" the longest. With `ignore_case`, ASCII letters match in either case.
 
-    `prefilter` and `automaton` change the speed, and no answer. "rows" is the fastest automaton and the
-    default; "noncontiguous" is built faster. `max_index`, `max_pattern` and `max_len` limit the greatest
-    index of a table, the greatest number of a pattern and its length. The limits are at most 2^31 - 2,
-    which is the default.
+    `prefilter` and `automaton` change the speed, and no answer. "rows" is the fastest automaton and
+    the default; "noncontiguous" is built faster. `max_index`, `max_pattern` and `max_len` limit the
+    greatest index of a table, the greatest number of a pattern and its length. The limits are at
+    most 2^31 - 2, which is the default.
 
-    `items` is a list with one value for each pattern, or a mapping from each pattern to its value. Then
-    `items[match.pattern]` is the value for a match:
+    `items` is a list with one value for each pattern, or a mapping from each pattern to its value.
+    Then `items[match.pattern]` is the value for a match:
 
         >>> searcher = AhoCorasick(["he", "hers"], items=[3.5, None])
         >>> [(match.end - 1, searcher.items[match.pattern]) for match in searcher.find_overlapping_iter("hers")]
         [(1, 3.5), (3, None)]
 
-    A haystack is a str, if the patterns are, or bytes or another buffer. In a buffer, a pattern of type str
-    means its UTF-8. A buffer must not change while a call runs. Any number of threads may use one searcher
-    at the same time. A pickled searcher consists of its patterns, and is rebuilt from them. A searcher
-    keeps the replacements of its last call, so that the same ones are not prepared again.
+    A haystack is a str, if the patterns are, or bytes or another buffer. In a buffer, a pattern of
+    type str means its UTF-8. A buffer must not change while a call runs. Any number of threads may
+    use one searcher at the same time. A pickled searcher consists of its patterns, and is rebuilt
+    from them. A searcher keeps the replacements of its last call, so that the same ones are not
+    prepared again.
 
-    Raises BuildError if there are too many patterns or one is too long. Every call raises MemoryError if
-    memory runs out, and TypeError if an argument has the wrong type."""
+    Raises BuildError if there are too many patterns or one is too long. Every call raises
+    MemoryError if memory runs out, and TypeError if an argument has the wrong type."""
 
     def __init__(
         self,
@@ -424,7 +428,8 @@ class AhoCorasick:
         if status in (_TOO_MANY_STATES, _TOO_MANY_PATTERNS, _TOO_LONG):
             raise _build_error(error)
         _check(status)
-        # The extension module, if it was built, does small calls, and returns NotImplemented for others.
+        # The extension module, if it was built, does small calls, and returns NotImplemented for
+        # others.
         self._small = _small.Searcher(_addresses, ctypes.addressof(self._handle), self._of_texts, Match) if _small else None
 
     @property
@@ -434,8 +439,8 @@ class AhoCorasick:
 
     @property
     def items(self) -> Tuple[Any, ...]:
-        """Returns the values for the patterns, in the order of their numbers. Without values, they are the
-        patterns."""
+        """Returns the values for the patterns, in the order of their numbers. Without values, they
+        are the patterns."""
         return self._patterns if self.__items is None else self.__items
 
     @property
@@ -444,8 +449,8 @@ class AhoCorasick:
         return self.__kind
 
     def memory_usage(self) -> int:
-        """Returns the memory of the searcher in bytes, from the documented sizes of its parts. The patterns
-        that this object also keeps are not counted."""
+        """Returns the memory of the searcher in bytes, from the documented sizes of its parts. The
+        patterns that this object also keeps are not counted."""
         facts = _Facts()
         _check(_info(self._reference(), ctypes.byref(facts)))
         return int(facts.memory)
@@ -474,8 +479,8 @@ class AhoCorasick:
                 return answer
         given = self._bytes_of(haystack)
         own = self.__own
-        # The buffer for a match is removed from the list while it is in use: a signal handler or a finalizer
-        # may search in the same thread at that time.
+        # The buffer for a match is removed from the list while it is in use: a signal handler or a
+        # finalizer may search in the same thread at that time.
         try:
             into = own.into.pop()
         except (AttributeError, IndexError):
@@ -493,9 +498,9 @@ class AhoCorasick:
         return next(self._characters([match], given)) if _is_wide(haystack) else match
 
     def find_iter(self, haystack: Haystack) -> Iterator[Match]:
-        """Returns an iterator over the matches. Each search begins where the previous match ended. The
-        iterator searches as it goes, some matches at a time, so it needs no memory for all matches, and the
-        haystack must not change before its last match."""
+        """Returns an iterator over the matches. Each search begins where the previous match ended.
+        The iterator searches as it goes, some matches at a time, so it needs no memory for all
+        matches, and the haystack must not change before its last match."""
         if self._small is not None:
             answer = self._small.find_all(haystack)
             if answer is not NotImplemented:
@@ -503,9 +508,9 @@ class AhoCorasick:
         return self._listed(_find_all, self._finds, haystack)
 
     def find_overlapping_iter(self, haystack: Haystack) -> Iterator[Match]:
-        """Returns an iterator over all matches, including overlapping ones, sorted by end, then start, then
-        number. It searches as it goes, as `find_iter` does. In memory are the matches that end within a few
-        times the length of the longest pattern, with 24 bytes each.
+        """Returns an iterator over all matches, including overlapping ones, sorted by end, then
+        start, then number. It searches as it goes, as `find_iter` does. In memory are the matches
+        that end within a few times the length of the longest pattern, with 24 bytes each.
 
         Raises SearchError if the kind is not "standard"."""
         if self.__kind != "standard":
@@ -517,9 +522,10 @@ class AhoCorasick:
         return self._listed(_overlapping, self._occurrences, haystack)
 
     def find_into(self, haystack: Bytes, room: Any, *, overlapping: bool = False) -> int:
-        """Writes the matches in a haystack of bytes to an array.array("Q") or another buffer of unsigned
-        64-bit numbers. Returns the number of matches. Each match takes three numbers, and only as many
-        matches are written as fit. No object is created for a match, and the array can be used again.
+        """Writes the matches in a haystack of bytes to an array.array("Q") or another buffer of
+        unsigned 64-bit numbers. Returns the number of matches. Each match takes three numbers, and
+        only as many matches are written as fit. No object is created for a match, and the array can
+        be used again.
 
             >>> import array
             >>> room = array.array("Q", bytes(24 * 100))
@@ -541,31 +547,32 @@ class AhoCorasick:
         return count.value
 
     def stream(self, reader: Any) -> Iterator[Match]:
-        """Returns an iterator over the matches in a stream, each as soon as it is certain. The reader has a
-        method `read`, as a file or a socket's makefile() has, or it is an iterable of pieces. The pieces are
-        str, if the patterns are, or bytes, and offsets count from the first piece. The stream is read in
-        pieces of 65536. Only one piece and what the longest pattern needs are in memory. A text reader, such
-        as `open(name)` returns, waits for that many characters; a reader of bytes returns what is available.
+        """Returns an iterator over the matches in a stream, each as soon as it is certain. The
+        reader has a method `read`, as a file or a socket's makefile() has, or it is an iterable of
+        pieces. The pieces are str, if the patterns are, or bytes, and offsets count from the first
+        piece. The stream is read in pieces of 65536. Only one piece and what the longest pattern
+        needs are in memory. A text reader, such as `open(name)` returns, waits for that many
+        characters; a reader of bytes returns what is available.
 
-        A match of kind "standard" is certain at its last byte. A match of another kind is certain at the
-        first byte after it that rules out every better match, or at the end of the stream. It waits for one
-        more byte even if no better match is possible.
+        A match of kind "standard" is certain at its last byte. A match of another kind is certain
+        at the first byte after it that rules out every better match, or at the end of the stream.
+        It waits for one more byte even if no better match is possible.
 
             >>> import io
             >>> [match.start for match in AhoCorasick([b"sam"]).stream(io.BytesIO(b"frodo, sam"))]
             [7]
 
-        If the reader fails, or has no data yet (BlockingIOError), the iterator raises its error, and
-        SearchError from then on: what was read is lost, so a second call would not continue there. To
-        continue after an error, push pieces to a `Stream`.
+        If the reader fails, or has no data yet (BlockingIOError), the iterator raises its error,
+        and SearchError from then on: what was read is lost, so a second call would not continue
+        there. To continue after an error, push pieces to a `Stream`.
 
         Raises SearchError if a pattern is empty."""
         return _Told(Stream(self), _pieces_of(reader))
 
     def stream_replace_all(self, reader: Any, writer: Any, replace_with: Replacements) -> None:
-        """Writes the contents of a reader to a writer, with each match replaced as in `replace_all`. It reads
-        as `stream` does, and writes each part as soon as it is certain. The writer has a method `write`,
-        which writes everything that it receives.
+        """Writes the contents of a reader to a writer, with each match replaced as in
+        `replace_all`. It reads as `stream` does, and writes each part as soon as it is certain. The
+        writer has a method `write`, which writes everything that it receives.
 
             >>> import io
             >>> there = io.StringIO()
@@ -573,12 +580,12 @@ class AhoCorasick:
             >>> there.getvalue()
             'frodo, S'
 
-        If the reader or the writer fails, or is not ready (BlockingIOError), the data that was read and not
-        written is lost: a second call would not continue there. To continue after an error, push pieces to a
-        `Replacer`.
+        If the reader or the writer fails, or is not ready (BlockingIOError), the data that was read
+        and not written is lost: a second call would not continue there. To continue after an error,
+        push pieces to a `Replacer`.
 
-        Raises ReplacementError if the replacements are not one for each pattern, and SearchError if a pattern
-        is empty."""
+        Raises ReplacementError if the replacements are not one for each pattern, and SearchError if
+        a pattern is empty."""
         replacer, pieces = Replacer(self, replace_with), _pieces_of(reader)
         for piece in pieces:
             _write(writer, replacer.push(piece))
@@ -591,17 +598,18 @@ class AhoCorasick:
     def replace_all(self, haystack: Bytes, replace_with: Replacements) -> bytes: ...
 
     def replace_all(self, haystack: Haystack, replace_with: Replacements) -> Union[str, bytes]:
-        """Returns the haystack with each match replaced by the replacement of its pattern: a str for a str,
-        otherwise bytes. The replacements are a list or a tuple with one for each pattern, or a mapping from
-        each pattern, as it was given, to its replacement. If a call has the same replacements as the one
-        before, they are not prepared again; a tuple is recognised fastest.
+        """Returns the haystack with each match replaced by the replacement of its pattern: a str
+        for a str, otherwise bytes. The replacements are a list or a tuple with one for each
+        pattern, or a mapping from each pattern, as it was given, to its replacement. If a call has
+        the same replacements as the one before, they are not prepared again; a tuple is recognised
+        fastest.
 
             >>> table = {"frodo": "F", "sam": "S"}
             >>> AhoCorasick(table).replace_all("frodo and sam", table)
             'F and S'
 
-        Raises ReplacementError, which is a TypeError and a ValueError, if the replacements are not one for
-        each pattern."""
+        Raises ReplacementError, which is a TypeError and a ValueError, if the replacements are not
+        one for each pattern."""
         if self._small is not None:
             answer = self._small.replace_all(haystack, replace_with)
             if answer is not NotImplemented:
@@ -618,15 +626,15 @@ class AhoCorasick:
     def cover_all(self, haystack: Bytes, replace_with: Replacements) -> bytes: ...
 
     def cover_all(self, haystack: Haystack, replace_with: Replacements) -> Union[str, bytes]:
-        """Returns the haystack with each run of matched bytes replaced, so that nothing of a match remains.
-        Matches that overlap or touch are one run. Its replacement is that for the longest pattern that
-        matches at the start of the run, or the first of several equal ones.
+        """Returns the haystack with each run of matched bytes replaced, so that nothing of a match
+        remains. Matches that overlap or touch are one run. Its replacement is that for the longest
+        pattern that matches at the start of the run, or the first of several equal ones.
 
             >>> AhoCorasick(["ann", "anna", "nan"]).cover_all("annan, ann", ["[1]", "[2]", "[3]"])
             '[2], [1]'
 
-        The replacements are given as for `replace_all`. Raises ReplacementError if they are not one for each
-        pattern, and SearchError if the kind is not "standard" or a pattern is empty."""
+        The replacements are given as for `replace_all`. Raises ReplacementError if they are not one
+        for each pattern, and SearchError if the kind is not "standard" or a pattern is empty."""
         prepared = self._prepare(replace_with, isinstance(haystack, str))
         if self.__kind != "standard":
             raise SearchError(f"only the kind standard covers, and the kind of this searcher is {self.__kind}")
@@ -644,7 +652,8 @@ class AhoCorasick:
     def _prepare(self, replace_with: Replacements, of_text: Optional[bool]) -> _Prepared:
         """Returns the replacements by their patterns' numbers, as the library takes them: all of
         type str, or none, as `of_text` says; if that is None, all of one type. No message shows a
-        replacement. What the last call prepared is used again if each of them is the same object."""
+        replacement. What the last call prepared is used again if each of them is the same
+        object."""
         kept = self.__prepared
         if kept is not None and kept.given is replace_with:
             return _of_type(kept, of_text)
@@ -693,8 +702,8 @@ class AhoCorasick:
         self.__lock, self.__own = threading.RLock(), threading.local()
 
     def _reference(self) -> Any:
-        """Returns the handle of this thread: no two calls use a handle at the same time. A forked process
-        makes new handles."""
+        """Returns the handle of this thread: no two calls use a handle at the same time. A forked
+        process makes new handles."""
         try:
             return self.__own.reference
         except AttributeError:
@@ -732,10 +741,10 @@ class AhoCorasick:
         return map(tuple.__new__, _EACH_A_MATCH, _MATCH.iter_unpack(written))
 
     def _finds(self, given: Any) -> Iterator[Iterator[Match]]:
-        """Yields the matches of an iteration, some at a time. It searches a piece of the haystack as if it
-        were the whole, and yields the matches that no later byte can change. With "standard" those are all
-        matches. With the other kinds they start so far before the end of the piece that no longer pattern
-        can start at or before the same offset."""
+        """Yields the matches of an iteration, some at a time. It searches a piece of the haystack
+        as if it were the whole, and yields the matches that no later byte can change. With
+        "standard" those are all matches. With the other kinds they start so far before the end of
+        the piece that no longer pattern can start at or before the same offset."""
         size, longest, leftmost = len(given), max(self._longest, 1), self.__kind != "standard"
         place, last, step = 0, -1, _STEP_FIRST  # where the search continues, and the end of the last match
         while True:
@@ -744,7 +753,8 @@ class AhoCorasick:
             written = kept = len(numbers) // 3
             while leftmost and end < size and kept and numbers[3 * kept - 2] + longest > end - place:
                 kept -= 1
-            # An empty match where the last one ended does not count. The iteration continues from there.
+            # An empty match where the last one ended does not count. The iteration continues from
+            # there.
             first = 1 if kept and numbers[2] == 0 and last == place else 0
             yield _matches(numbers, first, kept, place)
             if kept:
@@ -757,8 +767,9 @@ class AhoCorasick:
                 place, step = max(last, end - longest + 1), min(8 * step, _STEP_LAST)
 
     def _occurrences(self, given: Any) -> Iterator[Iterator[Match]]:
-        """Yields all matches, some at a time: those that end after one offset and at or before another. The
-        search begins before the first offset, by the length that the longest pattern may have there."""
+        """Yields all matches, some at a time: those that end after one offset and at or before
+        another. The search begins before the first offset, by the length that the longest pattern
+        may have there."""
         size, longest = len(given), max(self._longest, 1)
         place, step, room = -1, _STEP_FIRST, _ROOM_FIRST  # matches that end at or before `place` were yielded
         while place < size:
@@ -776,8 +787,8 @@ class AhoCorasick:
                 step = max(step // 2, 1)
 
     def _searched(self, function: Any, given: Any, begin: int, end: int, matches: int) -> Tuple[Any, int]:
-        """Returns the first matches of a part of the haystack, as three numbers each, and the number of all
-        its matches."""
+        """Returns the first matches of a part of the haystack, as three numbers each, and the
+        number of all its matches."""
         found, count = self._room(matches), ctypes.c_size_t()
         _check(function(self._reference(), _address(given) + begin, end - begin, found, matches, ctypes.byref(count)))
         written = memoryview(found)[: min(count.value, matches) * _MATCH.size].tobytes()
@@ -786,14 +797,14 @@ class AhoCorasick:
         return memoryview(written).cast("N"), count.value
 
     def _room(self, matches: int) -> Any:
-        """Returns a buffer for at least this many matches: the one of this thread, if it is large enough. The
-        thread has none while it is in use, as in `find`."""
+        """Returns a buffer for at least this many matches: the one of this thread, if it is large
+        enough. The thread has none while it is in use, as in `find`."""
         own = self.__own.__dict__.pop("room", None)
         return own if own is not None and len(own) >= matches * _MATCH.size else (ctypes.c_char * (matches * _MATCH.size))()
 
     def _characters(self, matches: Iterable[Match], text: bytes) -> Iterator[Match]:
-        """Yields matches in the UTF-8 of a string, which are sorted by their ends, with offsets of characters.
-        It leaves out a match inside a character, which an empty one can be."""
+        """Yields matches in the UTF-8 of a string, which are sorted by their ends, with offsets of
+        characters. It leaves out a match inside a character, which an empty one can be."""
         at = passed = 0
         for it in matches:
             if it.end < len(text) and text[it.end] & 0xC0 == 0x80:
@@ -871,8 +882,8 @@ def _pieces_of(reader: Any) -> Iterator[Haystack]:
 
 
 class _Told:
-    """An iterator over the matches of a stream. After an error of the reader, each further call raises an
-    error, and the iterator does not end."""
+    """An iterator over the matches of a stream. After an error of the reader, each further call
+    raises an error, and the iterator does not end."""
 
     def __init__(self, stream: "Stream", pieces: Iterator[Haystack]) -> None:
         self._ends: List[bool] = []
@@ -901,8 +912,9 @@ def _is_empty(piece: Any) -> bool:
 
 
 def _read(reader: Any) -> Iterator[Haystack]:
-    # `read1` of a buffered pipe or socket returns what is available, so that a match is returned as soon as
-    # its bytes arrive. A reader of codecs has the `read1` of the bytes below it, and others refuse theirs.
+    # `read1` of a buffered pipe or socket returns what is available, so that a match is returned as
+    # soon as its bytes arrive. A reader of codecs has the `read1` of the bytes below it, and others
+    # refuse theirs.
     prompt = isinstance(reader, io.BufferedIOBase) and type(reader).read1 is not io.BufferedIOBase.read1
     read = reader.read1 if prompt else getattr(reader, "read", None)
     for piece in iter(lambda: read(_PIECE), reader) if read else iter(reader):
@@ -918,9 +930,10 @@ def _read(reader: Any) -> Iterator[Haystack]:
 
 
 def _may_wait(reader: Any) -> bool:
-    """Returns whether the descriptor of a reader does not block. Such a reader, if it decodes, returns an
-    empty piece both at the end and if it has no data yet. Up to Python 3.13, a buffered one does too. A file
-    in memory is not asked for its descriptor, because that would write it to disk."""
+    """Returns whether the descriptor of a reader does not block. Such a reader, if it decodes,
+    returns an empty piece both at the end and if it has no data yet. Up to Python 3.13, a buffered
+    one does too. A file in memory is not asked for its descriptor, because that would write it to
+    disk."""
     below = reader.buffer if isinstance(reader, io.TextIOWrapper) else reader
     with contextlib.suppress(OSError, ValueError):  # it has no descriptor
         return isinstance(below, (io.BufferedReader, io.BufferedRandom)) and not os.get_blocking(below.fileno())
@@ -969,8 +982,8 @@ def _matches(numbers: Any, first: int, last: int, moved: int) -> Iterator[Match]
 
 
 def _in_turn(batches: Iterator[Iterator[Match]]) -> Iterator[Match]:
-    """Yields one batch after another. If two threads use it at once, it raises a ValueError; itertools.chain
-    would crash."""
+    """Yields one batch after another. If two threads use it at once, it raises a ValueError;
+    itertools.chain would crash."""
     for batch in batches:
         yield from batch
 
@@ -1009,8 +1022,8 @@ def _build_error(error: _Error) -> BuildError:
 
 
 def _state_of(it: Any, without: Iterable[str]) -> Any:
-    """Returns the attributes of an object, except some, and the slots of its class, in the form in which pickle
-    and copy restore them. If its class has a `__getstate__`, that decides."""
+    """Returns the attributes of an object, except some, and the slots of its class, in the form in
+    which pickle and copy restore them. If its class has a `__getstate__`, that decides."""
     said = getattr(type(it), "__getstate__", None)
     if said is not getattr(object, "__getstate__", None):
         state = it.__getstate__()
@@ -1041,8 +1054,8 @@ def _rebuilt_as(
     automaton: Optional[str] = None,
     *limits: Optional[int],
 ) -> AhoCorasick:
-    """Returns the searcher of a pickle, of any class. The class's own __init__ may have other parameters, and
-    is not called."""
+    """Returns the searcher of a pickle, of any class. The class's own __init__ may have other
+    parameters, and is not called."""
     named: Any = dict(zip(("max_index", "max_pattern", "max_len"), limits))
     searcher: AhoCorasick = kind_of_searcher.__new__(kind_of_searcher)
     AhoCorasick.__init__(searcher, patterns, kind=kind, ignore_case=ignore_case, prefilter=prefilter, automaton=automaton, **named)
@@ -1056,8 +1069,8 @@ def _rebuilt(*given: Any) -> AhoCorasick:
 
 @contextlib.contextmanager
 def _alone(lock: Any) -> Iterator[None]:
-    """Locks a stream for one call. A call that an error cuts off leaves it locked for good, because the data
-    that the call had taken is lost."""
+    """Locks a stream for one call. A call that an error cuts off leaves it locked for good, because
+    the data that the call had taken is lost."""
     if not lock.acquire(blocking=False):
         raise SearchError("another call uses the stream, or an error cut one off: it cannot continue")
     try:
@@ -1069,8 +1082,9 @@ def _alone(lock: Any) -> Iterator[None]:
 
 
 class Stream:
-    """A search of a stream whose pieces are pushed as they arrive. One call at a time may use it. A second
-    call raises SearchError, and every call does after one was cut off, for example by KeyboardInterrupt.
+    """A search of a stream whose pieces are pushed as they arrive. One call at a time may use it. A
+    second call raises SearchError, and every call does after one was cut off, for example by
+    KeyboardInterrupt.
 
         >>> stream = Stream(AhoCorasick(["samwise", "sam"], kind="leftmost-longest"))
         >>> stream.push("frodo, sam"), stream.push("wise"), stream.end()
@@ -1081,15 +1095,16 @@ class Stream:
     def __init__(self, searcher: AhoCorasick) -> None:
         self._searcher, self._handle, self._lock = searcher, _StreamHandle(), threading.Lock()
         self._found, self._taken = _Match(), ctypes.c_size_t()
-        # For a stream of str, the bytes from offset `_at` are kept, with the number of characters before them.
+        # For a stream of str, the bytes from offset `_at` are kept, with the number of characters
+        # before them.
         self._of_text: Optional[bool] = None
         self._tail, self._at, self._passed = bytearray(), 0, 0
         self._most = searcher._longest + 1
         _check(_stream_new(searcher._reference(), ctypes.byref(self._handle)))
 
     def push(self, piece: Haystack) -> List[Match]:
-        """Returns the matches that become certain with this piece, as `AhoCorasick.stream` explains. A piece is
-        a str or bytes, as the first one was."""
+        """Returns the matches that become certain with this piece, as `AhoCorasick.stream`
+        explains. A piece is a str or bytes, as the first one was."""
         text = isinstance(piece, str)
         if self._of_text not in (None, text):
             raise TypeError("the pieces of a stream must all be of type str, or all of bytes")
@@ -1154,15 +1169,15 @@ class Stream:
 
 
 class Replacer:
-    """Replaces the matches of a stream whose pieces are pushed as they arrive. One call at a time may use it,
-    as for a `Stream`.
+    """Replaces the matches of a stream whose pieces are pushed as they arrive. One call at a time
+    may use it, as for a `Stream`.
 
         >>> replacer = Replacer(AhoCorasick(["samwise", "sam"], kind="leftmost-longest"), ["S", "s"])
         >>> replacer.push("frodo, sam") + replacer.push("wise and") + replacer.end()
         'frodo, S and'
 
-    The replacements are given as for `AhoCorasick.replace_all`. Raises ReplacementError if they are not one
-    for each pattern, and SearchError if a pattern is empty."""
+    The replacements are given as for `AhoCorasick.replace_all`. Raises ReplacementError if they are
+    not one for each pattern, and SearchError if a pattern is empty."""
 
     def __init__(self, searcher: AhoCorasick, replace_with: Replacements) -> None:
         prepared = searcher._prepare(replace_with, None)
@@ -1183,8 +1198,8 @@ class Replacer:
     def push(self, piece: Bytes) -> bytes: ...
 
     def push(self, piece: Haystack) -> Union[str, bytes]:
-        """Returns the part of the result that becomes certain with this piece: a str if the replacements are,
-        otherwise bytes."""
+        """Returns the part of the result that becomes certain with this piece: a str if the
+        replacements are, otherwise bytes."""
         if self._of_text is None:
             self._of_text = isinstance(piece, str)
         if isinstance(piece, str) != self._of_text:
@@ -1221,8 +1236,9 @@ class Replacer:
 
 
 def _spellings(secret: Haystack, word: bytes) -> List[bytes]:
-    """Returns the bytes of a secret, and their other spelling if they are not UTF-8. For a str from os.environ
-    those are the original bytes. For bytes they are what a reader that escapes them returns."""
+    """Returns the bytes of a secret, and their other spelling if they are not UTF-8. For a str from
+    os.environ those are the original bytes. For bytes they are what a reader that escapes them
+    returns."""
     try:
         other = word.decode(*_ENCODING).encode("utf-8", "surrogateescape") if isinstance(secret, str) else word.decode("utf-8", "surrogateescape").encode(*_ENCODING)
     except UnicodeError:
@@ -1262,10 +1278,11 @@ def forms(secret: Bytes, names: Union[str, Iterable[str]] = "all") -> List[bytes
 
 
 def forms(secret: Haystack, names: Union[str, Iterable[str]] = "all") -> Union[List[str], List[bytes]]:
-    """Returns the patterns that find a secret in some encoded forms, each pattern once. The forms are base64,
-    hex, url, json, xml, shell and lines, as a list or separated by commas, or all. If the secret appears in a
-    text in one of the forms, by itself or inside other encoded bytes, each character that contains a bit of
-    it is part of an occurrence of a pattern. The patterns are str if the secret is, otherwise bytes.
+    """Returns the patterns that find a secret in some encoded forms, each pattern once. The forms
+    are base64, hex, url, json, xml, shell and lines, as a list or separated by commas, or all. If
+    the secret appears in a text in one of the forms, by itself or inside other encoded bytes, each
+    character that contains a bit of it is part of an occurrence of a pattern. The patterns are str
+    if the secret is, otherwise bytes.
 
         >>> forms("key/1", ["hex", "url"])
         ['6b65792f31', '6B65792F31', 'key%2F1', 'key%2f1', 'key/1', '%6B%65%79%2F%31', '%6b%65%79%2f%31']
@@ -1276,25 +1293,25 @@ def forms(secret: Haystack, names: Union[str, Iterable[str]] = "all") -> Union[L
 
 
 class Redactor:
-    """Replaces secrets and their encoded `forms` in strings, bytes and streams. Occurrences that overlap or touch
-    are one run. Each run becomes one `replacement`, so that no byte of an occurrence remains. Any number of
-    threads may use a redactor at the same time. A pickled redactor contains its secrets, so other processes
-    can use it too.
+    """Replaces secrets and their encoded `forms` in strings, bytes and streams. Occurrences that
+    overlap or touch are one run. Each run becomes one `replacement`, so that no byte of an
+    occurrence remains. Any number of threads may use a redactor at the same time. A pickled
+    redactor contains its secrets, so other processes can use it too.
 
         >>> redactor = Redactor(["key/+", b"pass word"])
         >>> redactor.text("Basic dTprZXkvKw== key%2F%2B key/+pass+word")
         'Basic dT[redacted]== [redacted] [redacted]'
 
-    Together with the bytes next to it, a replacement can spell out a secret. It should not be empty, or
-    similar to a part of a secret:
+    Together with the bytes next to it, a replacement can spell out a secret. It should not be
+    empty, or similar to a part of a secret:
 
         >>> Redactor(["abcd"], replacement="").text("ababcdcd")
         'abcd'
 
-    The secrets are a list with at least one secret. The forms are those of the function `forms`, and an empty
-    list means none. Other encodings of a secret are not found, for example compression, or base64 with line
-    breaks. Raises FormError if there are no secrets, if one is empty, or if there are forms and it has fewer
-    than four bytes."""
+    The secrets are a list with at least one secret. The forms are those of the function `forms`,
+    and an empty list means none. Other encodings of a secret are not found, for example
+    compression, or base64 with line breaks. Raises FormError if there are no secrets, if one is
+    empty, or if there are forms and it has fewer than four bytes."""
 
     def __init__(
         self,
@@ -1334,8 +1351,8 @@ class Redactor:
             setattr(self, name, value)
 
     def text(self, text: str) -> str:
-        """Returns the string with each run replaced. A character that a secret of bytes cuts in two becomes
-        U+FFFD."""
+        """Returns the string with each run replaced. A character that a secret of bytes cuts in two
+        becomes U+FFFD."""
         if not isinstance(text, str):
             raise TypeError(f"the text must be a str, not {type(text).__name__}: see Redactor.bytes")
         text = _text(text)
@@ -1343,9 +1360,9 @@ class Redactor:
         return _text_of(self._covered(given)) if self._searcher.is_match(given) else text
 
     def stream(self, reader: Any, writer: Any) -> None:
-        """Writes the contents of a reader to a writer, with each run replaced. The reader and the writer are as
-        for `AhoCorasick.stream_replace_all`. Data is written as soon as it cannot belong to a secret that is
-        still incomplete.
+        """Writes the contents of a reader to a writer, with each run replaced. The reader and the
+        writer are as for `AhoCorasick.stream_replace_all`. Data is written as soon as it cannot
+        belong to a secret that is still incomplete.
 
             >>> import io
             >>> there = io.StringIO()
@@ -1353,9 +1370,10 @@ class Redactor:
             >>> there.getvalue()
             'the [redacted], [redacted]'
 
-        If the reader or the writer fails, or is not ready (BlockingIOError), the data that was read and not
-        written is lost. **Do not continue with a second call**: if the first call held the start of a secret,
-        the second would write the rest of it. To continue after an error, push pieces to a `Coverer`.
+        If the reader or the writer fails, or is not ready (BlockingIOError), the data that was read
+        and not written is lost. **Do not continue with a second call**: if the first call held the
+        start of a secret, the second would write the rest of it. To continue after an error, push
+        pieces to a `Coverer`.
         """
         coverer = Coverer(self)
         for piece in _pieces_of(reader):
@@ -1373,19 +1391,20 @@ class Redactor:
 
 
 class Coverer:
-    """Redacts a stream whose pieces are pushed as they arrive. It replaces each run as its `Redactor` does, even
-    a run that continues from piece to piece. If a reader has no data yet, the stream can continue later with
-    the same Coverer.
+    """Redacts a stream whose pieces are pushed as they arrive. It replaces each run as its
+    `Redactor` does, even a run that continues from piece to piece. If a reader has no data yet, the
+    stream can continue later with the same Coverer.
 
         >>> coverer = Coverer(Redactor(["swordfish"]))
         >>> coverer.push("the sword") + coverer.push("fish, c3dvcmRm") + coverer.push("aXNo") + coverer.end()
         'the [redacted], [redacted]'
 
-    One call at a time may use it. A second call raises SearchError, and every call does after one was cut
-    off, for example by KeyboardInterrupt."""
+    One call at a time may use it. A second call raises SearchError, and every call does after one
+    was cut off, for example by KeyboardInterrupt."""
 
     def __init__(self, redactor: Redactor) -> None:
-        # The held bytes; whether a run whose replacement was returned continues in them; its known end.
+        # The held bytes; whether a run whose replacement was returned continues in them; its known
+        # end.
         self._redactor, self._held, self._is_open, self._upto = redactor, b"", False, 0
         self._of_text: Optional[bool] = None
         self._decoder = codecs.getincrementaldecoder("utf-8")("chromesquid.text")
@@ -1401,8 +1420,8 @@ class Coverer:
     def push(self, piece: Bytes) -> bytes: ...
 
     def push(self, piece: Haystack) -> Union[str, bytes]:
-        """Returns the data that cannot belong to a secret that is still incomplete, with each run replaced: a
-        str if the pieces are, otherwise bytes."""
+        """Returns the data that cannot belong to a secret that is still incomplete, with each run
+        replaced: a str if the pieces are, otherwise bytes."""
         of_text = isinstance(piece, str)
         if self._of_text not in (None, of_text):
             raise TypeError("the pieces of a stream must all be of type str, or all of bytes")
@@ -1416,14 +1435,15 @@ class Coverer:
             return self._told(held, next((at for at in range(first, len(held)) if held[at : at + 4] in begins), len(held)))
 
     def end(self) -> Union[str, bytes]:
-        """Ends the stream, and returns the rest of the result. Without any piece, that is empty bytes."""
+        """Ends the stream, and returns the rest of the result. Without any piece, that is empty
+        bytes."""
         with _alone(self._lock):
             self._has_ended = True
             return self._told(self._held, len(self._held))
 
     def _told(self, held: bytes, settled: int) -> Union[str, bytes]:
-        """Returns the redacted data before an offset, before which no incomplete occurrence begins. The rest is
-        held."""
+        """Returns the redacted data before an offset, before which no incomplete occurrence begins.
+        The rest is held."""
         parts: List[bytes] = []
         is_open, upto = self._is_open, self._upto
         for start, end in sorted((it.start, it.end) for it in self._redactor._searcher.find_overlapping_iter(held)):
@@ -1459,16 +1479,17 @@ _OF_RECORDS = frozenset([*vars(logging.makeLogRecord({})), "message", "asctime",
 
 
 class LogFilter(logging.Filter):
-    """Redacts log records: the message with its arguments, the traceback, and all other attributes and their
-    names, except numbers. If the str or repr of an object of another class contains a secret, the redacted
-    string takes its place. The attributes of such an object are not redacted, and a formatter may use them.
-    Add the filter to a handler: a filter of a logger does not see the records of the loggers below it.
+    """Redacts log records: the message with its arguments, the traceback, and all other attributes
+    and their names, except numbers. If the str or repr of an object of another class contains a
+    secret, the redacted string takes its place. The attributes of such an object are not redacted,
+    and a formatter may use them. Add the filter to a handler: a filter of a logger does not see the
+    records of the loggers below it.
 
         >>> handler = logging.StreamHandler()
         >>> handler.addFilter(LogFilter(Redactor(["swordfish"])))
 
-    The arguments become part of the message, and the traceback becomes text, so handlers no longer have them
-    as values. Arguments that do not fit their message are left out."""
+    The arguments become part of the message, and the traceback becomes text, so handlers no longer
+    have them as values. Arguments that do not fit their message are left out."""
 
     def __init__(self, redactor: Redactor) -> None:
         super().__init__()
@@ -1489,16 +1510,16 @@ class LogFilter(logging.Filter):
         return True
 
     def _looked_at(self, value: Any) -> Any:
-        """Returns a value without secrets. A value that cannot be examined is left out. No error is raised, because
-        the program only writes a log line."""
+        """Returns a value without secrets. A value that cannot be examined is left out. No error is
+        raised, because the program only writes a log line."""
         try:
             return self._covered(value)
         except Exception:
             return f"({type(value).__name__} that cannot be examined is left out)"
 
     def _covered(self, value: Any, within: Tuple[int, ...] = ()) -> Any:
-        """Returns a value without secrets, even in its parts. A value without any is returned itself, and its
-        comparison methods are not called."""
+        """Returns a value without secrets, even in its parts. A value without any is returned
+        itself, and its comparison methods are not called."""
         if value is None or type(value) in (bool, int, float):
             return value
         if isinstance(value, str):

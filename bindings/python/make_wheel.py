@@ -1,15 +1,16 @@
-"""Builds a wheel of chromesquid.py with its library, and a source archive from which pip builds the wheel. pip
-calls this file, and so can you:
+"""Builds a wheel of chromesquid.py with its library, and a source archive from which pip builds the
+wheel. pip calls this file, and so can you:
 
     python3 make_wheel.py FOLDER
 
-The library is libchromesquid.so in the folder that the environment variable CHROMESQUID_LIBRARY names. Without
-the variable it is next to this file, as in the archive, or in bin/program. The wheel also contains the library
-for x86-64-v3, which is in glibc-hwcaps of that folder, and uses it on processors with AVX2.
+The library is libchromesquid.so in the folder that the environment variable CHROMESQUID_LIBRARY
+names. Without the variable it is next to this file, as in the archive, or in bin/program. The wheel
+also contains the library for x86-64-v3, which is in glibc-hwcaps of that folder, and uses it on
+processors with AVX2.
 
-With a C compiler and Python.h, the wheel contains the extension module for small calls, for CPython 3.8 and
-later. Without it, and with other Pythons, ctypes does these calls. The same library, files and compiler always
-make the same wheel and the same archive, byte for byte."""
+With a C compiler and Python.h, the wheel contains the extension module for small calls, for CPython
+3.8 and later. Without it, and with other Pythons, ctypes does these calls. The same library, files
+and compiler always make the same wheel and the same archive, byte for byte."""
 
 import base64
 import gzip
@@ -52,7 +53,8 @@ def _libraries():
 
 
 def _licences():
-    """Returns the licences by their names. They are next to this file, or at the top of the repository."""
+    """Returns the licences by their names. They are next to this file, or at the top of the
+    repository."""
     return {name: _read(HERE if os.path.exists(os.path.join(HERE, name)) else TOP, name) for name in LICENCES}
 
 
@@ -73,8 +75,8 @@ def _version():
 
 
 def _tag(libraries):
-    """Returns the tag of the wheel: Linux on x86-64, with the newest version of glibc that the libraries need,
-    at least 2.17."""
+    """Returns the tag of the wheel: Linux on x86-64, with the newest version of glibc that the
+    libraries need, at least 2.17."""
     newest = max([17, *(int(minor) for minor in re.findall(rb"GLIBC_2\.(\d+)", b"".join(libraries.values())))])
     return f"py3-none-manylinux_2_{newest}_x86_64"
 

@@ -1,8 +1,8 @@
-//! Finds the C library. The environment variable CHROMESQUID_LIBRARY names its folder, by an absolute
-//! path or relative to the folder of this file. Without the variable, the library is in `lib` next to
-//! this file, or in `bin/program` of the repository that contains this crate. The header next to the
-//! archive has the version of the library and the layout of its structs: if this crate was written
-//! for others, the build fails and names the file.
+//! Finds the C library. The environment variable CHROMESQUID_LIBRARY names its folder, by an
+//! absolute path or relative to the folder of this file. Without the variable, the library is in
+//! `lib` next to this file, or in `bin/program` of the repository that contains this crate. The
+//! header next to the archive has the version of the library and the layout of its structs: if this
+//! crate was written for others, the build fails and names the file.
 use std::{
     env, fs,
     path::{Path, PathBuf},

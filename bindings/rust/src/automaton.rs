@@ -24,8 +24,8 @@
 //! assert_eq!(first(&automaton, b"samwise"), Ok(Some(Match::must(1, 0..3))));
 //! ```
 //!
-//! Searches and states are the library's. A step of a walk locks the states, which all clones share:
-//! if many threads use one automaton, searches are faster than walks.
+//! Searches and states are the library's. A step of a walk locks the states, which all clones
+//! share: if many threads use one automaton, searches are faster than walks.
 use crate::error::MatchError;
 use crate::inner::Sealed;
 use crate::primitives::PatternID;
@@ -271,8 +271,8 @@ impl Candidate {
     }
 }
 
-/// An iterator over the matches of an automaton. Each match is searched for by the call that returns
-/// it.
+/// An iterator over the matches of an automaton. Each match is searched for by the call that
+/// returns it.
 pub struct FindIter<'a, 'h, A> {
     of: PhantomData<&'a A>,
     found: searcher::FindIter<'a, 'h>,

@@ -264,8 +264,8 @@ impl Handle {
         unsafe { cs_is_match(&mut self.0, haystack.as_ptr(), haystack.len()) == FOUND }
     }
 
-    /// Returns the match of a search. The searcher supports it, and its span does not start after its
-    /// end.
+    /// Returns the match of a search. The searcher supports it, and its span does not start after
+    /// its end.
     pub(crate) fn search(&mut self, input: &Input<'_>) -> Option<Match> {
         let (haystack, mut found) = (input.haystack(), CsMatch::default());
         let anchored = input.get_anchored() == Anchored::Yes;
@@ -285,8 +285,8 @@ impl Handle {
         (status == FOUND).then(|| match_of(found, 0))
     }
 
-    /// Returns all matches of the haystack, including overlapping ones, each moved to the right by the
-    /// offset. The match kind is standard, and the searcher supports unanchored searches.
+    /// Returns all matches of the haystack, including overlapping ones, each moved to the right by
+    /// the offset. The match kind is standard, and the searcher supports unanchored searches.
     pub(crate) fn overlapping(&mut self, haystack: &[u8], offset: usize) -> Vec<Match> {
         let mut room = vec![CsMatch::default(); 64 + haystack.len() / 256];
         loop {
@@ -309,8 +309,8 @@ impl Handle {
     }
 
     /// Returns the haystack with each run of matched bytes replaced, or `None` if memory ran out.
-    /// There is one replacement for each pattern, no pattern is empty, the match kind is standard, and
-    /// the searcher supports unanchored searches.
+    /// There is one replacement for each pattern, no pattern is empty, the match kind is standard,
+    /// and the searcher supports unanchored searches.
     pub(crate) fn cover_all(&mut self, haystack: &[u8], replace_with: &Pieces<'_>) -> Option<Vec<u8>> {
         self.written(haystack, replace_with, cs_cover_all)
     }
@@ -469,12 +469,13 @@ impl Stream {
         (unsafe { cs_stream_next(&mut self.0, &mut found) } == FOUND).then(|| match_of(found, 0))
     }
 
-    /// Writes the next certain part of the result to the buffer, and returns its length. A buffer that
-    /// is too small grows. There is one replacement for each pattern.
+    /// Writes the next certain part of the result to the buffer, and returns its length. A buffer
+    /// that is too small grows. There is one replacement for each pattern.
     pub(crate) fn replace(&mut self, pieces: &Pieces<'_>, room: &mut Vec<u8>) -> Option<usize> {
         loop {
             let (slices, mut len) = (&pieces.slices, 0);
-            // SAFETY: the replacements are borrowed for the call, and the length of the buffer is true.
+            // SAFETY: the replacements are borrowed for the call, and the length of the buffer is
+            // true.
             let status = unsafe { cs_stream_replace(&mut self.0, slices.as_ptr(), slices.len(), room.as_mut_ptr(), room.len(), &mut len) };
             match status {
                 FOUND => return Some(len),

@@ -176,8 +176,8 @@ impl Searcher {
         self.searcher.find(haystack.as_ref())
     }
 
-    /// Returns the first match in a span. Panics if the haystack has no such span, or the span starts
-    /// after its end.
+    /// Returns the first match in a span. Panics if the haystack has no such span, or the span
+    /// starts after its end.
     pub fn find_in<B: AsRef<[u8]>>(&self, haystack: B, span: Span) -> Option<Match> {
         assert!(span.start <= span.end, "the span {span:?} ends before its start");
         self.searcher.find(Input::new(haystack.as_ref()).span(span))

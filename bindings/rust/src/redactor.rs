@@ -10,8 +10,8 @@ use std::{
 const CHUNK: usize = 64 * 1024;
 
 /// Replaces secrets and their encoded forms in texts and streams. Occurrences that overlap or touch
-/// are one run, and each run is replaced as a whole, so no byte of an occurrence remains. Clones share
-/// its memory, and any number of threads may use it at the same time.
+/// are one run, and each run is replaced as a whole, so no byte of an occurrence remains. Clones
+/// share its memory, and any number of threads may use it at the same time.
 ///
 /// ```
 /// use chromesquid::{Form, Redactor};
@@ -56,8 +56,8 @@ impl Redactor {
         Ok(Redactor { searcher, replacement: b"[redacted]".to_vec(), secrets: count, begins })
     }
 
-    /// Sets the replacement of each run. Together with the bytes next to it, a replacement can spell
-    /// out a secret. It should not be empty, or similar to a part of a secret:
+    /// Sets the replacement of each run. Together with the bytes next to it, a replacement can
+    /// spell out a secret. It should not be empty, or similar to a part of a secret:
     ///
     /// ```
     /// let redactor = chromesquid::Redactor::new(["abcd"], &[]).unwrap().replacement("");
@@ -68,7 +68,8 @@ impl Redactor {
         self
     }
 
-    /// Returns the text with each run replaced. A character that a secret cuts in two becomes U+FFFD.
+    /// Returns the text with each run replaced. A character that a secret cuts in two becomes
+    /// U+FFFD.
     pub fn text(&self, text: &str) -> String {
         match String::from_utf8(self.bytes(text.as_bytes())) {
             Ok(covered) => covered,
@@ -85,12 +86,12 @@ impl Redactor {
         }
     }
 
-    /// Writes the bytes of the reader with each run replaced, and flushes the writer at the end. Bytes
-    /// are written as soon as they cannot belong to a secret that is still incomplete.
+    /// Writes the bytes of the reader with each run replaced, and flushes the writer at the end.
+    /// Bytes are written as soon as they cannot belong to a secret that is still incomplete.
     ///
     /// If the reader or the writer fails, even with `WouldBlock`, the bytes that were read and not
-    /// written are lost. **Do not continue with a second call**: if the first call held the start of
-    /// a secret, the second would write the rest of it.
+    /// written are lost. **Do not continue with a second call**: if the first call held the start
+    /// of a secret, the second would write the rest of it.
     pub fn stream<R: Read, W: Write>(&self, mut reader: R, mut writer: W) -> io::Result<()> {
         let mut chunk = vec![0; CHUNK];
         let mut covering = Covering { redactor: self, held: Vec::new(), is_open: false, upto: 0 };

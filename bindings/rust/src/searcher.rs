@@ -97,8 +97,8 @@ impl AhoCorasickBuilder {
         self
     }
 
-    /// Sets the kind of automaton. It is a hint, on which no answer depends. With `None` the library
-    /// chooses.
+    /// Sets the kind of automaton. It is a hint, on which no answer depends. With `None` the
+    /// library chooses.
     pub fn kind(&mut self, kind: Option<AhoCorasickKind>) -> &mut AhoCorasickBuilder {
         self.kind = kind;
         self
@@ -182,7 +182,8 @@ impl AhoCorasick {
     /// Returns the text with each match replaced by the replacement of its pattern. A match that
     /// starts or ends inside a character is not replaced.
     ///
-    /// Panics if the number of replacements differs from the number of patterns, and as `find` does.
+    /// Panics if the number of replacements differs from the number of patterns, and as `find`
+    /// does.
     pub fn replace_all<B: AsRef<str>>(&self, haystack: &str, replace_with: &[B]) -> String {
         or_panic(self.try_replace_all(haystack, replace_with))
     }
@@ -194,8 +195,8 @@ impl AhoCorasick {
     }
 
     /// Appends the text to `dst`, and calls the closure for each match, which appends the
-    /// replacement. If the closure returns false, the rest of the text is appended unchanged. A match
-    /// that starts or ends inside a character is not replaced. Panics as `find` does.
+    /// replacement. If the closure returns false, the rest of the text is appended unchanged. A
+    /// match that starts or ends inside a character is not replaced. Panics as `find` does.
     pub fn replace_all_with<F>(&self, haystack: &str, dst: &mut String, replace_with: F)
     where
         F: FnMut(&Match, &str, &mut String) -> bool,
@@ -203,7 +204,8 @@ impl AhoCorasick {
         or_panic(self.try_replace_all_with(haystack, dst, replace_with))
     }
 
-    /// Appends the bytes to `dst`, as `replace_all_with` does with a text, but replaces every match.
+    /// Appends the bytes to `dst`, as `replace_all_with` does with a text, but replaces every
+    /// match.
     pub fn replace_all_with_bytes<F>(&self, haystack: &[u8], dst: &mut Vec<u8>, replace_with: F)
     where
         F: FnMut(&Match, &[u8], &mut Vec<u8>) -> bool,
@@ -238,8 +240,8 @@ impl AhoCorasick {
         Ok(dst)
     }
 
-    /// Does what `replace_all_bytes` does, but returns an error if the searcher does not support the
-    /// search. A wrong number of replacements panics.
+    /// Does what `replace_all_bytes` does, but returns an error if the searcher does not support
+    /// the search. A wrong number of replacements panics.
     pub fn try_replace_all_bytes<B: AsRef<[u8]>>(&self, haystack: &[u8], replace_with: &[B]) -> Result<Vec<u8>, MatchError> {
         self.allows(Anchored::No)?;
         self.want_one_each(replace_with.len());

@@ -74,8 +74,8 @@ impl<R: Read> Source<R> {
 /// to be certain of the next match.
 ///
 /// With the standard kind, a match is certain at its last byte. With the leftmost kinds, it is
-/// certain at the first byte after it that rules out every better match, or at the end of the stream.
-/// It waits for one more byte even if no better match is possible.
+/// certain at the first byte after it that rules out every better match, or at the end of the
+/// stream. It waits for one more byte even if no better match is possible.
 pub struct StreamFindIter<'a, R> {
     source: Source<R>,
     of: std::marker::PhantomData<&'a AhoCorasick>,
@@ -103,8 +103,8 @@ impl<R> fmt::Debug for StreamFindIter<'_, R> {
 }
 
 impl AhoCorasick {
-    /// Returns the streams of the searcher, with any match kind. The other calls on streams have the
-    /// names of the Rust crate and refuse the leftmost kinds, as it does.
+    /// Returns the streams of the searcher, with any match kind. The other calls on streams have
+    /// the names of the Rust crate and refuse the leftmost kinds, as it does.
     ///
     /// Returns an error if a pattern is empty, or the searcher supports anchored searches only.
     pub fn streams(&self) -> Result<Streams<'_>, MatchError> {
@@ -115,8 +115,8 @@ impl AhoCorasick {
         Ok(Streams { searcher: self })
     }
 
-    /// Returns an iterator over the matches in the bytes of a reader: those that `find_iter` finds in
-    /// all bytes together.
+    /// Returns an iterator over the matches in the bytes of a reader: those that `find_iter` finds
+    /// in all bytes together.
     ///
     /// Panics if the match kind is not standard, if a pattern is empty, if the searcher supports
     /// anchored searches only, or if memory runs out.
@@ -124,15 +124,15 @@ impl AhoCorasick {
         or_panic(self.try_stream_find_iter(rdr))
     }
 
-    /// Does what `stream_find_iter` does, but returns an error instead of a panic, unless memory runs
-    /// out.
+    /// Does what `stream_find_iter` does, but returns an error instead of a panic, unless memory
+    /// runs out.
     pub fn try_stream_find_iter<R: Read>(&self, rdr: R) -> Result<StreamFindIter<'_, R>, MatchError> {
         self.allows(Anchored::No)?;
         Ok(self.standard_streams()?.find_iter(rdr))
     }
 
-    /// Writes the bytes of a reader with each match replaced by the replacement of its pattern. After
-    /// an error, a prefix of the result was written.
+    /// Writes the bytes of a reader with each match replaced by the replacement of its pattern.
+    /// After an error, a prefix of the result was written.
     ///
     /// Panics if the number of replacements differs from the number of patterns, and as
     /// `stream_find_iter` does.
@@ -202,16 +202,17 @@ pub struct Streams<'a> {
 }
 
 impl<'a> Streams<'a> {
-    /// Returns an iterator over the matches in the bytes of a reader: those that `find_iter` finds in
-    /// all bytes together. Panics if memory runs out.
+    /// Returns an iterator over the matches in the bytes of a reader: those that `find_iter` finds
+    /// in all bytes together. Panics if memory runs out.
     pub fn find_iter<R: Read>(&self, rdr: R) -> StreamFindIter<'a, R> {
         StreamFindIter { source: self.source(rdr), of: std::marker::PhantomData }
     }
 
-    /// Writes the bytes of a reader with each match replaced by the replacement of its pattern. After
-    /// an error, a prefix of the result was written.
+    /// Writes the bytes of a reader with each match replaced by the replacement of its pattern.
+    /// After an error, a prefix of the result was written.
     ///
-    /// Panics if the number of replacements differs from the number of patterns, or memory runs out.
+    /// Panics if the number of replacements differs from the number of patterns, or memory runs
+    /// out.
     pub fn replace_all<R, W, B>(&self, rdr: R, wtr: W, replace_with: &[B]) -> Result<(), io::Error>
     where
         R: Read,
