@@ -1,12 +1,13 @@
-/* Small calls of chromesquid.py, for which ctypes takes longer than the search: an extension module in C, for any CPython from 3.8 on.
+/* The small calls of chromesquid.py, for which ctypes takes longer than the search: an extension module for
+ * CPython 3.8 and later.
  *
- * chromesquid.py hands over the addresses of the library's functions, so this file is linked with nothing. It answers calls on a short
- * haystack of bytes, or of a str whose characters are ASCII; to any other it answers NotImplemented, and chromesquid.py goes on.
- * Build it beside chromesquid.py, where Python.h is:
+ * chromesquid.py passes the addresses of the library's functions, so this file is linked with nothing. It does
+ * calls on a short haystack of bytes, or of a str with only ASCII characters. For any other call it returns
+ * NotImplemented, and chromesquid.py does it. Build it next to chromesquid.py. It needs Python.h:
  *
  *     cc -O2 -shared -fPIC $(python3-config --includes) -o _chromesquid.abi3.so _chromesquid.c
  *
- * A call holds the interpreter's lock from its beginning to its end, so one handle serves all threads. */
+ * A call holds the interpreter's lock from start to end, so all threads use one handle. */
 #define Py_LIMITED_API 0x03080000
 #define PY_SSIZE_T_CLEAN
 #include <Python.h>
@@ -14,7 +15,7 @@
 #include <stdint.h>
 #include <string.h>
 
-/* As chromesquid.h has them. */
+/* These structs are those of chromesquid.h. */
 typedef struct {
     bool full;
     void *at;
@@ -41,7 +42,7 @@ typedef struct {
     uint32_t (*replace_all)(Handle *, const uint8_t *, size_t, const Slice *, size_t, uint8_t *, size_t, size_t *);
 } Library;
 
-/* A haystack is short with so many bytes at most. Its matches and its replacement are put into rooms on the stack. */
+/* The limits of a small call: its haystack, matches, result and replacements. Its buffers are on the stack. */
 enum { SHORT = 512, MATCHES = 256, REPLACED = 4096, PIECES = 32 };
 
 typedef struct {
@@ -52,13 +53,13 @@ typedef struct {
     PyObject *match; /* the class of matches */
 } Searcher;
 
-static PyObject *tuple_new; /* tuple.__new__, which makes a match of three numbers sooner than the class's own does */
+static PyObject *tuple_new; /* tuple.__new__, which creates a match faster than the class itself */
 
-/* A haystack that a call lends, or a piece of a replacement. */
+/* The bytes of a haystack or of a replacement. */
 typedef struct {
     const char *at;
     Py_ssize_t len;
-    PyObject *held; /* what it lies in, if that was made for it */
+    PyObject *held; /* the object that was created to hold them, or NULL */
 } Text;
 
 static void let_go(Text *text) {
@@ -66,7 +67,7 @@ static void let_go(Text *text) {
     text->held = NULL;
 }
 
-/* Takes the bytes of an object: 1, 0 where it is no bytes and no ASCII text, and -1 with an error. */
+/* Gets the bytes of an object. Returns 1; 0 if it is neither bytes nor an ASCII str; or -1 with an error set. */
 static int take(PyObject *given, Text *text) {
     text->held = NULL;
     if (PyBytes_CheckExact(given)) {
@@ -95,7 +96,7 @@ static int take(PyObject *given, Text *text) {
     return 1;
 }
 
-/* The same of a haystack: 0 too where it is long, or a text for patterns that are none. */
+/* Gets the bytes of a haystack. Also returns 0 if it is long, or if it is a str and the patterns are bytes. */
 static int take_haystack(Searcher *self, PyObject *given, Text *text) {
     if (PyUnicode_Check(given) && !self->of_texts) return text->held = NULL, 0;
     int taken = take(given, text);
@@ -145,7 +146,7 @@ static PyObject *find(PyObject *object, PyObject *haystack) {
 
 typedef uint32_t Lists(Handle *, const uint8_t *, size_t, Found *, size_t, size_t *);
 
-/* The matches as a list. */
+/* Returns the matches as a list. */
 static PyObject *listed(Searcher *self, Lists *lists, PyObject *haystack) {
     Text text;
     Found room[MATCHES];
@@ -173,7 +174,8 @@ static PyObject *overlapping(PyObject *object, PyObject *haystack) {
     return listed(self, self->library.overlapping, haystack);
 }
 
-/* The haystack with each match replaced by the item of the list or tuple in the place of its pattern, which is of the haystack's type. */
+/* Returns the haystack with each match replaced by the item of its pattern in a list or tuple. The items have
+ * the haystack's type. */
 static PyObject *replace_all(PyObject *object, PyObject *arguments) {
     Searcher *self = (Searcher *)object;
     PyObject *haystack, *pieces;
@@ -237,11 +239,11 @@ static void gone(PyObject *object) {
 }
 
 static PyMethodDef methods[] = {
-    {"is_match", is_match, METH_O, "Whether a pattern occurs."},
-    {"find", find, METH_O, "The first match, or None."},
-    {"find_all", find_all, METH_O, "The matches, each searched for from the end of the one before."},
-    {"overlapping", overlapping, METH_O, "All matches, those that overlap too."},
-    {"replace_all", replace_all, METH_VARARGS, "The haystack with each match replaced."},
+    {"is_match", is_match, METH_O, "Returns whether a pattern occurs."},
+    {"find", find, METH_O, "Returns the first match, or None."},
+    {"find_all", find_all, METH_O, "Returns the matches. Each search begins where the previous match ended."},
+    {"overlapping", overlapping, METH_O, "Returns all matches, including overlapping ones."},
+    {"replace_all", replace_all, METH_VARARGS, "Returns the haystack with each match replaced."},
     {NULL, NULL, 0, NULL},
 };
 
@@ -249,7 +251,7 @@ static PyType_Slot slots[] = {
     {Py_tp_new, (void *)made},
     {Py_tp_dealloc, (void *)gone},
     {Py_tp_methods, methods},
-    {Py_tp_doc, "A share of a searcher, for small calls. NotImplemented is the answer to others."},
+    {Py_tp_doc, "A handle of a searcher for small calls. It returns NotImplemented for others."},
     {0, NULL},
 };
 
@@ -265,7 +267,7 @@ static int filled(PyObject *module) {
 static PyModuleDef_Slot module_slots[] = {{Py_mod_exec, (void *)filled}, {0, NULL}};
 
 static PyModuleDef module = {
-    PyModuleDef_HEAD_INIT, "_chromesquid", "Small calls of chromesquid.py.", 0, NULL, module_slots, NULL, NULL, NULL,
+    PyModuleDef_HEAD_INIT, "_chromesquid", "The small calls of chromesquid.py.", 0, NULL, module_slots, NULL, NULL, NULL,
 };
 
 PyMODINIT_FUNC PyInit__chromesquid(void) {

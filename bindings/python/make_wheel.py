@@ -1,11 +1,16 @@
-"""Makes the wheel of chromesquid.py with its library, and an archive from which pip makes one, for pip and by hand:
+"""Builds a wheel of chromesquid.py with its library, and a source archive from which pip builds the
+wheel. pip calls this file, and so can you:
 
     python3 make_wheel.py FOLDER
 
-The library is libchromesquid.so of the folder that the environment names as CHROMESQUID_LIBRARY, or else that beside this file, as in such an
-archive, or that of bin/program; the one for x86-64-v3 below that folder goes with it, and is taken where the processor has AVX2. With a C compiler
-and Python's header the wheel has the extension module for small calls too, for any CPython from 3.8 on; else, and for other Pythons, ctypes serves
-them. One library, one version of these files and one compiler make one wheel and one archive, byte for byte."""
+The library is libchromesquid.so in the folder that the environment variable CHROMESQUID_LIBRARY
+names. Without the variable it is next to this file, as in the archive, or in bin/program. The wheel
+also contains the library for x86-64-v3, which is in glibc-hwcaps of that folder, and uses it on
+processors with AVX2.
+
+With a C compiler and Python.h, the wheel contains the extension module for small calls, for CPython
+3.8 and later. Without it, and with other Pythons, ctypes does these calls. The same library, files
+and compiler always make the same wheel and the same archive, byte for byte."""
 
 import base64
 import gzip
@@ -28,7 +33,7 @@ WIDE = "glibc-hwcaps/x86-64-v3/libchromesquid.so.0"  # the library for processor
 EXTENSION = "_chromesquid.abi3.so"
 LICENCES = ("LICENSE-MIT", "UNLICENSE", "THIRD-PARTY")
 SOURCES = ("README.md", "_chromesquid.c", "chromesquid.py", "make_wheel.py", "pyproject.toml", "test_chromesquid.py")
-# A wheel has no tag for what a processor has to have, so it is told by the number of its build.
+# A wheel has no tag for the required processor, so its build number names it.
 BUILD = "1_x86_64_v2"
 MAIN = b"from chromesquid import _main\n\n_main()\n"
 
@@ -39,21 +44,22 @@ def _read(*path):
 
 
 def _libraries():
-    """The library by its name, and the one for x86-64-v3 where that is there too."""
+    """Returns the library by its name, and the one for x86-64-v3 if there is one."""
     named = os.environ.get("CHROMESQUID_LIBRARY")
     for folder in [named] if named else [HERE, os.path.join(TOP, "bin", "program")]:
         if os.path.exists(os.path.join(folder, LIBRARY)):
             return {it: _read(folder, it) for it in (LIBRARY, WIDE) if os.path.exists(os.path.join(folder, it))}
-    raise SystemExit(f"make_wheel: there is no {LIBRARY}: bin/clib makes it, and CHROMESQUID_LIBRARY names its folder")
+    raise SystemExit(f"make_wheel: there is no {LIBRARY}: bin/clib builds it, and CHROMESQUID_LIBRARY names its folder")
 
 
 def _licences():
-    """The texts of the licences by their names: they stand beside this file, or at the top of the repository."""
+    """Returns the licences by their names. They are next to this file, or at the top of the
+    repository."""
     return {name: _read(HERE if os.path.exists(os.path.join(HERE, name)) else TOP, name) for name in LICENCES}
 
 
 def _extension():
-    """The extension module, or None where it cannot be built."""
+    """Returns the extension module, or None if it cannot be built."""
     compiler, include = shutil.which("cc") or shutil.which("gcc") or shutil.which("clang"), sysconfig.get_paths()["include"]
     if not compiler or not os.path.exists(os.path.join(include, "Python.h")):
         return None
@@ -69,7 +75,8 @@ def _version():
 
 
 def _tag(libraries):
-    """The wheel is for Linux on x86-64 with the newest version of glibc that the libraries ask for, and 2.17 at least."""
+    """Returns the tag of the wheel: Linux on x86-64, with the newest version of glibc that the
+    libraries need, at least 2.17."""
     newest = max([17, *(int(minor) for minor in re.findall(rb"GLIBC_2\.(\d+)", b"".join(libraries.values())))])
     return f"py3-none-manylinux_2_{newest}_x86_64"
 
@@ -79,7 +86,7 @@ def _metadata():
         "Metadata-Version: 2.4",
         "Name: chromesquid",
         f"Version: {_version()}",
-        "Summary: Searches bytes and texts for many patterns at once, with proved answers; for x86-64-v2",
+        "Summary: Searches bytes and strings for many patterns at once, with proved answers; for x86-64-v2",
         "Keywords: aho-corasick,search,replace,redaction",
         "License-Expression: MIT OR Unlicense",
         *(f"License-File: {name}" for name in LICENCES),
@@ -121,7 +128,7 @@ def build_wheel(wheel_directory, config_settings=None, metadata_directory=None):
 
 
 def build_sdist(sdist_directory, config_settings=None):
-    """An archive of these sources, and of the library as it was proved and built."""
+    """Builds the archive of these sources and of the library."""
     named = f"chromesquid-{_version()}"
     files = {"PKG-INFO": _metadata(), **_libraries(), **{name: _read(HERE, name) for name in SOURCES}, **_licences()}
     packed = io.BytesIO()

@@ -1,13 +1,14 @@
-//! Tells where the C library is: in the folder that the environment names as CHROMESQUID_LIBRARY, by its whole path or from this file's folder
-//! on, else in `lib` beside this file, or in `bin/program` of the repository that this crate stands in. The header beside the archive tells its
-//! version and the layout of what calls hand over; where they are not those that this crate was written for, the build ends with the name of
-//! the file.
+//! Finds the C library. The environment variable CHROMESQUID_LIBRARY names its folder, by an
+//! absolute path or relative to the folder of this file. Without the variable, the library is in
+//! `lib` next to this file, or in `bin/program` of the repository that contains this crate. The
+//! header next to the archive has the version of the library and the layout of its structs: if this
+//! crate was written for others, the build fails and names the file.
 use std::{
     env, fs,
     path::{Path, PathBuf},
 };
 
-/// The form of `cs_options` that src/library.rs declares.
+/// The layout of `cs_options` that src/library.rs declares.
 const OPTIONS_FORM: u32 = 4;
 
 fn main() {
@@ -39,13 +40,13 @@ fn folder() -> PathBuf {
     }
 }
 
-/// The version of this package as the library writes it: 102 is 0.1.2.
+/// Returns the version of this package in the form of the library: 102 is 0.1.2.
 fn version() -> u32 {
     let part = |name| env::var(name).unwrap().parse::<u32>().unwrap();
     part("CARGO_PKG_VERSION_MAJOR") * 10_000 + part("CARGO_PKG_VERSION_MINOR") * 100 + part("CARGO_PKG_VERSION_PATCH")
 }
 
-/// Ends the build where the header does not define this name as this number.
+/// Ends the build if the header does not define this name as this number.
 fn want(header: &Path, name: &str, number: u32) {
     let text = fs::read_to_string(header).unwrap_or_else(|error| panic!("{} cannot be read: {error}", header.display()));
     let line = text.lines().find_map(|line| line.strip_prefix("#define ")?.strip_prefix(name)?.strip_prefix(' '));

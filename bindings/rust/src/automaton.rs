@@ -1,9 +1,10 @@
-//! The trait of the automata of `nfa` and `dfa`, for code that is generic over them or walks their states by itself.
+//! The trait of the automata of `nfa` and `dfa`, for code that is generic over them or walks their
+//! states itself.
 //!
 //! ```
 //! use chromesquid::{automaton::Automaton, nfa::noncontiguous::NFA, Anchored, Match, MatchError};
 //!
-//! /// The first match of an automaton of kind Standard.
+//! /// Returns the first match of an automaton of the standard kind.
 //! fn first<A: Automaton>(automaton: A, haystack: &[u8]) -> Result<Option<Match>, MatchError> {
 //!     let mut state = automaton.start_state(Anchored::No)?;
 //!     for at in 0..=haystack.len() {
@@ -23,8 +24,8 @@
 //! assert_eq!(first(&automaton, b"samwise"), Ok(Some(Match::must(1, 0..3))));
 //! ```
 //!
-//! Searches and states are the library's. A call of a walk locks the states, which are one for all clones: many threads search quicker than
-//! they walk.
+//! Searches and states are the library's. A step of a walk locks the states, which all clones
+//! share: if many threads use one automaton, searches are faster than walks.
 use crate::error::MatchError;
 use crate::inner::Sealed;
 use crate::primitives::PatternID;
@@ -41,91 +42,99 @@ use std::{
 pub use crate::overlapping::OverlappingState;
 pub use crate::primitives::{StateID, StateIDError};
 
-/// An automaton. It is one of `nfa` and `dfa`, or a reference to an automaton.
+/// An automaton of `nfa` or `dfa`, or a reference to one.
 ///
-/// A walk begins with a start state and goes on byte by byte. Behind each byte its state lists the patterns that end there: of kind Standard
-/// all that occur, and of the leftmost kinds those that may be the match, of which the first one of the last state before the dead one is it.
-/// Of an anchored walk only those are found that are as long as what was read. Calls panic where a state is given that neither
-/// `start_state` nor `next_state` of this automaton has told before.
+/// A walk begins with a start state and goes on byte by byte. After each byte, its state lists
+/// patterns that end there. With the standard kind, those are all patterns that occur. With the
+/// leftmost kinds, they are candidates: the match is the first pattern of the last state before the
+/// dead one that lists any. In an anchored walk, a pattern starts where the walk does only if it is
+/// as long as the bytes read.
+///
+/// A call panics if its state was not returned by `start_state` or `next_state` of this automaton.
 pub trait Automaton: Sealed {
-    /// The state with which a search begins, or that the automaton was not built for such a search.
+    /// Returns the state with which a search begins, or an error if the automaton does not support
+    /// such searches.
     fn start_state(&self, anchored: Anchored) -> Result<StateID, MatchError> {
         self.inner().searcher.allows(anchored)?;
         Ok(self.inner().walk.start(anchored))
     }
 
-    /// The state behind a byte. A walk is anchored at each byte, or at none.
+    /// Returns the state after a byte. All steps of a walk have the same `anchored`.
     fn next_state(&self, anchored: Anchored, sid: StateID, byte: u8) -> StateID {
         self.inner().walk.next(anchored, sid, byte)
     }
 
-    /// Whether a walk has to look at a state: where it is dead or lists patterns, and maybe where it is a start.
+    /// Returns whether a walk must look at a state: it is dead, it lists patterns, or it may be a
+    /// start.
     fn is_special(&self, sid: StateID) -> bool {
         self.inner().walk.told(sid).is_special
     }
 
-    /// Whether nothing is found any more from a state on.
+    /// Returns whether a state is dead: no match can follow.
     fn is_dead(&self, sid: StateID) -> bool {
         self.inner().walk.told(sid).is_dead
     }
 
-    /// Whether a state lists patterns.
+    /// Returns whether a state lists patterns.
     fn is_match(&self, sid: StateID) -> bool {
         self.inner().walk.told(sid).is_match
     }
 
-    /// Whether a state is one with which searches begin.
+    /// Returns whether searches begin with a state.
     fn is_start(&self, sid: StateID) -> bool {
         self.inner().walk.told(sid).is_start
     }
 
-    /// Which of several matches is found.
+    /// Returns which of several possible matches is found.
     fn match_kind(&self) -> MatchKind {
         self.inner().searcher.match_kind()
     }
 
-    /// How many patterns a state lists.
+    /// Returns the number of patterns that a state lists.
     fn match_len(&self, sid: StateID) -> usize {
         self.inner().walk.told(sid).patterns
     }
 
-    /// A pattern that a state lists: the best first; of kind Standard the longest first, and those of the same length by number. Panics where it
-    /// does not list so many.
+    /// Returns the pattern at an index of a state's list. The best pattern is first; with the
+    /// standard kind, the list is sorted by length, longest first, then by number.
+    ///
+    /// Panics if the list is not that long.
     fn match_pattern(&self, sid: StateID, index: usize) -> PatternID {
         self.inner().walk.match_pattern(sid, index)
     }
 
-    /// How many patterns there are.
+    /// Returns the number of patterns.
     fn patterns_len(&self) -> usize {
         self.inner().searcher.patterns_len()
     }
 
-    /// The length of a pattern in bytes. Panics where there is no such pattern.
+    /// Returns the length of a pattern in bytes. Panics if there is no such pattern.
     fn pattern_len(&self, pid: PatternID) -> usize {
         self.inner().walk.pattern_len(pid)
     }
 
-    /// The length of the shortest pattern in bytes; `usize::MAX` where there is none.
+    /// Returns the length of the shortest pattern in bytes, or `usize::MAX` without patterns.
     fn min_pattern_len(&self) -> usize {
         self.inner().searcher.min_pattern_len()
     }
 
-    /// The length of the longest pattern in bytes; 0 where there is none.
+    /// Returns the length of the longest pattern in bytes, or 0 without patterns.
     fn max_pattern_len(&self) -> usize {
         self.inner().searcher.max_pattern_len()
     }
 
-    /// How many bytes the automaton holds: the searcher, and what is kept for walks.
+    /// Returns the memory of the automaton in bytes: the searcher, and what walks need.
     fn memory_usage(&self) -> usize {
         self.inner().searcher.memory_usage() + self.inner().walk.memory_usage()
     }
 
-    /// None: a walk has no prefilter. Searches have that of the library.
+    /// Returns `None`: a walk has no prefilter. Searches use the prefilter of the library.
     fn prefilter(&self) -> Option<&Prefilter> {
         None
     }
 
-    /// The first match, or that the automaton was not built for such a search. None where the input is done, of any search.
+    /// Returns the first match, or an error if the automaton does not support such searches. An
+    /// input that is done has no match, and is never an error.
     fn try_find(&self, input: &Input<'_>) -> Result<Option<Match>, MatchError> {
         if input.is_done() {
             return Ok(None);
@@ -133,12 +142,13 @@ pub trait Automaton: Sealed {
         self.inner().searcher.try_find(input.clone())
     }
 
-    /// Puts the next of all matches into the state, as `AhoCorasick::try_find_overlapping` does.
+    /// Puts the next overlapping match into the state, as `AhoCorasick::try_find_overlapping` does.
+    /// An input that is done has no match, and is never an error.
     fn try_find_overlapping(&self, input: &Input<'_>, state: &mut OverlappingState) -> Result<(), MatchError> {
-        self.inner().searcher.try_find_overlapping(input.clone(), state)
+        self.inner().searcher.next_unless_done(input, state)
     }
 
-    /// The matches, each searched for from the end of the one before.
+    /// Returns an iterator over the matches. Each search begins where the previous match ended.
     fn try_find_iter<'a, 'h>(&'a self, input: Input<'h>) -> Result<FindIter<'a, 'h, Self>, MatchError>
     where
         Self: Sized,
@@ -146,15 +156,16 @@ pub trait Automaton: Sealed {
         Ok(FindIter { of: PhantomData, found: self.inner().searcher.try_find_iter(input)? })
     }
 
-    /// All matches, those that overlap too: by end, then start, then number.
+    /// Returns an iterator over all matches, including overlapping ones, sorted by end, then start,
+    /// then number.
     fn try_find_overlapping_iter<'a, 'h>(&'a self, input: Input<'h>) -> Result<FindOverlappingIter<'a, 'h, Self>, MatchError>
     where
         Self: Sized,
     {
-        Ok(FindOverlappingIter { of: PhantomData, found: self.inner().searcher.try_find_overlapping_iter(input)? })
+        Ok(FindOverlappingIter { of: PhantomData, found: self.inner().searcher.overlapping_iter(input)? })
     }
 
-    /// As `AhoCorasick::try_replace_all`.
+    /// Does what `AhoCorasick::try_replace_all` does.
     fn try_replace_all<B>(&self, haystack: &str, replace_with: &[B]) -> Result<String, MatchError>
     where
         Self: Sized,
@@ -164,7 +175,7 @@ pub trait Automaton: Sealed {
         self.inner().searcher.try_replace_all(haystack, replace_with)
     }
 
-    /// As `AhoCorasick::try_replace_all_bytes`.
+    /// Does what `AhoCorasick::try_replace_all_bytes` does.
     fn try_replace_all_bytes<B>(&self, haystack: &[u8], replace_with: &[B]) -> Result<Vec<u8>, MatchError>
     where
         Self: Sized,
@@ -174,7 +185,7 @@ pub trait Automaton: Sealed {
         self.inner().searcher.try_replace_all_bytes(haystack, replace_with)
     }
 
-    /// As `AhoCorasick::try_replace_all_with`.
+    /// Does what `AhoCorasick::try_replace_all_with` does.
     fn try_replace_all_with<F>(&self, haystack: &str, dst: &mut String, replace_with: F) -> Result<(), MatchError>
     where
         Self: Sized,
@@ -183,7 +194,7 @@ pub trait Automaton: Sealed {
         self.inner().searcher.try_replace_all_with(haystack, dst, replace_with)
     }
 
-    /// As `AhoCorasick::try_replace_all_with_bytes`.
+    /// Does what `AhoCorasick::try_replace_all_with_bytes` does.
     fn try_replace_all_with_bytes<F>(&self, haystack: &[u8], dst: &mut Vec<u8>, replace_with: F) -> Result<(), MatchError>
     where
         Self: Sized,
@@ -192,7 +203,7 @@ pub trait Automaton: Sealed {
         self.inner().searcher.try_replace_all_with_bytes(haystack, dst, replace_with)
     }
 
-    /// As `AhoCorasick::try_stream_find_iter`.
+    /// Does what `AhoCorasick::try_stream_find_iter` does.
     fn try_stream_find_iter<'a, R: Read>(&'a self, rdr: R) -> Result<StreamFindIter<'a, Self, R>, MatchError>
     where
         Self: Sized,
@@ -200,7 +211,7 @@ pub trait Automaton: Sealed {
         Ok(StreamFindIter { of: PhantomData, found: self.inner().searcher.standard_streams()?.find_iter(rdr) })
     }
 
-    /// As `AhoCorasick::try_stream_replace_all`.
+    /// Does what `AhoCorasick::try_stream_replace_all` does.
     fn try_stream_replace_all<R, W, B>(&self, rdr: R, wtr: W, replace_with: &[B]) -> io::Result<()>
     where
         Self: Sized,
@@ -212,7 +223,7 @@ pub trait Automaton: Sealed {
         self.inner().searcher.standard_streams().map_err(stream::refused)?.replace_all(rdr, wtr, replace_with)
     }
 
-    /// As `AhoCorasick::try_stream_replace_all_with`.
+    /// Does what `AhoCorasick::try_stream_replace_all_with`.
     fn try_stream_replace_all_with<R, W, F>(&self, rdr: R, wtr: W, replace_with: F) -> io::Result<()>
     where
         Self: Sized,
@@ -226,30 +237,31 @@ pub trait Automaton: Sealed {
 
 impl<A: Automaton + ?Sized> Automaton for &A {}
 
-/// What a walk may ask for the next place to look at. There is none: `Automaton::prefilter` is always none here.
+/// A prefilter, which a walk could ask for the next candidate. No value of this type exists:
+/// `Automaton::prefilter` returns `None`.
 #[derive(Clone, Debug)]
 pub struct Prefilter(Infallible);
 
 impl Prefilter {
-    /// The next place within a span.
+    /// Returns the next candidate in a span.
     pub fn find_in(&self, _haystack: &[u8], _span: Span) -> Candidate {
         match self.0 {}
     }
 }
 
-/// What a prefilter answers.
+/// The answer of a prefilter.
 #[derive(Clone, Debug)]
 pub enum Candidate {
-    /// That there is no match.
+    /// There is no match.
     None,
-    /// A match.
+    /// There is a match.
     Match(Match),
-    /// A place before which none starts.
+    /// No match starts before this offset.
     PossibleStartOfMatch(usize),
 }
 
 impl Candidate {
-    /// The place where a match starts or may start.
+    /// Returns the offset where a match starts or may start.
     pub fn into_option(self) -> Option<usize> {
         match self {
             Candidate::None => None,
@@ -259,19 +271,20 @@ impl Candidate {
     }
 }
 
-/// Matches of an automaton, each searched for as it is asked for.
+/// An iterator over the matches of an automaton. Each match is searched for by the call that
+/// returns it.
 pub struct FindIter<'a, 'h, A> {
     of: PhantomData<&'a A>,
     found: searcher::FindIter<'a, 'h>,
 }
 
-/// All matches of an automaton, those that overlap too.
+/// An iterator over all matches of an automaton, including overlapping ones.
 pub struct FindOverlappingIter<'a, 'h, A> {
     of: PhantomData<&'a A>,
     found: overlapping::FindOverlappingIter<'a, 'h>,
 }
 
-/// The matches of an automaton in what a reader gives.
+/// An iterator over the matches of an automaton in the bytes of a reader.
 pub struct StreamFindIter<'a, A, R> {
     of: PhantomData<&'a A>,
     found: stream::StreamFindIter<'a, R>,

@@ -1,8 +1,8 @@
-//! Why a searcher is not built, and why a search is refused.
+//! The errors of builds and of searches.
 use crate::search::MatchKind;
 use std::{error::Error, fmt};
 
-/// Why a searcher was not built.
+/// The reason why a searcher was not built.
 #[derive(Clone, Debug, PartialEq, Eq)]
 pub struct BuildError {
     text: String,
@@ -26,64 +26,64 @@ impl fmt::Display for BuildError {
 
 impl Error for BuildError {}
 
-/// Why a search was refused.
+/// The error of a search that the searcher does not support.
 #[derive(Clone, Debug, PartialEq, Eq)]
 pub struct MatchError(Box<MatchErrorKind>);
 
-/// Why a search was refused.
+/// The reason why a search was refused.
 #[derive(Clone, Debug, PartialEq, Eq)]
 #[non_exhaustive]
 pub enum MatchErrorKind {
-    /// An anchored search, which the searcher was not built for.
+    /// The search is anchored, and the searcher was built for unanchored searches only.
     InvalidInputAnchored,
-    /// An unanchored search, which the searcher was not built for.
+    /// The search is unanchored, and the searcher was built for anchored searches only.
     InvalidInputUnanchored,
-    /// A stream of this kind, by a call of the Rust crate's name.
+    /// The call searches streams with the standard kind only: see `AhoCorasick::streams`.
     UnsupportedStream {
-        /// The kind that the searcher is of.
+        /// The match kind of the searcher.
         got: MatchKind,
     },
-    /// Overlapping matches of this kind.
+    /// Overlapping matches are listed with the standard kind only.
     UnsupportedOverlapping {
-        /// The kind that the searcher is of.
+        /// The match kind of the searcher.
         got: MatchKind,
     },
-    /// A stream with an empty pattern.
+    /// A stream cannot be searched for an empty pattern.
     UnsupportedEmpty,
 }
 
 impl MatchError {
-    /// The error of this kind.
+    /// Returns the error with this kind.
     pub fn new(kind: MatchErrorKind) -> MatchError {
         MatchError(Box::new(kind))
     }
 
-    /// Which error it is.
+    /// Returns the kind of the error.
     pub fn kind(&self) -> &MatchErrorKind {
         &self.0
     }
 
-    /// That an anchored search is not answered.
+    /// Returns the error of an anchored search that is not supported.
     pub fn invalid_input_anchored() -> MatchError {
         MatchError::new(MatchErrorKind::InvalidInputAnchored)
     }
 
-    /// That an unanchored search is not answered.
+    /// Returns the error of an unanchored search that is not supported.
     pub fn invalid_input_unanchored() -> MatchError {
         MatchError::new(MatchErrorKind::InvalidInputUnanchored)
     }
 
-    /// That a stream of this kind is not searched.
+    /// Returns the error of a stream with a match kind that is not supported.
     pub fn unsupported_stream(got: MatchKind) -> MatchError {
         MatchError::new(MatchErrorKind::UnsupportedStream { got })
     }
 
-    /// That overlapping matches of this kind are not answered.
+    /// Returns the error of an overlapping search with a match kind that is not supported.
     pub fn unsupported_overlapping(got: MatchKind) -> MatchError {
         MatchError::new(MatchErrorKind::UnsupportedOverlapping { got })
     }
 
-    /// That a stream is not searched for an empty pattern.
+    /// Returns the error of a stream that is searched for an empty pattern.
     pub fn unsupported_empty() -> MatchError {
         MatchError::new(MatchErrorKind::UnsupportedEmpty)
     }

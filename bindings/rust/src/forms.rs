@@ -1,4 +1,4 @@
-//! The forms in which a secret gets into a log.
+//! The encoded forms in which a secret can appear in a log.
 use crate::error::BuildError;
 use crate::library;
 use std::{error::Error, fmt};
@@ -6,36 +6,37 @@ use std::{error::Error, fmt};
 /// How a secret is encoded.
 #[derive(Clone, Copy, Debug, PartialEq, Eq, Hash)]
 pub enum Form {
-    /// Within base64, of the standard alphabet and of that of URLs.
+    /// Inside base64, with the standard alphabet and with the URL-safe one.
     Base64 = 1,
     /// As hexadecimal digits.
     Hex = 2,
     /// Percent-encoded.
     Url = 4,
-    /// Within a JSON string.
+    /// Escaped in a JSON string.
     Json = 8,
-    /// Within XML or HTML.
+    /// Escaped in XML or HTML.
     Xml = 16,
     /// Quoted for a shell.
     Shell = 32,
-    /// Each line of eight bytes or more of a secret that has several.
+    /// Each line of at least eight bytes of a secret that has several lines.
     Lines = 64,
 }
 
 impl Form {
-    /// Each form.
+    /// All forms.
     pub const ALL: [Form; 7] = [Form::Base64, Form::Hex, Form::Url, Form::Json, Form::Xml, Form::Shell, Form::Lines];
 }
 
-/// Why there are no forms, or no `Redactor`. A secret is told by its number, and never shown.
+/// The reason why there are no forms or no `Redactor`. It has the number of the secret, never its
+/// bytes.
 #[derive(Clone, Debug, PartialEq, Eq)]
 #[non_exhaustive]
 pub enum FormError {
-    /// The secret of this number has fewer than four bytes, and so no forms.
+    /// The secret with this number has fewer than four bytes, and therefore no forms.
     TooShort(usize),
-    /// The secret of this number is empty.
+    /// The secret with this number is empty.
     Empty(usize),
-    /// There is no searcher for that many patterns.
+    /// The searcher for the patterns could not be built.
     Build(BuildError),
 }
 
@@ -51,8 +52,11 @@ impl fmt::Display for FormError {
 
 impl Error for FormError {}
 
-/// The patterns of a secret by some forms, each once. Wherever the secret stands encoded so in a text, alone or within other bytes, each
-/// character that holds a bit of it lies in an occurrence of a pattern. It is secret 0 where it is refused.
+/// Returns the patterns that find a secret in some encoded forms, each pattern once. If the secret
+/// appears in a text in one of the forms, by itself or inside other encoded bytes, each character
+/// that contains a bit of it is part of an occurrence of a pattern.
+///
+/// A secret of fewer than four bytes is an error, which calls it secret 0.
 ///
 /// ```
 /// use chromesquid::{secret_forms, Form};

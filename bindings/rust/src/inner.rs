@@ -1,4 +1,4 @@
-//! What the automata of `nfa` and `dfa` are made of, and their builders.
+//! The common parts of the automata of `nfa` and `dfa`, and their builders.
 use crate::error::BuildError;
 use crate::kinds::AhoCorasickKind;
 use crate::library::Pieces;
@@ -7,14 +7,14 @@ use crate::searcher::{AhoCorasick, AhoCorasickBuilder};
 use crate::walk::Walk;
 use std::{fmt, sync::Arc};
 
-/// A searcher of the library, and its states to walk.
+/// A searcher of the library, and the states of its automaton for walks.
 #[derive(Clone)]
 pub struct Inner {
     pub(crate) searcher: AhoCorasick,
     pub(crate) walk: Arc<Walk>,
 }
 
-/// What is an automaton.
+/// An automaton. Only the types of this crate implement the trait.
 pub trait Sealed {
     #[doc(hidden)]
     fn inner(&self) -> &Inner;
@@ -27,7 +27,7 @@ impl<A: Sealed + ?Sized> Sealed for &A {
 }
 
 impl Inner {
-    /// The same automaton, as one of another kind.
+    /// Returns the same automaton under the name of another kind.
     pub(crate) fn of_kind(&self, kind: AhoCorasickKind, start_kind: StartKind) -> Inner {
         Inner { searcher: self.searcher.of_kind(kind, start_kind), walk: self.walk.clone() }
     }
@@ -37,7 +37,7 @@ impl Inner {
     }
 }
 
-/// What an automaton is built by.
+/// The settings of a builder.
 #[derive(Clone, Debug)]
 pub(crate) struct Wishes {
     pub(crate) kind: AhoCorasickKind,
@@ -82,12 +82,14 @@ macro_rules! automaton {
         use crate::search::{MatchKind, StartKind};
         use std::fmt;
 
-        /// An automaton. Its searches and its states are the library's. A clone is the same automaton.
+        /// An automaton. Its searches and its states are the library's. A clone shares them.
         #[derive(Clone)]
         pub struct $name(Inner);
 
         impl $name {
-            /// The automaton of kind Standard for the patterns, or why there is none.
+            /// Builds the automaton with the standard kind.
+            ///
+            /// Fails if the patterns are too many or too long, or memory runs out.
             pub fn new<I, P>(patterns: I) -> Result<$name, BuildError>
             where
                 I: IntoIterator<Item = P>,
@@ -96,7 +98,7 @@ macro_rules! automaton {
                 Builder::new().build(patterns)
             }
 
-            /// A builder.
+            /// Returns a builder with the default settings.
             pub fn builder() -> Builder {
                 Builder::new()
             }
@@ -127,12 +129,14 @@ macro_rules! automaton {
         }
 
         impl Builder {
-            /// Of kind Standard, with regard to case, and with a prefilter.
+            /// Returns a builder of the standard kind, case-sensitive, and with a prefilter.
             pub fn new() -> Builder {
                 Builder(Wishes::new(AhoCorasickKind::$kind, StartKind::$start_kind))
             }
 
-            /// An automaton for the patterns, or why there is none.
+            /// Builds an automaton for the patterns.
+            ///
+            /// Fails if they are too many or too long, or memory runs out.
             pub fn build<I, P>(&self, patterns: I) -> Result<$name, BuildError>
             where
                 I: IntoIterator<Item = P>,
@@ -141,19 +145,19 @@ macro_rules! automaton {
                 self.0.build(patterns).map($name)
             }
 
-            /// Sets which of several matches is found.
+            /// Sets which of several possible matches is found.
             pub fn match_kind(&mut self, kind: MatchKind) -> &mut Builder {
                 self.0.match_kind = kind;
                 self
             }
 
-            /// Sets whether ASCII letters are the same in both cases.
+            /// Sets whether ASCII letters match in either case.
             pub fn ascii_case_insensitive(&mut self, yes: bool) -> &mut Builder {
                 self.0.ignore_case = yes;
                 self
             }
 
-            /// Sets whether searches may go by a prefilter, on which no answer depends.
+            /// Sets whether searches may use a prefilter, on which no answer depends.
             pub fn prefilter(&mut self, yes: bool) -> &mut Builder {
                 self.0.prefilter = yes;
                 self
@@ -163,7 +167,7 @@ macro_rules! automaton {
 }
 pub(crate) use automaton;
 
-/// What is taken for the Rust crate's sake, where the library chooses by itself.
+/// A setting of the Rust crate that the library chooses by itself.
 macro_rules! hint {
     ($name:ident, $type:ty, $text:literal) => {
         impl Builder {
@@ -176,11 +180,12 @@ macro_rules! hint {
 }
 pub(crate) use hint;
 
-/// The automaton by that of `nfa::noncontiguous`.
+/// A builder's call that takes an automaton of `nfa::noncontiguous`.
 macro_rules! from_noncontiguous {
     ($name:ident) => {
         impl Builder {
-            /// The automaton that another one is, with its patterns, its kind of matches and its case rule: those of this builder are not asked.
+            /// Returns an automaton with the patterns, the match kind and the case rule of
+            /// another one. The match kind and the case rule of this builder are ignored.
             pub fn build_from_noncontiguous(&self, nnfa: &crate::nfa::noncontiguous::NFA) -> Result<$name, BuildError> {
                 Ok($name(nnfa.inner().of_kind(self.0.kind, self.0.start_kind)))
             }

@@ -1,20 +1,22 @@
-//! Which automaton is asked for. It is a hint: no answer depends on it.
+//! The kinds of automata. A kind is a hint, on which no answer depends.
 use crate::search::StartKind;
 
-/// An automaton by the Rust crate's name. The library has two: one that is quick to build, and rows, which search quickest.
+/// An automaton, by its name in the Rust crate. The library has two: one that is built fast, and
+/// rows, which search fastest.
 #[derive(Clone, Copy, Debug, PartialEq, Eq)]
 #[non_exhaustive]
 pub enum AhoCorasickKind {
-    /// The one that takes least time to build.
+    /// The automaton that is built fastest.
     NoncontiguousNFA,
-    /// Rows, where all searches are unanchored and they fit; else the other.
+    /// Rows, if the searches are unanchored and the rows fit; otherwise the other automaton.
     ContiguousNFA,
     /// The same as `ContiguousNFA`.
     DFA,
 }
 
 impl AhoCorasickKind {
-    /// The kind that `kind` of a searcher tells: the one asked for, else the one that the library takes by its rule.
+    /// Returns the kind that `AhoCorasick::kind` reports: the requested one, or else the one that
+    /// the library chooses.
     pub(crate) fn told(asked: Option<AhoCorasickKind>, start_kind: StartKind) -> AhoCorasickKind {
         match (asked, start_kind) {
             (Some(kind), _) => kind,

@@ -1,4 +1,5 @@
-//! Searches bytes for many patterns at once, by the proved C library of Chromesquid, under the names of the crate `aho-corasick` 1.1.
+//! Searches bytes for many patterns at once with the proved C library of Chromesquid, under the
+//! names of the crate `aho-corasick` 1.1.
 //!
 //! ```
 //! use chromesquid::{AhoCorasick, MatchKind, PatternID};
@@ -9,18 +10,25 @@
 //! assert_eq!(searcher.replace_all("frodo and samwise", &["S", "s", "F"]), "F and S");
 //! ```
 //!
-//! A pattern's number is its place among the patterns, from 0 on. Places count bytes, also in a `str`; ranges are half open.
+//! Patterns are numbered in the order in which they are given, from 0. Offsets count bytes, even
+//! in a `str`, and ranges are half open.
 //!
-//! What the library answers is proved; this crate, which passes the calls on, is only tested. All calls that begin with `try_` tell as an
-//! error what the others panic at, but for a wrong number of replacements. Where answers are others than those of `aho-corasick`, crates/chromesquid/README.md of the repository says so.
+//! The answers of the library are proved; this crate, which only calls it, is tested. If a call
+//! panics because the searcher does not support the search, the call of the same name with `try_`
+//! returns an error instead. A wrong number of replacements panics in both. The file
+//! crates/chromesquid/README.md of the repository lists where answers differ from those of
+//! `aho-corasick`.
 //!
-//! A kind of automaton, `dense_depth` and `byte_classes` are taken as hints. Streams of the leftmost kinds, which `aho-corasick` refuses, are
-//! those of `AhoCorasick::streams`. `packed` has that module's types over the same searcher.
+//! `kind`, `dense_depth` and `byte_classes` are hints, on which no answer depends.
+//! `AhoCorasick::streams` searches streams with the leftmost kinds too, which `aho-corasick`
+//! refuses. The module `packed` has the types of that crate's module, over the same searcher.
 //!
-//! The automata of `nfa` and `dfa` search by the library too, and the states that the trait `Automaton` walks are the library's.
+//! The automata of `nfa` and `dfa` search with the library as well, and the states that the trait
+//! `Automaton` walks are the library's.
 //!
-//! The environment names the folder of `libchromesquid.a` as CHROMESQUID_LIBRARY while it is built. A call takes a share of the searcher and gives
-//! it back: there are as many as calls and iterators have run at the same time.
+//! During a build, the environment variable CHROMESQUID_LIBRARY names the folder of
+//! `libchromesquid.a`. At run time each call borrows a handle of the searcher and gives it back:
+//! a searcher has as many handles as calls and iterators have run at the same time.
 #![deny(unsafe_code)]
 #![warn(missing_docs)]
 
@@ -53,7 +61,7 @@ pub use search::{Anchored, Input, Match, MatchKind, Span, StartKind};
 pub use searcher::{AhoCorasick, AhoCorasickBuilder, FindIter};
 pub use stream::{StreamFindIter, Streams};
 
-/// The version of the library: 102 is 0.1.2.
+/// Returns the version of the library: 102 is 0.1.2.
 pub fn version() -> u32 {
     library::version()
 }

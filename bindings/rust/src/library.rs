@@ -1,4 +1,4 @@
-//! The functions of the C library, as safe calls. This is the only file with code that is not safe.
+//! Safe calls of the functions of the C library. This is the only file with unsafe code.
 use crate::kinds::AhoCorasickKind;
 use crate::primitives::{PatternID, StateID};
 use crate::search::{Anchored, Input, Match, MatchKind, StartKind};
@@ -54,7 +54,7 @@ struct CsMatch {
     end: usize,
 }
 
-/// What a searcher is asked for.
+/// The settings of a searcher.
 pub(crate) struct Wishes {
     pub(crate) match_kind: MatchKind,
     pub(crate) start_kind: StartKind,
@@ -63,7 +63,8 @@ pub(crate) struct Wishes {
     pub(crate) kind: Option<AhoCorasickKind>,
 }
 
-/// What is known of a searcher: how many patterns it has, the lengths of the shortest and of the longest, and its memory in bytes.
+/// The facts about a searcher: the number of its patterns, the lengths of the shortest and of the
+/// longest one, and its memory in bytes.
 #[repr(C)]
 #[derive(Clone, Copy, Debug, Default)]
 pub(crate) struct Facts {
@@ -73,7 +74,7 @@ pub(crate) struct Facts {
     pub(crate) memory: usize,
 }
 
-/// What is told of a state of an automaton.
+/// The facts about a state of an automaton.
 #[repr(C)]
 #[derive(Clone, Copy, Debug, Default)]
 pub(crate) struct State {
@@ -117,7 +118,7 @@ extern "C" {
     fn cs_stream_free(stream: *mut CsStream);
 }
 
-/// What writes a haystack anew.
+/// A function that writes a haystack with replacements.
 type Writes = unsafe extern "C" fn(*mut CsSearcher, *const u8, usize, *const CsSlice, usize, *mut u8, usize, *mut usize) -> u32;
 
 const DONE: u32 = 0;
@@ -127,16 +128,17 @@ const NO_ROOM: u32 = 11;
 const TOO_SHORT: u32 = 15;
 
 pub(crate) fn version() -> u32 {
-    // SAFETY: it takes nothing.
+    // SAFETY: it has no parameters.
     unsafe { cs_version() }
 }
 
-/// The patterns of a secret by the forms of these bits. None where it has fewer than four bytes.
+/// Returns the patterns of a secret in the forms of these bits, or `None` if it has fewer than four
+/// bytes.
 pub(crate) fn forms(secret: &[u8], bits: u32) -> Option<Vec<Vec<u8>>> {
     let (mut room, mut ends) = (vec![0; 144 * secret.len() + 64], vec![0; 128]); // enough for most
     loop {
         let (mut len, mut count) = (0, 0);
-        // SAFETY: the secret is lent for the call; the rooms have as many places as is said.
+        // SAFETY: the secret is borrowed for the call, and the lengths of the buffers are true.
         let status = unsafe {
             cs_forms(
                 secret.as_ptr(),
@@ -158,25 +160,25 @@ pub(crate) fn forms(secret: &[u8], bits: u32) -> Option<Vec<Vec<u8>>> {
             TOO_SHORT => return None,
             NO_ROOM => (room, ends) = (vec![0; len], vec![0; count]),
             NO_MEMORY => panic!("out of memory"),
-            status => panic!("the library answered {status} to forms"),
+            status => panic!("the library returned {status} for forms"),
         }
     }
 }
 
-/// Byte strings as the library takes them.
+/// Byte strings in the form that the library accepts.
 pub(crate) struct Pieces<'p> {
     slices: Vec<CsSlice>,
     of: PhantomData<&'p [u8]>,
 }
 
 impl<'p> Pieces<'p> {
-    /// Each item is asked for its bytes once: a second answer of a caller's type may be another one.
+    /// Borrows the bytes of each item once: a type of the caller may return other bytes later.
     pub(crate) fn of<B: AsRef<[u8]>>(items: &'p [B]) -> Pieces<'p> {
         let slices = items.iter().map(AsRef::as_ref).map(|item| CsSlice { at: item.as_ptr(), len: item.len() }).collect();
         Pieces { slices, of: PhantomData }
     }
 
-    /// How many bytes each of them has.
+    /// Returns the length of each in bytes.
     pub(crate) fn lens(&self) -> Vec<usize> {
         self.slices.iter().map(|it| it.len).collect()
     }
@@ -186,28 +188,28 @@ fn match_of(found: CsMatch, offset: usize) -> Match {
     Match::new(PatternID::new_unchecked(found.pattern), offset + found.start..offset + found.end)
 }
 
-/// The text of a build's error.
+/// Returns the text of a build error.
 fn text_of(error: &CsError) -> String {
     let (mut room, mut len) = ([0; 256], 0);
-    // SAFETY: the room has as many bytes as is said.
+    // SAFETY: the length of the buffer is true.
     match unsafe { cs_error_text(error, room.as_mut_ptr(), room.len(), &mut len) } {
         DONE => String::from_utf8_lossy(&room[..len]).into_owned(),
         NO_MEMORY => String::from("out of memory"),
-        status => panic!("the library answered {status} to an error"),
+        status => panic!("the library returned {status} for an error"),
     }
 }
 
-/// One share of a searcher. Each call has it alone.
+/// A handle of a searcher. One call at a time uses it.
 pub(crate) struct Handle(CsSearcher);
 
-// SAFETY: a handle may be used by any thread, by one call at a time; each call takes it by `&mut`.
+// SAFETY: any thread may use a handle, one call at a time, and each call takes it by `&mut`.
 unsafe impl Send for Handle {}
-// SAFETY: by a shared reference nothing is called.
+// SAFETY: no function is called through a shared reference.
 unsafe impl Sync for Handle {}
 
 impl Drop for Handle {
     fn drop(&mut self) {
-        // SAFETY: the handle is one that the library has made, and nobody uses it any more.
+        // SAFETY: the library made the handle, and nothing uses it any more.
         unsafe { cs_free(&mut self.0) }
     }
 }
@@ -217,7 +219,7 @@ impl Handle {
         Handle(CsSearcher { full: false, at: ptr::null_mut() })
     }
 
-    /// A searcher for the patterns, or the text that says why there is none.
+    /// Builds a searcher for the patterns, or returns the text of the error.
     pub(crate) fn build(patterns: &Pieces<'_>, wishes: &Wishes) -> Result<Handle, String> {
         let patterns = &patterns.slices;
         let match_kind = match wishes.match_kind {
@@ -241,31 +243,33 @@ impl Handle {
         let options =
             CsOptions { size, match_kind, start_kind, ignore_case, prefilter, automaton, max_index, max_pattern, max_len, later: [0; 4] };
         let (mut handle, mut error) = (Handle::none(), CsError::default());
-        // SAFETY: the slices are lent for the call, which keeps none of them; the handle is one that was started.
+        // SAFETY: the slices are borrowed for the call, which keeps none of them, and the handle is
+        // initialised.
         match unsafe { cs_try_build(patterns.as_ptr(), patterns.len(), &options, &mut handle.0, &mut error) } {
             DONE => Ok(handle),
             _ => Err(text_of(&error)),
         }
     }
 
-    /// Another handle of the same searcher, or none where memory ran out.
+    /// Returns another handle of the same searcher, or `None` if memory ran out.
     pub(crate) fn share(&mut self) -> Option<Handle> {
         let mut other = Handle::none();
-        // SAFETY: both are handles, and two different ones.
-        (unsafe { cs_share(&mut self.0, &mut other.0) } == DONE).then_some(other)
+        // SAFETY: both are handles, and they differ.
+        (unsafe { cs_share(&mut self.0, &mut other.0) } == DONE).then(|| other)
     }
 
-    /// Whether a pattern occurs in the haystack. The searcher answers unanchored searches.
+    /// Returns whether a pattern occurs in the haystack. The searcher supports unanchored searches.
     pub(crate) fn is_match(&mut self, haystack: &[u8]) -> bool {
-        // SAFETY: the haystack is lent for the call.
+        // SAFETY: the haystack is borrowed for the call.
         unsafe { cs_is_match(&mut self.0, haystack.as_ptr(), haystack.len()) == FOUND }
     }
 
-    /// The answer of a search that the searcher was built for, and whose span does not start behind its end.
+    /// Returns the match of a search. The searcher supports it, and its span does not start after
+    /// its end.
     pub(crate) fn search(&mut self, input: &Input<'_>) -> Option<Match> {
         let (haystack, mut found) = (input.haystack(), CsMatch::default());
         let anchored = input.get_anchored() == Anchored::Yes;
-        // SAFETY: the haystack is lent for the call; the library looks whether it has the span.
+        // SAFETY: the haystack is borrowed for the call, and the library checks the span.
         let status = unsafe {
             cs_search(
                 &mut self.0,
@@ -281,16 +285,16 @@ impl Handle {
         (status == FOUND).then(|| match_of(found, 0))
     }
 
-    /// All matches of the haystack, those that overlap too, each moved on by the offset. The searcher is of kind Standard and answers
-    /// unanchored searches.
+    /// Returns all matches of the haystack, including overlapping ones, each moved to the right by
+    /// the offset. The match kind is standard, and the searcher supports unanchored searches.
     pub(crate) fn overlapping(&mut self, haystack: &[u8], offset: usize) -> Vec<Match> {
         let mut room = vec![CsMatch::default(); 64 + haystack.len() / 256];
         loop {
             let mut count = 0;
-            // SAFETY: the room has as many places as is said, and they are written.
+            // SAFETY: the length of the buffer is true, and its elements are initialised.
             let status =
                 unsafe { cs_overlapping(&mut self.0, haystack.as_ptr(), haystack.len(), room.as_mut_ptr(), room.len(), &mut count) };
-            assert_eq!(status, DONE, "the library answered {status} to an overlapping search");
+            assert_eq!(status, DONE, "the library returned {status} for an overlapping search");
             if count <= room.len() {
                 return room[..count].iter().map(|&found| match_of(found, offset)).collect();
             }
@@ -298,25 +302,27 @@ impl Handle {
         }
     }
 
-    /// The haystack with each match replaced, or none where memory ran out. There is one piece for each pattern, and the searcher
-    /// answers unanchored searches.
+    /// Returns the haystack with each match replaced, or `None` if memory ran out. There is one
+    /// replacement for each pattern, and the searcher supports unanchored searches.
     pub(crate) fn replace_all(&mut self, haystack: &[u8], replace_with: &Pieces<'_>) -> Option<Vec<u8>> {
         self.written(haystack, replace_with, cs_replace_all)
     }
 
-    /// The haystack with each run of bytes that lie in matches replaced, or none where memory ran out. There is one piece for each
-    /// pattern, of which none is empty, and the searcher is of kind Standard and answers unanchored searches.
+    /// Returns the haystack with each run of matched bytes replaced, or `None` if memory ran out.
+    /// There is one replacement for each pattern, no pattern is empty, the match kind is standard,
+    /// and the searcher supports unanchored searches.
     pub(crate) fn cover_all(&mut self, haystack: &[u8], replace_with: &Pieces<'_>) -> Option<Vec<u8>> {
         self.written(haystack, replace_with, cs_cover_all)
     }
 
-    /// What one of two functions of the library writes of the haystack.
+    /// Returns what one of two functions of the library writes for the haystack.
     fn written(&mut self, haystack: &[u8], replace_with: &Pieces<'_>, function: Writes) -> Option<Vec<u8>> {
         let pieces = &replace_with.slices;
         let mut room = vec![0; haystack.len()];
         loop {
             let mut len = 0;
-            // SAFETY: haystack and pieces are lent for the call; the room has as many bytes as is said.
+            // SAFETY: haystack and replacements are borrowed for the call, and the length of the
+            // buffer is true.
             let status = unsafe {
                 function(
                     &mut self.0,
@@ -336,21 +342,21 @@ impl Handle {
                 }
                 NO_ROOM => room = vec![0; len],
                 NO_MEMORY => return None,
-                status => panic!("the library answered {status} to a replacement"),
+                status => panic!("the library returned {status} for a replacement"),
             }
         }
     }
 
-    /// What is known of the searcher.
+    /// Returns the facts about the searcher.
     pub(crate) fn facts(&mut self) -> Facts {
         let mut facts = Facts::default();
-        // SAFETY: it writes the facts alone.
+        // SAFETY: it writes only the facts.
         let status = unsafe { cs_info(&mut self.0, &mut facts) };
-        assert_eq!(status, DONE, "the library answered {status} to a question");
+        assert_eq!(status, DONE, "the library returned {status} for a question");
         facts
     }
 
-    /// A stream with a share of the searcher, or the status that says why there is none.
+    /// Returns a stream of the searcher, or the status of the error.
     pub(crate) fn stream(&mut self) -> Result<Stream, u32> {
         let mut stream = Stream(CsStream { full: false, at: ptr::null_mut() });
         // SAFETY: both are handles.
@@ -361,11 +367,11 @@ impl Handle {
     }
 }
 
-/// The states of a searcher's automaton. The library looks no number up that it is given as that of a state, so it is given none but what
-/// it has told before.
+/// The states of a searcher's automaton. The library does not check the number of a state, so only
+/// numbers that it returned before are given to it.
 pub(crate) struct States {
     handle: Handle,
-    /// A bit for each number, from the lowest of the first word on: whether it was told.
+    /// One bit for each number, from the lowest bit of the first word: whether it was returned.
     told: Vec<u64>,
 }
 
@@ -383,45 +389,46 @@ impl States {
         StateID::new_unchecked(state as usize)
     }
 
-    /// The number of a state. Panics where it was not told.
+    /// Returns the number of a state. Panics if the library never returned it.
     fn known(&self, state: StateID) -> u32 {
         let number = state.as_u32();
         let word = self.told.get(number as usize / 64).copied().unwrap_or(0);
-        assert!(word >> (number % 64) & 1 == 1, "the automaton has told no {state:?}");
+        assert!(word >> (number % 64) & 1 == 1, "the automaton never returned {state:?}");
         number
     }
 
-    /// The state in which a search begins. The searcher answers searches of this anchoring.
+    /// Returns the state in which a search begins. The searcher supports searches with this
+    /// anchoring.
     pub(crate) fn start(&mut self, anchored: bool) -> StateID {
         let mut state = 0;
-        // SAFETY: it writes the state alone.
+        // SAFETY: it writes only the state.
         let status = unsafe { cs_start_state(&mut self.handle.0, anchored, &mut state) };
-        assert_eq!(status, DONE, "the library answered {status} to a start");
+        assert_eq!(status, DONE, "the library returned {status} for a start");
         self.tell(state)
     }
 
-    /// The state behind a byte.
+    /// Returns the state after a byte.
     pub(crate) fn next(&mut self, anchored: bool, state: StateID, byte: u8) -> StateID {
         let (state, mut next) = (self.known(state), 0);
-        // SAFETY: the state is one that the library has told of this searcher.
+        // SAFETY: the library returned the state for this searcher.
         let status = unsafe { cs_next_state(&mut self.handle.0, anchored, state, byte, &mut next) };
-        assert_eq!(status, DONE, "the library answered {status} to a step");
+        assert_eq!(status, DONE, "the library returned {status} for a step");
         self.tell(next)
     }
 
-    /// What is told of a state.
+    /// Returns the facts about a state.
     pub(crate) fn told(&mut self, state: StateID) -> State {
         let (state, mut told) = (self.known(state), State::default());
-        // SAFETY: as of a step.
+        // SAFETY: as for a step.
         let status = unsafe { cs_state_is(&mut self.handle.0, state, &mut told) };
-        assert_eq!(status, DONE, "the library answered {status} to a question");
+        assert_eq!(status, DONE, "the library returned {status} for a question");
         told
     }
 
-    /// A pattern that a state lists, where it lists so many.
+    /// Returns the pattern at an index of a state's list, or `None` if the list is shorter.
     pub(crate) fn match_pattern(&mut self, state: StateID, index: usize) -> Option<PatternID> {
         let (state, mut pattern) = (self.known(state), 0);
-        // SAFETY: as of a step.
+        // SAFETY: as for a step.
         let status = unsafe { cs_match_pattern(&mut self.handle.0, state, index, &mut pattern) };
         (status == DONE).then(|| PatternID::new_unchecked(pattern))
     }
@@ -434,52 +441,54 @@ impl States {
 /// A stream whose bytes are pushed.
 pub(crate) struct Stream(CsStream);
 
-// SAFETY: as of a `Handle`.
+// SAFETY: as for a `Handle`.
 unsafe impl Send for Stream {}
-// SAFETY: as of a `Handle`.
+// SAFETY: as for a `Handle`.
 unsafe impl Sync for Stream {}
 
 impl Drop for Stream {
     fn drop(&mut self) {
-        // SAFETY: the handle is one that the library has made, and nobody uses it any more.
+        // SAFETY: the library made the handle, and nothing uses it any more.
         unsafe { cs_stream_free(&mut self.0) }
     }
 }
 
 impl Stream {
-    /// Pushes bytes from the front, and answers how many; none where the stream has ended or is too long.
+    /// Pushes bytes, and returns how many the stream accepted, or `None` if it has ended or is too
+    /// long.
     pub(crate) fn push(&mut self, bytes: &[u8]) -> Option<usize> {
         let mut taken = 0;
-        // SAFETY: the bytes are lent for the call.
-        (unsafe { cs_stream_push(&mut self.0, bytes.as_ptr(), bytes.len(), &mut taken) } == DONE).then_some(taken)
+        // SAFETY: the bytes are borrowed for the call.
+        (unsafe { cs_stream_push(&mut self.0, bytes.as_ptr(), bytes.len(), &mut taken) } == DONE).then(|| taken)
     }
 
-    /// The next match that is certain, by its place in the stream.
+    /// Returns the next certain match, with its offsets in the stream.
     pub(crate) fn next_match(&mut self) -> Option<Match> {
         let mut found = CsMatch::default();
-        // SAFETY: it writes the match alone.
+        // SAFETY: it writes only the match.
         (unsafe { cs_stream_next(&mut self.0, &mut found) } == FOUND).then(|| match_of(found, 0))
     }
 
-    /// Puts the next part of the replacement that is certain into the room, and answers how many bytes it has. The room grows where it
-    /// is too small. There is one piece for each pattern.
+    /// Writes the next certain part of the result to the buffer, and returns its length. A buffer
+    /// that is too small grows. There is one replacement for each pattern.
     pub(crate) fn replace(&mut self, pieces: &Pieces<'_>, room: &mut Vec<u8>) -> Option<usize> {
         loop {
             let (slices, mut len) = (&pieces.slices, 0);
-            // SAFETY: the pieces are lent for the call; the room has as many bytes as is said.
+            // SAFETY: the replacements are borrowed for the call, and the length of the buffer is
+            // true.
             let status = unsafe { cs_stream_replace(&mut self.0, slices.as_ptr(), slices.len(), room.as_mut_ptr(), room.len(), &mut len) };
             match status {
                 FOUND => return Some(len),
                 DONE => return None,
                 NO_ROOM => *room = vec![0; len],
-                status => panic!("the library answered {status} to a replacement"),
+                status => panic!("the library returned {status} for a replacement"),
             }
         }
     }
 
-    /// Says that no more is pushed.
+    /// Ends the stream.
     pub(crate) fn end(&mut self) {
-        // SAFETY: the handle is one that the library has made.
+        // SAFETY: the library made the handle.
         unsafe { cs_stream_end(&mut self.0) };
     }
 }

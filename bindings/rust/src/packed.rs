@@ -1,4 +1,5 @@
-//! The Rust crate's searcher for a few patterns, over the same library: unanchored, of a leftmost kind, with a fixed set of patterns.
+//! The Rust crate's searcher for a few patterns, over the same library. It does unanchored searches
+//! with a leftmost kind.
 //!
 //! ```
 //! use chromesquid::{packed::{Config, MatchKind, Searcher}, PatternID};
@@ -11,18 +12,23 @@
 use crate::search::{Input, Match, Span};
 use crate::searcher::{self, AhoCorasick};
 
-/// How many patterns there may be, as in the Rust crate: with more, callers are to search another way.
+/// The maximum number of patterns, as in the Rust crate. Callers with more use another searcher.
 const MOST: usize = 128;
 
-/// Which of several matches is found.
-#[derive(Clone, Copy, Debug, Default, PartialEq, Eq)]
+/// Which of several possible matches is found.
+#[derive(Clone, Copy, Debug, PartialEq, Eq)]
 #[non_exhaustive]
 pub enum MatchKind {
-    /// Of those that start first, the one whose pattern stands first.
-    #[default]
+    /// Of the matches that start first, the one whose pattern was given first.
     LeftmostFirst,
-    /// Of those that start first, the longest.
+    /// Of the matches that start first, the longest.
     LeftmostLongest,
+}
+
+impl Default for MatchKind {
+    fn default() -> MatchKind {
+        MatchKind::LeftmostFirst
+    }
 }
 
 impl From<MatchKind> for crate::MatchKind {
@@ -34,7 +40,7 @@ impl From<MatchKind> for crate::MatchKind {
     }
 }
 
-/// What a searcher is built by.
+/// The configuration of a searcher.
 #[derive(Clone, Debug)]
 pub struct Config {
     kind: MatchKind,
@@ -48,35 +54,35 @@ impl Default for Config {
 }
 
 impl Config {
-    /// Of kind LeftmostFirst, and for at most 128 patterns.
+    /// Returns the default configuration: leftmost-first, and at most 128 patterns.
     pub fn new() -> Config {
         Config { kind: MatchKind::default(), is_limited: true }
     }
 
-    /// A builder.
+    /// Returns a builder with this configuration.
     pub fn builder(&self) -> Builder {
         Builder { config: self.clone(), patterns: Vec::new(), is_refused: false }
     }
 
-    /// Sets which of several matches is found.
+    /// Sets which of several possible matches is found.
     pub fn match_kind(&mut self, kind: MatchKind) -> &mut Config {
         self.kind = kind;
         self
     }
 
-    /// Sets whether there are no more than 128 patterns.
+    /// Sets whether more than 128 patterns are refused.
     pub fn heuristic_pattern_limits(&mut self, yes: bool) -> &mut Config {
         self.is_limited = yes;
         self
     }
 }
 
-/// Takes patterns, and builds a searcher.
+/// Collects patterns, and builds a searcher.
 #[derive(Clone, Debug)]
 pub struct Builder {
     config: Config,
     patterns: Vec<Vec<u8>>,
-    /// Whether a pattern was empty or one too many, so that nothing is built.
+    /// Whether a pattern was empty or one too many. Nothing is built then.
     is_refused: bool,
 }
 
@@ -87,12 +93,12 @@ impl Default for Builder {
 }
 
 impl Builder {
-    /// Of kind LeftmostFirst, and for at most 128 patterns.
+    /// Returns a builder with the default configuration: leftmost-first, and at most 128 patterns.
     pub fn new() -> Builder {
         Config::new().builder()
     }
 
-    /// Adds a pattern. With an empty one, or one too many, nothing is built.
+    /// Adds a pattern. After an empty pattern, or one too many, `build` returns `None`.
     pub fn add<P: AsRef<[u8]>>(&mut self, pattern: P) -> &mut Builder {
         let pattern = pattern.as_ref();
         if pattern.is_empty() || self.config.is_limited && self.patterns.len() >= MOST {
@@ -105,7 +111,7 @@ impl Builder {
         self
     }
 
-    /// Adds patterns, one after another.
+    /// Adds patterns in their order.
     pub fn extend<I, P>(&mut self, patterns: I) -> &mut Builder
     where
         I: IntoIterator<Item = P>,
@@ -117,17 +123,17 @@ impl Builder {
         self
     }
 
-    /// How many patterns were added.
+    /// Returns the number of patterns that were added.
     pub fn len(&self) -> usize {
         self.patterns.len()
     }
 
-    /// The length of the shortest pattern in bytes; `usize::MAX` where there is none.
+    /// Returns the length of the shortest pattern in bytes, or `usize::MAX` without patterns.
     pub fn minimum_len(&self) -> usize {
         self.patterns.iter().map(Vec::len).min().unwrap_or(usize::MAX)
     }
 
-    /// A searcher, or none where there is no pattern, one is empty, or there are too many.
+    /// Builds a searcher. Returns `None` if there are no patterns or too many, or if one is empty.
     pub fn build(&self) -> Option<Searcher> {
         if self.is_refused || self.patterns.is_empty() {
             return None;
@@ -138,7 +144,7 @@ impl Builder {
     }
 }
 
-/// A searcher for some patterns.
+/// A searcher for a few patterns.
 #[derive(Clone, Debug)]
 pub struct Searcher {
     searcher: AhoCorasick,
@@ -146,7 +152,7 @@ pub struct Searcher {
 }
 
 impl Searcher {
-    /// A searcher of kind LeftmostFirst, or none, as by `Builder::build`.
+    /// Builds a leftmost-first searcher. Returns `None` as `Builder::build` does.
     pub fn new<I, P>(patterns: I) -> Option<Searcher>
     where
         I: IntoIterator<Item = P>,
@@ -155,49 +161,51 @@ impl Searcher {
         Builder::new().extend(patterns).build()
     }
 
-    /// A configuration.
+    /// Returns the default configuration.
     pub fn config() -> Config {
         Config::new()
     }
 
-    /// A builder.
+    /// Returns a builder with the default configuration.
     pub fn builder() -> Builder {
         Builder::new()
     }
 
-    /// The first match.
+    /// Returns the first match.
     pub fn find<B: AsRef<[u8]>>(&self, haystack: B) -> Option<Match> {
         self.searcher.find(haystack.as_ref())
     }
 
-    /// The first match within a span. Panics where the haystack does not have it, or its start is above its end.
+    /// Returns the first match in a span. Panics if the haystack has no such span, or the span
+    /// starts after its end.
     pub fn find_in<B: AsRef<[u8]>>(&self, haystack: B, span: Span) -> Option<Match> {
-        assert!(span.start <= span.end, "a span {span:?} that ends before its start");
+        assert!(span.start <= span.end, "the span {span:?} ends before its start");
         self.searcher.find(Input::new(haystack.as_ref()).span(span))
     }
 
-    /// The matches, each searched for from the end of the one before.
+    /// Returns an iterator over the matches. Each search begins where the previous match ended.
     pub fn find_iter<'a, 'b, B: ?Sized + AsRef<[u8]>>(&'a self, haystack: &'b B) -> FindIter<'a, 'b> {
         FindIter(self.searcher.find_iter(haystack.as_ref()))
     }
 
-    /// Which of several matches is found.
+    /// Which of several possible matches is found.
     pub fn match_kind(&self) -> &MatchKind {
         &self.kind
     }
 
-    /// How many bytes a haystack has at least for this searcher to be the quickest way: any is long enough.
+    /// Returns the length of the shortest haystack for which this searcher is the best choice, in
+    /// bytes. It is 0.
     pub fn minimum_len(&self) -> usize {
         0
     }
 
-    /// How many bytes the searcher holds.
+    /// Returns the memory of the searcher in bytes.
     pub fn memory_usage(&self) -> usize {
         self.searcher.memory_usage()
     }
 }
 
-/// Matches, each searched for as it is asked for.
+/// An iterator over matches. Each match is searched for by the call that returns it.
 #[derive(Debug)]
 pub struct FindIter<'s, 'h>(searcher::FindIter<'s, 'h>);
 

@@ -1,4 +1,4 @@
-//! The numbers of patterns and of states.
+//! The identifiers of patterns and of states.
 use std::{
     error::Error,
     fmt,
@@ -7,7 +7,7 @@ use std::{
 
 macro_rules! number {
     ($name:ident, $error:ident, $what:literal) => {
-        #[doc = concat!("The number of a ", $what, ", from 0 on. Slices and vectors are indexed by it.")]
+        #[doc = concat!("The number of a ", $what, ", from 0. It can index slices and vectors.")]
         #[derive(Clone, Copy, Default, PartialEq, Eq, PartialOrd, Ord, Hash)]
         pub struct $name(u32);
 
@@ -16,67 +16,69 @@ macro_rules! number {
             pub const ZERO: $name = $name(0);
             /// The greatest number.
             pub const MAX: $name = $name(i32::MAX as u32 - 1);
-            /// How many numbers there are.
+            /// The number of valid numbers.
             pub const LIMIT: usize = $name::MAX.0 as usize + 1;
-            /// How many bytes a number takes.
+            /// The size of a number in bytes.
             pub const SIZE: usize = std::mem::size_of::<$name>();
 
-            /// The number, where it is at most `MAX`.
+            /// Returns the number, or an error if it is above `MAX`.
             pub fn new(value: usize) -> Result<$name, $error> {
                 $name::try_from(value)
             }
 
-            /// The number, which is not looked at: with one above `MAX` calls may answer wrong or panic.
+            /// Returns the number without a check: with one above `MAX`, calls may return wrong
+            /// answers or panic.
             pub const fn new_unchecked(value: usize) -> $name {
                 $name(value as u32)
             }
 
-            /// The same of a `u32`.
+            /// Returns the number without a check, as `new_unchecked` does.
             pub const fn from_u32_unchecked(value: u32) -> $name {
                 $name(value)
             }
 
-            /// The number. Panics above `MAX`.
+            /// Returns the number. Panics if it is above `MAX`.
             pub fn must(value: usize) -> $name {
                 $name::new(value).expect(concat!("invalid ", stringify!($name), " value"))
             }
 
-            /// The number.
+            /// Returns the number as a `usize`.
             pub const fn as_usize(&self) -> usize {
                 self.0 as usize
             }
 
-            /// The number.
+            /// Returns the number as a `u64`.
             pub const fn as_u64(&self) -> u64 {
                 self.0 as u64
             }
 
-            /// The number.
+            /// Returns the number as a `u32`.
             pub const fn as_u32(&self) -> u32 {
                 self.0
             }
 
-            /// The number.
+            /// Returns the number as an `i32`.
             pub const fn as_i32(&self) -> i32 {
                 self.0 as i32
             }
 
-            /// The number and one: how many there are up to this one.
+            /// Returns the number plus one, as the length of a list whose last index it is.
             pub fn one_more(&self) -> usize {
                 self.as_usize() + 1
             }
 
-            /// Its bytes in the order of this machine.
+            /// Returns its bytes in native byte order.
             pub fn to_ne_bytes(&self) -> [u8; 4] {
                 self.0.to_ne_bytes()
             }
 
-            /// The number with these bytes in the order of this machine, where it is at most `MAX`.
+            /// Returns the number with these bytes in native byte order, or an error if it is above
+            /// `MAX`.
             pub fn from_ne_bytes(bytes: [u8; 4]) -> Result<$name, $error> {
                 $name::try_from(u32::from_ne_bytes(bytes))
             }
 
-            /// The same, and the number is not looked at, as by `new_unchecked`.
+            /// Returns the number with these bytes without a check, as `new_unchecked` does.
             pub fn from_ne_bytes_unchecked(bytes: [u8; 4]) -> $name {
                 $name(u32::from_ne_bytes(bytes))
             }
@@ -165,7 +167,7 @@ macro_rules! number {
         }
 
         impl $error {
-            /// The number that was asked for.
+            /// Returns the number that was too large.
             pub fn attempted(&self) -> u64 {
                 self.attempted
             }
@@ -181,5 +183,5 @@ macro_rules! number {
     };
 }
 
-number!(PatternID, PatternIDError, "pattern, which is its place among the patterns");
+number!(PatternID, PatternIDError, "pattern, in the order in which the patterns were given");
 number!(StateID, StateIDError, "state");

@@ -1,4 +1,4 @@
-//! Texts and streams in which nothing of some secrets is left.
+//! Removes secrets from texts and streams.
 use crate::forms::{secret_forms, Form, FormError};
 use crate::searcher::AhoCorasick;
 use std::{
@@ -9,8 +9,9 @@ use std::{
 
 const CHUNK: usize = 64 * 1024;
 
-/// Replaces each run of what lies in some secrets, or in their forms, so that nothing of them is left, whichever overlap or touch. A clone is
-/// the same one, and any threads may use it at the same time.
+/// Replaces secrets and their encoded forms in texts and streams. Occurrences that overlap or touch
+/// are one run, and each run is replaced as a whole, so no byte of an occurrence remains. Clones
+/// share its memory, and any number of threads may use it at the same time.
 ///
 /// ```
 /// use chromesquid::{Form, Redactor};
@@ -19,19 +20,20 @@ const CHUNK: usize = 64 * 1024;
 /// assert_eq!(redactor.text("Basic dTprZXkvKw== key%2F%2B pass+word"), "Basic dT[redacted]== [redacted] [redacted]");
 /// ```
 ///
-/// What holds a secret otherwise, as compressed, or in base64 that is broken into lines, is not found.
+/// Other encodings of a secret are not found, for example compression, or base64 with line breaks.
 #[derive(Clone)]
 pub struct Redactor {
     searcher: AhoCorasick,
     replacement: Vec<u8>,
     secrets: usize,
-    /// How a pattern may begin: its first bytes, up to four.
+    /// The prefixes of the patterns, of up to four bytes.
     begins: HashSet<Vec<u8>>,
 }
 
 impl Redactor {
-    /// It covers these secrets and their forms by `[redacted]`. A secret that is empty is refused, and one of fewer than four bytes where
-    /// there are forms.
+    /// Returns a redactor that replaces the secrets and their forms by `[redacted]`.
+    ///
+    /// Fails if a secret is empty, or if there are forms and a secret has fewer than four bytes.
     pub fn new<I, S>(secrets: I, forms: &[Form]) -> Result<Redactor, FormError>
     where
         I: IntoIterator<Item = S>,
@@ -54,8 +56,8 @@ impl Redactor {
         Ok(Redactor { searcher, replacement: b"[redacted]".to_vec(), secrets: count, begins })
     }
 
-    /// Sets what stands for each run. What is written can spell a secret out of it and the bytes beside it, so take none that is empty or like
-    /// a part of a secret:
+    /// Sets the replacement of each run. Together with the bytes next to it, a replacement can
+    /// spell out a secret. It should not be empty, or similar to a part of a secret:
     ///
     /// ```
     /// let redactor = chromesquid::Redactor::new(["abcd"], &[]).unwrap().replacement("");
@@ -66,7 +68,8 @@ impl Redactor {
         self
     }
 
-    /// The text with each run replaced. A character that a secret cuts in two becomes U+FFFD.
+    /// Returns the text with each run replaced. A character that a secret cuts in two becomes
+    /// U+FFFD.
     pub fn text(&self, text: &str) -> String {
         match String::from_utf8(self.bytes(text.as_bytes())) {
             Ok(covered) => covered,
@@ -74,7 +77,7 @@ impl Redactor {
         }
     }
 
-    /// The bytes with each run replaced.
+    /// Returns the bytes with each run replaced.
     pub fn bytes(&self, bytes: &[u8]) -> Vec<u8> {
         if self.searcher.is_match(bytes) {
             self.searcher.cover_all(bytes, &vec![&self.replacement; self.searcher.patterns_len()])
@@ -83,11 +86,12 @@ impl Redactor {
         }
     }
 
-    /// Writes what the reader gives with each run replaced, and flushes the writer at the end. What no secret may go on with is written as
-    /// soon as it came.
+    /// Writes the bytes of the reader with each run replaced, and flushes the writer at the end.
+    /// Bytes are written as soon as they cannot belong to a secret that is still incomplete.
     ///
-    /// Where reader or writer fails, also by `WouldBlock`, what was read and not written is gone. **A second call must not go on there**: it would
-    /// write the rest of a secret whose begin the first one held.
+    /// If the reader or the writer fails, even with `WouldBlock`, the bytes that were read and not
+    /// written are lost. **Do not continue with a second call**: if the first call held the start
+    /// of a secret, the second would write the rest of it.
     pub fn stream<R: Read, W: Write>(&self, mut reader: R, mut writer: W) -> io::Result<()> {
         let mut chunk = vec![0; CHUNK];
         let mut covering = Covering { redactor: self, held: Vec::new(), is_open: false, upto: 0 };
@@ -114,25 +118,26 @@ impl fmt::Debug for Redactor {
     }
 }
 
-/// How far the cover of a stream has come.
+/// The progress of a redacted stream.
 struct Covering<'r> {
     redactor: &'r Redactor,
-    /// The bytes that are not told.
+    /// The bytes that are not written yet.
     held: Vec<u8>,
-    /// Whether a run that was told goes on in them, and up to which place as far as is known.
+    /// Whether a run whose replacement was written continues in them, and its end as far as it is
+    /// known.
     is_open: bool,
     upto: usize,
 }
 
 impl Covering<'_> {
-    /// The place before which no occurrence begins that is not whole yet.
+    /// Returns the offset before which no incomplete occurrence begins.
     fn settled(&self) -> usize {
         let (held, redactor) = (&self.held, self.redactor);
         let first = (held.len() + 1).saturating_sub(redactor.searcher.max_pattern_len());
         (first..held.len()).find(|&at| redactor.begins.contains(&held[at..held.len().min(at + 4)])).unwrap_or(held.len())
     }
 
-    /// Writes what stands before that place.
+    /// Writes the bytes before that offset, with each run replaced.
     fn tell<W: Write>(&mut self, settled: usize, writer: &mut W) -> io::Result<()> {
         let mut found: Vec<_> = self.redactor.searcher.overlapping_in(&self.held, 0).iter().map(|it| (it.start(), it.end())).collect();
         found.sort_unstable();

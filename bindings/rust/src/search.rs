@@ -1,83 +1,93 @@
-//! What is asked of a search, and what it answers.
+//! The inputs of searches, and their matches.
 use crate::primitives::PatternID;
 use std::{
     fmt,
     ops::{Bound, Index, IndexMut, Range, RangeBounds},
 };
 
-/// Which of several matches is found.
-#[derive(Clone, Copy, Debug, Default, PartialEq, Eq)]
+/// Which of several possible matches is found.
+#[derive(Clone, Copy, Debug, PartialEq, Eq)]
 #[non_exhaustive]
 pub enum MatchKind {
-    /// The one that ends first.
-    #[default]
+    /// The match that ends first.
     Standard,
-    /// Of those that start first, the one whose pattern stands first.
+    /// Of the matches that start first, the one whose pattern was given first.
     LeftmostFirst,
-    /// Of those that start first, the longest.
+    /// Of the matches that start first, the longest.
     LeftmostLongest,
 }
 
-/// Which searches a searcher is built for.
-#[derive(Clone, Copy, Debug, Default, PartialEq, Eq)]
+impl Default for MatchKind {
+    fn default() -> MatchKind {
+        MatchKind::Standard
+    }
+}
+
+/// Which searches a searcher supports.
+#[derive(Clone, Copy, Debug, PartialEq, Eq)]
 pub enum StartKind {
-    /// All.
+    /// Both kinds of searches.
     Both,
-    /// Those that are not anchored.
-    #[default]
+    /// Unanchored searches.
     Unanchored,
-    /// Those that are anchored.
+    /// Anchored searches.
     Anchored,
 }
 
-/// Whether a match has to start where the span does.
+impl Default for StartKind {
+    fn default() -> StartKind {
+        StartKind::Unanchored
+    }
+}
+
+/// Whether a match must start where the span does.
 #[derive(Clone, Copy, Debug, PartialEq, Eq)]
 #[non_exhaustive]
 pub enum Anchored {
-    /// It may start anywhere in the span.
+    /// A match may start anywhere in the span.
     No,
-    /// It has to.
+    /// A match must start where the span does.
     Yes,
 }
 
 impl Anchored {
-    /// Whether it is `Yes`.
+    /// Returns whether it is `Yes`.
     pub fn is_anchored(&self) -> bool {
         *self == Anchored::Yes
     }
 }
 
-/// A half open range of bytes.
+/// A half-open range of bytes.
 #[derive(Clone, Copy, PartialEq, Eq, Hash)]
 pub struct Span {
-    /// The place of its first byte.
+    /// The offset of its first byte.
     pub start: usize,
-    /// The place behind its last byte.
+    /// The offset after its last byte.
     pub end: usize,
 }
 
 impl Span {
-    /// The same as a range.
+    /// Returns the span as a range.
     pub fn range(&self) -> Range<usize> {
         self.start..self.end
     }
 
-    /// Whether it has no bytes.
+    /// Returns whether it is empty.
     pub fn is_empty(&self) -> bool {
         self.start >= self.end
     }
 
-    /// How many bytes it has.
+    /// Returns its length in bytes.
     pub fn len(&self) -> usize {
         self.end.saturating_sub(self.start)
     }
 
-    /// Whether a place is in it.
+    /// Returns whether an offset is in it.
     pub fn contains(&self, offset: usize) -> bool {
         self.range().contains(&offset)
     }
 
-    /// The span moved on by so many bytes.
+    /// Returns the span, moved to the right by a number of bytes.
     pub fn offset(&self, offset: usize) -> Span {
         Span { start: self.start + offset, end: self.end + offset }
     }
@@ -135,7 +145,7 @@ impl Index<Span> for str {
     }
 }
 
-/// A match: the pattern's number, and where it is.
+/// A match: the number of its pattern, and its span.
 #[derive(Clone, Copy, Debug, PartialEq, Eq, Hash)]
 pub struct Match {
     pattern: PatternID,
@@ -143,60 +153,62 @@ pub struct Match {
 }
 
 impl Match {
-    /// A match of the pattern at the span. Panics where the span ends before its start.
+    /// Returns a match of the pattern at the span. Panics if the span ends before its start.
     pub fn new<S: Into<Span>>(pattern: PatternID, span: S) -> Match {
         let span = span.into();
         assert!(span.start <= span.end, "a match that ends before its start");
         Match { pattern, span }
     }
 
-    /// The same by the number. Panics where the number is above `PatternID::MAX` too.
+    /// Returns a match of the pattern with this number. Panics if the span ends before its start,
+    /// or the number is above `PatternID::MAX`.
     pub fn must<S: Into<Span>>(pattern: usize, span: S) -> Match {
         Match::new(PatternID::must(pattern), span)
     }
 
-    /// The pattern's number.
+    /// Returns the number of the pattern.
     pub fn pattern(&self) -> PatternID {
         self.pattern
     }
 
-    /// The place of its first byte.
+    /// Returns the offset of its first byte.
     pub fn start(&self) -> usize {
         self.span.start
     }
 
-    /// The place behind its last byte.
+    /// Returns the offset after its last byte.
     pub fn end(&self) -> usize {
         self.span.end
     }
 
-    /// Where it is, as a range.
+    /// Returns its span as a range.
     pub fn range(&self) -> Range<usize> {
         self.span.range()
     }
 
-    /// Where it is.
+    /// Returns its span.
     pub fn span(&self) -> Span {
         self.span
     }
 
-    /// Whether it has no bytes.
+    /// Returns whether it is empty.
     pub fn is_empty(&self) -> bool {
         self.span.is_empty()
     }
 
-    /// How many bytes it has.
+    /// Returns its length in bytes.
     pub fn len(&self) -> usize {
         self.span.len()
     }
 
-    /// The match moved on by so many bytes.
+    /// Returns the match, moved to the right by a number of bytes.
     pub fn offset(&self, offset: usize) -> Match {
         Match { pattern: self.pattern, span: self.span.offset(offset) }
     }
 }
 
-/// What is searched: a haystack, a span of it, whether the search is anchored, and whether the earliest match is wanted.
+/// The input of a search: a haystack, a span of it, whether the search is anchored, and whether it
+/// wants the earliest match.
 #[derive(Clone)]
 pub struct Input<'h> {
     haystack: &'h [u8],
@@ -206,31 +218,33 @@ pub struct Input<'h> {
 }
 
 impl<'h> Input<'h> {
-    /// The whole haystack, not anchored and not earliest.
+    /// Returns the input of an unanchored search of the whole haystack, which does not want the
+    /// earliest match.
     pub fn new<H: ?Sized + AsRef<[u8]>>(haystack: &'h H) -> Input<'h> {
         let haystack = haystack.as_ref();
         Input { haystack, span: Span { start: 0, end: haystack.len() }, anchored: Anchored::No, earliest: false }
     }
 
-    /// With this span. Panics where the haystack does not have it; its start may be one above its end, and then nothing is found.
+    /// Returns the input with this span. The start may be one above the end: then nothing is found.
+    /// Panics if the haystack has no such span.
     pub fn span<S: Into<Span>>(mut self, span: S) -> Input<'h> {
         self.set_span(span);
         self
     }
 
-    /// With this range as its span. Panics as `span` does.
+    /// Returns the input with this range as its span. Panics as `span` does.
     pub fn range<R: RangeBounds<usize>>(mut self, range: R) -> Input<'h> {
         self.set_range(range);
         self
     }
 
-    /// Anchored or not.
+    /// Returns the input with this anchoring.
     pub fn anchored(mut self, mode: Anchored) -> Input<'h> {
         self.set_anchored(mode);
         self
     }
 
-    /// Whether the match that ends first is wanted.
+    /// Returns the input for a search that wants the match that ends first, if `yes`.
     pub fn earliest(mut self, yes: bool) -> Input<'h> {
         self.set_earliest(yes);
         self
@@ -253,73 +267,73 @@ impl<'h> Input<'h> {
     pub fn set_range<R: RangeBounds<usize>>(&mut self, range: R) {
         let start = match range.start_bound() {
             Bound::Included(&at) => at,
-            Bound::Excluded(&at) => at.checked_add(1).expect("a start that is no place"),
+            Bound::Excluded(&at) => at.checked_add(1).expect("the start of the range is too large"),
             Bound::Unbounded => 0,
         };
         let end = match range.end_bound() {
-            Bound::Included(&at) => at.checked_add(1).expect("an end that is no place"),
+            Bound::Included(&at) => at.checked_add(1).expect("the end of the range is too large"),
             Bound::Excluded(&at) => at,
             Bound::Unbounded => self.haystack.len(),
         };
         self.set_span(Span { start, end });
     }
 
-    /// Sets where the span starts. Panics as `span` does.
+    /// Sets the start of the span. Panics as `span` does.
     pub fn set_start(&mut self, start: usize) {
         self.set_span(Span { start, end: self.span.end });
     }
 
-    /// Sets where the span ends. Panics as `span` does.
+    /// Sets the end of the span. Panics as `span` does.
     pub fn set_end(&mut self, end: usize) {
         self.set_span(Span { start: self.span.start, end });
     }
 
-    /// Sets whether it is anchored.
+    /// Sets whether the search is anchored.
     pub fn set_anchored(&mut self, mode: Anchored) {
         self.anchored = mode;
     }
 
-    /// Sets whether the match that ends first is wanted.
+    /// Sets whether the search wants the match that ends first.
     pub fn set_earliest(&mut self, yes: bool) {
         self.earliest = yes;
     }
 
-    /// The haystack, all of it.
+    /// Returns the whole haystack.
     pub fn haystack(&self) -> &'h [u8] {
         self.haystack
     }
 
-    /// Where the span starts.
+    /// Returns the start of the span.
     pub fn start(&self) -> usize {
         self.span.start
     }
 
-    /// Where the span ends.
+    /// Returns the end of the span.
     pub fn end(&self) -> usize {
         self.span.end
     }
 
-    /// The span.
+    /// Returns the span.
     pub fn get_span(&self) -> Span {
         self.span
     }
 
-    /// The span as a range.
+    /// Returns the span as a range.
     pub fn get_range(&self) -> Range<usize> {
         self.span.range()
     }
 
-    /// Whether it is anchored.
+    /// Returns whether the search is anchored.
     pub fn get_anchored(&self) -> Anchored {
         self.anchored
     }
 
-    /// Whether the match that ends first is wanted.
+    /// Returns whether the search wants the match that ends first.
     pub fn get_earliest(&self) -> bool {
         self.earliest
     }
 
-    /// Whether the span starts behind its end, so that nothing is found.
+    /// Returns whether the span starts after its end, so that nothing is found.
     pub fn is_done(&self) -> bool {
         self.span.start > self.span.end
     }

@@ -6,7 +6,8 @@ use crate::search::{Anchored, Input, Match, MatchKind, StartKind};
 use crate::shares::{Share, Shares};
 use std::{fmt, marker::PhantomData, ops::Deref, sync::Arc};
 
-/// A searcher for some patterns. A clone is the same searcher. Any threads may search by one at the same time.
+/// A searcher for a list of patterns. Clones share its memory, and any number of threads may search
+/// with one searcher at the same time.
 #[derive(Clone)]
 pub struct AhoCorasick {
     shares: Arc<Shares>,
@@ -33,13 +34,16 @@ impl Default for AhoCorasickBuilder {
 }
 
 impl AhoCorasickBuilder {
-    /// Of kind Standard, for unanchored searches, with regard to case, and with a prefilter.
+    /// Returns a builder with the standard match kind, for unanchored and case-sensitive searches,
+    /// and with a prefilter.
     pub fn new() -> AhoCorasickBuilder {
         let (match_kind, start_kind) = (MatchKind::Standard, StartKind::Unanchored);
         AhoCorasickBuilder { match_kind, start_kind, ascii_case_insensitive: false, prefilter: true, kind: None }
     }
 
-    /// A searcher for the patterns, or why there is none.
+    /// Builds a searcher for the patterns.
+    ///
+    /// Fails if they are too many or too long, or memory runs out.
     pub fn build<I, P>(&self, patterns: I) -> Result<AhoCorasick, BuildError>
     where
         I: IntoIterator<Item = P>,
@@ -57,7 +61,8 @@ impl AhoCorasickBuilder {
     }
 
     fn wishes(&self) -> Wishes {
-        // The library lists what overlaps by unanchored searches: one that answers both is the same automaton, and answers the rest alike.
+        // The library lists overlapping matches with unanchored searches only. A searcher for both
+        // kinds of searches has the same automaton, and the same answers to the other calls.
         let start_kind = if self.start_kind == StartKind::Anchored { StartKind::Both } else { self.start_kind };
         Wishes {
             match_kind: self.match_kind,
@@ -68,54 +73,59 @@ impl AhoCorasickBuilder {
         }
     }
 
-    /// Sets which of several matches is found.
+    /// Sets which of several possible matches is found.
     pub fn match_kind(&mut self, kind: MatchKind) -> &mut AhoCorasickBuilder {
         self.match_kind = kind;
         self
     }
 
-    /// Sets which searches are answered.
+    /// Sets which searches the searcher supports.
     pub fn start_kind(&mut self, kind: StartKind) -> &mut AhoCorasickBuilder {
         self.start_kind = kind;
         self
     }
 
-    /// Sets whether ASCII letters are the same in both cases.
+    /// Sets whether ASCII letters match in either case.
     pub fn ascii_case_insensitive(&mut self, yes: bool) -> &mut AhoCorasickBuilder {
         self.ascii_case_insensitive = yes;
         self
     }
 
-    /// Sets whether it may search by a prefilter, on which no answer depends.
+    /// Sets whether searches may use a prefilter, on which no answer depends.
     pub fn prefilter(&mut self, yes: bool) -> &mut AhoCorasickBuilder {
         self.prefilter = yes;
         self
     }
 
-    /// Sets which automaton is wanted: a hint, on which no answer depends. None lets the library choose.
+    /// Sets the kind of automaton. It is a hint, on which no answer depends. With `None` the
+    /// library chooses.
     pub fn kind(&mut self, kind: Option<AhoCorasickKind>) -> &mut AhoCorasickBuilder {
         self.kind = kind;
         self
     }
 
-    /// Taken for the Rust crate's sake: the library chooses which states have all transitions side by side.
+    /// Accepts the setting of the Rust crate, and ignores it: the library chooses which states are
+    /// dense.
     pub fn dense_depth(&mut self, _depth: usize) -> &mut AhoCorasickBuilder {
         self
     }
 
-    /// Taken for the Rust crate's sake: the library always tells apart only the bytes that the patterns do.
+    /// Accepts the setting of the Rust crate, and ignores it: the library always uses classes of
+    /// bytes.
     pub fn byte_classes(&mut self, _yes: bool) -> &mut AhoCorasickBuilder {
         self
     }
 }
 
-/// What a call without `try_` does with a refusal.
+/// Panics with the error of a call, for the call of the same name without `try_`.
 pub(crate) fn or_panic<T>(answer: Result<T, MatchError>) -> T {
-    answer.unwrap_or_else(|error| panic!("{error}; a call that begins with try_ tells this as an error"))
+    answer.unwrap_or_else(|error| panic!("{error} (the call of the same name with try_ returns this as an error)"))
 }
 
 impl AhoCorasick {
-    /// A searcher of kind Standard for the patterns, or why there is none.
+    /// Builds a searcher of the standard kind for the patterns.
+    ///
+    /// Fails if they are too many or too long, or memory runs out.
     pub fn new<I, P>(patterns: I) -> Result<AhoCorasick, BuildError>
     where
         I: IntoIterator<Item = P>,
@@ -124,45 +134,69 @@ impl AhoCorasick {
         AhoCorasickBuilder::new().build(patterns)
     }
 
-    /// A builder.
+    /// Returns a builder with the default settings.
     pub fn builder() -> AhoCorasickBuilder {
         AhoCorasickBuilder::new()
     }
 
-    /// Whether a pattern occurs. Panics as `find` does.
+    /// Returns whether a pattern occurs in the input. It never panics: every input is searched,
+    /// whatever `start_kind` the searcher was built with, and a span that is done has no match.
     pub fn is_match<'h, I: Into<Input<'h>>>(&self, input: I) -> bool {
         let input = input.into();
-        or_panic(self.refusal(&input));
+        if input.is_done() {
+            return false;
+        }
         if input.get_anchored() == Anchored::No {
-            let haystack = input.haystack().get(input.get_range());
-            return haystack.map_or(false, |haystack| self.shares.share().with(|handle| handle.is_match(haystack)));
+            let haystack = &input.haystack()[input.get_range()];
+            return self.shares.share().with(|handle| handle.is_match(haystack));
+        }
+        if self.allows(Anchored::Yes).is_err() {
+            return self.starts_with_match(&input);
         }
         searched(&mut self.shares.share(), &input.earliest(true)).is_some()
     }
 
-    /// The first match. Panics where the searcher was not built for such a search.
+    /// Returns whether a pattern occurs at the start of the span, by an unanchored search of as
+    /// many bytes as the longest pattern has.
+    fn starts_with_match(&self, input: &Input<'_>) -> bool {
+        let end = input.end().min(input.start().saturating_add(self.max_pattern_len()));
+        let front = &input.haystack()[input.start()..end];
+        if self.match_kind == MatchKind::Standard {
+            return self.overlapping_in(front, 0).iter().any(|it| it.start() == 0);
+        }
+        // If any match starts there, the leftmost match does.
+        searched(&mut self.shares.share(), &Input::new(front)).map_or(false, |it| it.start() == 0)
+    }
+
+    /// Returns the first match. Panics if the searcher does not support such searches.
     pub fn find<'h, I: Into<Input<'h>>>(&self, input: I) -> Option<Match> {
         or_panic(self.try_find(input))
     }
 
-    /// The matches, each searched for from the end of the one before. Panics as `find` does.
+    /// Returns an iterator over the matches. Each search begins where the previous match ended.
+    /// Panics as `find` does.
     pub fn find_iter<'a, 'h, I: Into<Input<'h>>>(&'a self, input: I) -> FindIter<'a, 'h> {
         or_panic(self.try_find_iter(input))
     }
 
-    /// The text with each match replaced by the piece of its pattern. A match that starts or ends inside a character stays.
-    /// Panics where there is not one piece for each pattern, and as `find` does.
+    /// Returns the text with each match replaced by the replacement of its pattern. A match that
+    /// starts or ends inside a character is not replaced.
+    ///
+    /// Panics if the number of replacements differs from the number of patterns, and as `find`
+    /// does.
     pub fn replace_all<B: AsRef<str>>(&self, haystack: &str, replace_with: &[B]) -> String {
         or_panic(self.try_replace_all(haystack, replace_with))
     }
 
-    /// The bytes with each match replaced by the piece of its pattern. Panics as `replace_all` does.
+    /// Returns the bytes with each match replaced by the replacement of its pattern. Panics as
+    /// `replace_all` does.
     pub fn replace_all_bytes<B: AsRef<[u8]>>(&self, haystack: &[u8], replace_with: &[B]) -> Vec<u8> {
         or_panic(self.try_replace_all_bytes(haystack, replace_with))
     }
 
-    /// Appends the text to `dst`, where for each match the closure is called, which appends what it likes. Once it answers false the rest
-    /// is appended as it is. A match that starts or ends inside a character stays. Panics as `find` does.
+    /// Appends the text to `dst`, and calls the closure for each match, which appends the
+    /// replacement. If the closure returns false, the rest of the text is appended unchanged. A
+    /// match that starts or ends inside a character is not replaced. Panics as `find` does.
     pub fn replace_all_with<F>(&self, haystack: &str, dst: &mut String, replace_with: F)
     where
         F: FnMut(&Match, &str, &mut String) -> bool,
@@ -170,7 +204,8 @@ impl AhoCorasick {
         or_panic(self.try_replace_all_with(haystack, dst, replace_with))
     }
 
-    /// The same of bytes, and of each match.
+    /// Appends the bytes to `dst`, as `replace_all_with` does with a text, but replaces every
+    /// match.
     pub fn replace_all_with_bytes<F>(&self, haystack: &[u8], dst: &mut Vec<u8>, replace_with: F)
     where
         F: FnMut(&Match, &[u8], &mut Vec<u8>) -> bool,
@@ -178,21 +213,22 @@ impl AhoCorasick {
         or_panic(self.try_replace_all_with_bytes(haystack, dst, replace_with))
     }
 
-    /// As `find`, with an error in place of a panic.
+    /// Does what `find` does, but returns an error instead of a panic.
     pub fn try_find<'h, I: Into<Input<'h>>>(&self, input: I) -> Result<Option<Match>, MatchError> {
         let input = input.into();
         self.refusal(&input)?;
         Ok(searched(&mut self.shares.share(), &input))
     }
 
-    /// As `find_iter`, with an error in place of a panic.
+    /// Does what `find_iter` does, but returns an error instead of a panic.
     pub fn try_find_iter<'a, 'h, I: Into<Input<'h>>>(&'a self, input: I) -> Result<FindIter<'a, 'h>, MatchError> {
         let input = input.into();
         self.refusal(&input)?;
         Ok(FindIter { share: self.shares.kept_share(), of: PhantomData, input, last_end: None })
     }
 
-    /// As `replace_all`, with an error in place of a panic where the searcher was not built for such a search.
+    /// Does what `replace_all` does, but returns an error if the searcher does not support the
+    /// search. A wrong number of replacements panics.
     pub fn try_replace_all<B: AsRef<str>>(&self, haystack: &str, replace_with: &[B]) -> Result<String, MatchError> {
         self.allows(Anchored::No)?;
         self.want_one_each(replace_with.len());
@@ -204,7 +240,8 @@ impl AhoCorasick {
         Ok(dst)
     }
 
-    /// As `replace_all_bytes`, with an error in place of a panic where the searcher was not built for such a search.
+    /// Does what `replace_all_bytes` does, but returns an error if the searcher does not support
+    /// the search. A wrong number of replacements panics.
     pub fn try_replace_all_bytes<B: AsRef<[u8]>>(&self, haystack: &[u8], replace_with: &[B]) -> Result<Vec<u8>, MatchError> {
         self.allows(Anchored::No)?;
         self.want_one_each(replace_with.len());
@@ -215,14 +252,17 @@ impl AhoCorasick {
         }
     }
 
-    /// As `replace_all_with`, with an error in place of a panic.
+    /// Does what `replace_all_with` does, but returns an error instead of a panic.
     pub fn try_replace_all_with<F>(&self, haystack: &str, dst: &mut String, mut replace_with: F) -> Result<(), MatchError>
     where
         F: FnMut(&Match, &str, &mut String) -> bool,
     {
         let mut copied = 0;
         for found in self.try_find_iter(haystack)? {
-            let Some(text) = haystack.get(found.range()) else { continue };
+            let text = match haystack.get(found.range()) {
+                Some(text) => text,
+                None => continue,
+            };
             dst.push_str(&haystack[copied..found.start()]);
             copied = found.end();
             if !replace_with(&found, text, dst) {
@@ -233,7 +273,7 @@ impl AhoCorasick {
         Ok(())
     }
 
-    /// As `replace_all_with_bytes`, with an error in place of a panic.
+    /// Does what `replace_all_with_bytes` does, but returns an error instead of a panic.
     pub fn try_replace_all_with_bytes<F>(&self, haystack: &[u8], dst: &mut Vec<u8>, mut replace_with: F) -> Result<(), MatchError>
     where
         F: FnMut(&Match, &[u8], &mut Vec<u8>) -> bool,
@@ -250,42 +290,43 @@ impl AhoCorasick {
         Ok(())
     }
 
-    /// Which automaton was asked for, or else is likely to be the one that searches.
+    /// Returns the kind of automaton that was requested, or else the one that the library most
+    /// likely chose.
     pub fn kind(&self) -> AhoCorasickKind {
         self.kind
     }
 
-    /// Which of several matches is found.
+    /// Returns which of several possible matches is found.
     pub fn match_kind(&self) -> MatchKind {
         self.match_kind
     }
 
-    /// Which searches are answered.
+    /// Returns which searches the searcher supports.
     pub fn start_kind(&self) -> StartKind {
         self.start_kind
     }
 
-    /// How many patterns there are.
+    /// Returns the number of patterns.
     pub fn patterns_len(&self) -> usize {
         self.facts.patterns
     }
 
-    /// The length of the shortest pattern in bytes; `usize::MAX` where there is none.
+    /// Returns the length of the shortest pattern in bytes, or `usize::MAX` without patterns.
     pub fn min_pattern_len(&self) -> usize {
         self.facts.min_len
     }
 
-    /// The length of the longest pattern in bytes; 0 where there is none.
+    /// Returns the length of the longest pattern in bytes, or 0 without patterns.
     pub fn max_pattern_len(&self) -> usize {
         self.facts.max_len
     }
 
-    /// How many bytes the searcher holds.
+    /// Returns the memory of the searcher in bytes.
     pub fn memory_usage(&self) -> usize {
         self.facts.memory
     }
 
-    /// Refuses what the searcher was not built for.
+    /// Returns an error if the searcher does not support the search.
     pub(crate) fn refusal(&self, input: &Input<'_>) -> Result<(), MatchError> {
         self.allows(input.get_anchored())
     }
@@ -298,17 +339,17 @@ impl AhoCorasick {
         }
     }
 
-    /// The same searcher, which was built for all searches, for some and by another kind's name.
+    /// Returns this searcher, which supports all searches, with another kind and start kind.
     pub(crate) fn of_kind(&self, kind: AhoCorasickKind, start_kind: StartKind) -> AhoCorasick {
         AhoCorasick { kind, start_kind, ..self.clone() }
     }
 
-    /// The states of its automaton, or none where memory ran out.
+    /// Returns the states of its automaton, or `None` if memory ran out.
     pub(crate) fn states(&self) -> Option<States> {
         self.shares.one_more().map(States::of)
     }
 
-    /// Prints a type that is this searcher.
+    /// Formats a type that consists of this searcher.
     pub(crate) fn print(&self, name: &str, memory_usage: usize, to: &mut fmt::Formatter<'_>) -> fmt::Result {
         to.debug_struct(name)
             .field("patterns_len", &self.facts.patterns)
@@ -318,27 +359,29 @@ impl AhoCorasick {
             .finish()
     }
 
-    /// The haystack with each run of bytes that lie in matches replaced. There is one piece for each pattern, of which none is empty, and the
-    /// searcher is of kind Standard and answers unanchored searches.
+    /// Returns the haystack with each run of matched bytes replaced. The caller gives one
+    /// replacement for each pattern; no pattern is empty, the match kind is standard, and the
+    /// searcher supports unanchored searches.
     pub(crate) fn cover_all<B: AsRef<[u8]>>(&self, haystack: &[u8], pieces: &[B]) -> Vec<u8> {
         let pieces = &Pieces::of(pieces);
         let covered = self.shares.share().with(|handle| handle.cover_all(haystack, pieces));
         covered.unwrap_or_else(|| std::alloc::handle_alloc_error(std::alloc::Layout::for_value(haystack)))
     }
 
-    /// All matches in a part of a haystack, those that overlap too, each moved on by where the part begins.
+    /// Returns all matches in a part of a haystack that begins at `begin`, including overlapping
+    /// ones, with their offsets in the haystack.
     pub(crate) fn overlapping_in(&self, part: &[u8], begin: usize) -> Vec<Match> {
         self.shares.share().with(|handle| handle.overlapping(part, begin))
     }
 
-    /// A stream. No pattern is empty, and the searcher answers unanchored searches.
+    /// Returns a stream. No pattern is empty, and the searcher supports unanchored searches.
     pub(crate) fn stream(&self) -> Stream {
         let made = self.shares.share().with(|handle| handle.stream());
         made.unwrap_or_else(|_| std::alloc::handle_alloc_error(std::alloc::Layout::new::<[u8; 65536]>()))
     }
 
     pub(crate) fn want_one_each(&self, pieces: usize) {
-        assert_eq!(pieces, self.patterns_len(), "there have to be as many replacements as patterns");
+        assert_eq!(pieces, self.patterns_len(), "the number of replacements differs from the number of patterns");
     }
 }
 
@@ -348,7 +391,7 @@ impl fmt::Debug for AhoCorasick {
     }
 }
 
-/// The answer of a search that is not refused.
+/// Returns the match of a search that the searcher supports.
 fn searched<S: Deref<Target = Shares>>(share: &mut Share<S>, input: &Input<'_>) -> Option<Match> {
     if input.is_done() {
         return None;
@@ -356,7 +399,8 @@ fn searched<S: Deref<Target = Shares>>(share: &mut Share<S>, input: &Input<'_>) 
     share.with(|handle| handle.search(input))
 }
 
-/// Matches, each searched for as it is asked for. It has a share of the searcher.
+/// An iterator over matches. Each match is searched for by the call that returns it. The iterator
+/// has its own handle of the searcher.
 pub struct FindIter<'a, 'h> {
     share: Share<Arc<Shares>>,
     of: PhantomData<&'a AhoCorasick>,
@@ -370,7 +414,7 @@ impl Iterator for FindIter<'_, '_> {
     fn next(&mut self) -> Option<Match> {
         let mut found = searched(&mut self.share, &self.input)?;
         if found.is_empty() && self.last_end == Some(found.end()) {
-            // An empty match right where the last one ended is dropped.
+            // An empty match where the last match ended is dropped.
             self.input.set_start(self.input.start() + 1);
             found = searched(&mut self.share, &self.input)?;
         }

@@ -1,25 +1,28 @@
-//! One searcher for any threads: each call has a share of its own, which is kept for a later one.
+//! One searcher for many threads: each call has a handle of its own, which is kept for later calls.
 use crate::library::Handle;
 use std::{
     ops::Deref,
     sync::{Arc, Mutex, MutexGuard, PoisonError},
 };
 
-/// A searcher and the shares of it that nobody uses now: at most as many as calls and iterators have run at the same time.
+/// A searcher and its idle handles: at most as many as calls and iterators have run at the same
+/// time.
 pub(crate) struct Shares {
     first: Mutex<Handle>,
     free: Mutex<Vec<Handle>>,
 }
 
-/// A share, for one call or one iterator. It is given back as it goes. An iterator has the searcher by an `Arc`: so its end asks for no
-/// borrow, and it may be the last expression of a function whose searcher goes before it.
+/// A handle for one call or one iterator, which gives it back when it is dropped. An iterator holds
+/// the searcher in an `Arc`, so dropping it needs no borrow: it can be the last expression of a
+/// function whose searcher is dropped first.
 pub(crate) struct Share<S: Deref<Target = Shares>> {
     shares: S,
-    /// None where no memory was left for a share: then each call waits for the first one.
+    /// `None` if memory ran out: each call then waits for the first handle.
     handle: Option<Handle>,
 }
 
-/// A lock whose holder panicked is taken as well: no call leaves anything half done.
+/// Locks a mutex, even if a thread panicked while it held the lock: no call leaves a value half
+/// changed.
 pub(crate) fn locked<T>(mutex: &Mutex<T>) -> MutexGuard<'_, T> {
     mutex.lock().unwrap_or_else(PoisonError::into_inner)
 }
@@ -29,17 +32,17 @@ impl Shares {
         Shares { first: Mutex::new(first), free: Mutex::new(Vec::new()) }
     }
 
-    /// A handle of its own, or none where memory ran out.
+    /// Returns a new handle, or `None` if memory ran out.
     pub(crate) fn one_more(&self) -> Option<Handle> {
         locked(&self.first).share()
     }
 
-    /// For one call.
+    /// Returns a handle for one call.
     pub(crate) fn share(&self) -> Share<&Shares> {
         Share { shares: self, handle: self.taken() }
     }
 
-    /// For an iterator.
+    /// Returns a handle for an iterator.
     pub(crate) fn kept_share(self: &Arc<Shares>) -> Share<Arc<Shares>> {
         Share { shares: self.clone(), handle: self.taken() }
     }
@@ -51,7 +54,7 @@ impl Shares {
 }
 
 impl<S: Deref<Target = Shares>> Share<S> {
-    /// Calls with the handle.
+    /// Runs a call with the handle.
     pub(crate) fn with<T>(&mut self, call: impl FnOnce(&mut Handle) -> T) -> T {
         match &mut self.handle {
             Some(handle) => call(handle),

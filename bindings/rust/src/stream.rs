@@ -1,4 +1,4 @@
-//! Streams: the matches of what a reader gives, and the same bytes with the matches replaced.
+//! Streams: the matches in the bytes of a reader, and the bytes with the matches replaced.
 use crate::error::MatchError;
 use crate::library::{Pieces, Stream};
 use crate::search::{Anchored, Match, MatchKind};
@@ -11,23 +11,23 @@ use std::{
 
 const CHUNK: usize = 64 * 1024;
 
-/// The bytes of a reader on their way into a stream.
+/// A reader whose bytes are pushed into a stream.
 struct Source<R> {
     reader: R,
     stream: Stream,
     chunk: Vec<u8>,
-    /// Which bytes of the chunk are not pushed yet.
+    /// The bytes of the chunk that are not pushed yet.
     left: Range<usize>,
     has_ended: bool,
 }
 
-/// What a source gives next.
+/// The next event of a source.
 enum Next {
     /// A match that is certain.
     Match(Match),
-    /// So many bytes of the chunk were pushed, from this place on.
+    /// These bytes of the chunk were pushed.
     Pushed(Range<usize>),
-    /// All is read and told.
+    /// All bytes were read, and all matches were returned.
     End,
 }
 
@@ -39,7 +39,8 @@ impl<R: Read> Source<R> {
         Ok(self.push()?.map_or(Next::End, Next::Pushed))
     }
 
-    /// Pushes what is read next, or else its end, and answers which bytes of the chunk were pushed. None where the end is told already.
+    /// Pushes the next bytes of the reader, or its end. Returns the bytes of the chunk that were
+    /// pushed, or `None` if the end was pushed before.
     fn push(&mut self) -> io::Result<Option<Range<usize>>> {
         if self.has_ended {
             return Ok(None);
@@ -69,9 +70,12 @@ impl<R: Read> Source<R> {
     }
 }
 
-/// The matches of a stream. The reader is read no further than it takes to be certain of the next one, but for a buffer. A match of kind
-/// Standard is certain with its last byte, and else with the first byte behind it with which nothing goes on that could take its place, or
-/// at the end: it waits for one byte more even where nothing could.
+/// An iterator over the matches of a stream. Apart from a buffer, it reads no further than it must
+/// to be certain of the next match.
+///
+/// With the standard kind, a match is certain at its last byte. With the leftmost kinds, it is
+/// certain at the first byte after it that rules out every better match, or at the end of the
+/// stream. It waits for one more byte even if no better match is possible.
 pub struct StreamFindIter<'a, R> {
     source: Source<R>,
     of: std::marker::PhantomData<&'a AhoCorasick>,
@@ -99,8 +103,10 @@ impl<R> fmt::Debug for StreamFindIter<'_, R> {
 }
 
 impl AhoCorasick {
-    /// Streams of every kind, also of the two leftmost ones, which the calls of the Rust crate's names refuse. It is refused where a pattern
-    /// is empty, and where the searcher was built for anchored searches alone.
+    /// Returns the streams of the searcher, with any match kind. The other calls on streams have
+    /// the names of the Rust crate and refuse the leftmost kinds, as it does.
+    ///
+    /// Returns an error if a pattern is empty, or the searcher supports anchored searches only.
     pub fn streams(&self) -> Result<Streams<'_>, MatchError> {
         if self.min_pattern_len() == 0 {
             return Err(MatchError::unsupported_empty());
@@ -109,20 +115,27 @@ impl AhoCorasick {
         Ok(Streams { searcher: self })
     }
 
-    /// The matches of what a reader gives, as `find_iter` has those of all its bytes. Panics where the kind is not Standard, where a pattern is
-    /// empty, where the searcher was built for anchored searches alone, and where memory runs out.
+    /// Returns an iterator over the matches in the bytes of a reader: those that `find_iter` finds
+    /// in all bytes together.
+    ///
+    /// Panics if the match kind is not standard, if a pattern is empty, if the searcher supports
+    /// anchored searches only, or if memory runs out.
     pub fn stream_find_iter<R: Read>(&self, rdr: R) -> StreamFindIter<'_, R> {
         or_panic(self.try_stream_find_iter(rdr))
     }
 
-    /// As `stream_find_iter`, with an error in place of a panic but where memory runs out.
+    /// Does what `stream_find_iter` does, but returns an error instead of a panic, unless memory
+    /// runs out.
     pub fn try_stream_find_iter<R: Read>(&self, rdr: R) -> Result<StreamFindIter<'_, R>, MatchError> {
         self.allows(Anchored::No)?;
         Ok(self.standard_streams()?.find_iter(rdr))
     }
 
-    /// Writes what a reader gives, with each match replaced by the piece of its pattern. On failure a beginning of that is written.
-    /// Panics where there is not one piece for each pattern, and as `stream_find_iter` does.
+    /// Writes the bytes of a reader with each match replaced by the replacement of its pattern.
+    /// After an error, a prefix of the result was written.
+    ///
+    /// Panics if the number of replacements differs from the number of patterns, and as
+    /// `stream_find_iter` does.
     pub fn stream_replace_all<R, W, B>(&self, rdr: R, wtr: W, replace_with: &[B]) -> Result<(), io::Error>
     where
         R: Read,
@@ -132,7 +145,8 @@ impl AhoCorasick {
         or_panic(self.standard_streams()).replace_all(rdr, wtr, replace_with)
     }
 
-    /// As `stream_replace_all`, but what the searcher refuses is an error too.
+    /// Does what `stream_replace_all` does, but returns an error if the searcher does not support
+    /// the search.
     pub fn try_stream_replace_all<R, W, B>(&self, rdr: R, wtr: W, replace_with: &[B]) -> Result<(), io::Error>
     where
         R: Read,
@@ -144,7 +158,8 @@ impl AhoCorasick {
         self.standard_streams().map_err(refused)?.replace_all(rdr, wtr, replace_with)
     }
 
-    /// Writes what a reader gives, where for each match the closure is called, which writes what it likes. Panics as `stream_find_iter` does.
+    /// Writes the bytes of a reader, and calls the closure for each match, which writes the
+    /// replacement. Panics as `stream_find_iter` does.
     pub fn stream_replace_all_with<R, W, F>(&self, rdr: R, wtr: W, replace_with: F) -> Result<(), io::Error>
     where
         R: Read,
@@ -154,7 +169,8 @@ impl AhoCorasick {
         or_panic(self.standard_streams()).replace_all_with(rdr, wtr, replace_with)
     }
 
-    /// As `stream_replace_all_with`, but what the searcher refuses is an error too.
+    /// Does what `stream_replace_all_with` does, but returns an error if the searcher does not
+    /// support the search.
     pub fn try_stream_replace_all_with<R, W, F>(&self, rdr: R, wtr: W, replace_with: F) -> Result<(), io::Error>
     where
         R: Read,
@@ -165,7 +181,7 @@ impl AhoCorasick {
         self.standard_streams().map_err(refused)?.replace_all_with(rdr, wtr, replace_with)
     }
 
-    /// Streams as the automata of the Rust crate have them: of the standard kind alone.
+    /// Returns the streams if the match kind is standard, as the Rust crate requires.
     pub(crate) fn standard_streams(&self) -> Result<Streams<'_>, MatchError> {
         if self.match_kind() != MatchKind::Standard {
             return Err(MatchError::unsupported_stream(self.match_kind()));
@@ -174,25 +190,29 @@ impl AhoCorasick {
     }
 }
 
-/// What the searcher refuses, as an error of a device.
+/// Returns the error of a search as an I/O error.
 pub(crate) fn refused(error: MatchError) -> io::Error {
     io::Error::new(ErrorKind::Other, error)
 }
 
-/// The streams of a searcher, of any kind.
+/// The streams of a searcher of any match kind.
 #[derive(Clone, Copy, Debug)]
 pub struct Streams<'a> {
     searcher: &'a AhoCorasick,
 }
 
 impl<'a> Streams<'a> {
-    /// The matches of what a reader gives, as `find_iter` has those of all its bytes. Panics where memory runs out.
+    /// Returns an iterator over the matches in the bytes of a reader: those that `find_iter` finds
+    /// in all bytes together. Panics if memory runs out.
     pub fn find_iter<R: Read>(&self, rdr: R) -> StreamFindIter<'a, R> {
         StreamFindIter { source: self.source(rdr), of: std::marker::PhantomData }
     }
 
-    /// Writes what a reader gives, with each match replaced by the piece of its pattern. On failure a beginning of that is written.
-    /// Panics where there is not one piece for each pattern, and where memory runs out.
+    /// Writes the bytes of a reader with each match replaced by the replacement of its pattern.
+    /// After an error, a prefix of the result was written.
+    ///
+    /// Panics if the number of replacements differs from the number of patterns, or memory runs
+    /// out.
     pub fn replace_all<R, W, B>(&self, rdr: R, wtr: W, replace_with: &[B]) -> Result<(), io::Error>
     where
         R: Read,
@@ -202,7 +222,8 @@ impl<'a> Streams<'a> {
         self.replace_pieces(self.source(rdr), wtr, replace_with)
     }
 
-    /// Writes what a reader gives, where for each match the closure is called, which writes what it likes. Panics where memory runs out.
+    /// Writes the bytes of a reader, and calls the closure for each match, which writes the
+    /// replacement. Panics if memory runs out.
     pub fn replace_all_with<R, W, F>(&self, rdr: R, wtr: W, replace_with: F) -> Result<(), io::Error>
     where
         R: Read,
@@ -229,7 +250,7 @@ impl<'a> Streams<'a> {
         }
     }
 
-    /// Keeps of the bytes that were pushed those in which a match may still begin, and writes the others.
+    /// Keeps the pushed bytes in which a match may still begin, and writes the rest.
     fn replace_source<R, W, F>(&self, mut source: Source<R>, mut wtr: W, mut replace_with: F) -> io::Result<()>
     where
         R: Read,
@@ -237,7 +258,8 @@ impl<'a> Streams<'a> {
         F: FnMut(&Match, &[u8], &mut W) -> io::Result<()>,
     {
         let mut kept = Vec::new();
-        let (mut kept_from, mut gone) = (0, 0); // the place in the stream of the first byte that is kept, and how many of them are written
+        // The offset in the stream of the first kept byte, and how many kept bytes are written.
+        let (mut kept_from, mut gone) = (0, 0);
         loop {
             match source.next()? {
                 Next::Match(found) => {
@@ -247,7 +269,8 @@ impl<'a> Streams<'a> {
                     gone = end;
                 }
                 Next::Pushed(bytes) => {
-                    // A match that is not told yet begins among the last bytes, as many as the longest pattern has.
+                    // A match that is not yet certain begins among the last bytes, at most the
+                    // longest pattern before the end.
                     let settled = gone.max(kept.len().saturating_sub(self.searcher.max_pattern_len()));
                     wtr.write_all(&kept[gone..settled])?;
                     kept.drain(..settled);

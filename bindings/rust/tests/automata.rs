@@ -13,7 +13,7 @@ fn walk<A: Automaton + ?Sized>(automaton: &A, haystack: &[u8], anchored: Anchore
     let found = |state: StateID, end: usize| {
         let pattern = automaton.match_pattern(state, 0);
         let found = Match::new(pattern, end - automaton.pattern_len(pattern)..end);
-        (!anchored.is_anchored() || found.start() == 0).then_some(found)
+        (!anchored.is_anchored() || found.start() == 0).then(|| found)
     };
     let mut state = automaton.start_state(anchored)?;
     let mut last = if automaton.is_match(state) { found(state, 0) } else { None };
@@ -51,10 +51,7 @@ fn walk_all(automaton: impl Automaton, haystack: &[u8], anchored: Anchored) -> V
     for end in 0..=haystack.len() {
         for index in 0..automaton.match_len(state) {
             let pattern = automaton.match_pattern(state, index);
-            let start = end - automaton.pattern_len(pattern);
-            if start == 0 || !anchored.is_anchored() {
-                all.push(Match::new(pattern, start..end));
-            }
+            all.push(Match::new(pattern, end - automaton.pattern_len(pattern)..end));
         }
         if let Some(&byte) = haystack.get(end) {
             state = automaton.next_state(anchored, state, byte);
@@ -220,9 +217,9 @@ fn which_searches_an_automaton_answers() {
         let input = Input::new("xab").range(1..).anchored(Anchored::Yes);
         assert_eq!(anchored.try_find_overlapping_iter(input.clone()).unwrap_err().kind(), &MatchErrorKind::InvalidInputAnchored);
         let mut state = OverlappingState::start();
-        for wanted in [Some(Match::must(2, 1..2)), Some(Match::must(0, 1..3)), None] {
+        for wanted in [Some((2, 1..2)), Some((0, 1..3)), Some((1, 2..3)), None] {
             anchored.try_find_overlapping(&input, &mut state).unwrap();
-            assert_eq!(state.get_match(), wanted);
+            assert_eq!(state.get_match(), wanted.map(|(pattern, at)| Match::must(pattern, at)));
         }
     }
     assert_eq!(unanchored.try_find(&Input::new("a").anchored(Anchored::Yes).span(chromesquid::Span { start: 1, end: 0 })), Ok(None));

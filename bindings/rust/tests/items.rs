@@ -64,7 +64,10 @@ fn overlapping_by_a_state() {
     assert_eq!(state.get_match(), None);
     loop {
         searcher.find_overlapping("samwise", &mut state);
-        let Some(it) = state.get_match() else { break };
+        let it = match state.get_match() {
+            Some(it) => it,
+            None => break,
+        };
         found.push((it.pattern().as_usize(), it.range()));
     }
     assert_eq!(found, [(0, 0..3), (1, 0..7)]);

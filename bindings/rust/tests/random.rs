@@ -46,6 +46,21 @@ impl Plain<'_> {
         found
     }
 
+    /// All that an overlapping search lists. An anchored one lists what ends while the bytes read
+    /// so far are the prefix of a pattern.
+    fn overlapping(&self, haystack: &[u8], start: usize, end: usize, anchored: bool) -> Vec<Found> {
+        let mut found = self.occurrences(haystack, start, end, false);
+        let same = |one: &[u8], other: &[u8]| match self.ignore_case {
+            true => one.eq_ignore_ascii_case(other),
+            false => one == other,
+        };
+        let is_prefix = |read: &[u8]| {
+            self.patterns.iter().any(|it| it.get(..read.len()).map_or(false, |it| same(it, read)))
+        };
+        found.retain(|it| !anchored || is_prefix(&haystack[start..it.2]));
+        found
+    }
+
     fn best(&self, haystack: &[u8], start: usize, end: usize, anchored: bool, earliest: bool) -> Option<Found> {
         let mut found = self.occurrences(haystack, start, end, anchored);
         if earliest {
@@ -119,9 +134,9 @@ fn compare(dice: &mut Dice, letters: &[u8], most: usize) {
                 state.get_match()
             });
             let listed: Vec<_> = by_state.map(|it| (it.pattern().as_usize(), it.start(), it.end())).collect();
-            assert_eq!(listed, plain.occurrences(&haystack, start, end, anchored), "{case}");
+            assert_eq!(listed, plain.overlapping(&haystack, start, end, anchored), "{case}");
             let iterated = searcher.try_find_overlapping_iter(input).map(|all| all.count());
-            assert_eq!(iterated.ok(), (!anchored).then_some(listed.len()), "{case}");
+            assert_eq!(iterated.ok(), (!anchored).then(|| listed.len()), "{case}");
         }
     }
     let pieces: Vec<_> = patterns.iter().map(|_| dice.bytes(letters, 5)).collect();

@@ -1,5 +1,5 @@
-//! What programs for the crate aho-corasick name, by the proved library of Chromesquid. A tree whose crates ask for `aho-corasick = "1.1"`
-//! takes it by these lines in its Cargo.toml:
+//! The names of the crate aho-corasick, over the proved library of Chromesquid. A tree whose crates
+//! depend on `aho-corasick = "1.1"` uses it with these lines in its Cargo.toml:
 //!
 //! ```toml
 //! [patch.crates-io]
