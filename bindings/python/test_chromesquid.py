@@ -333,7 +333,7 @@ class Rows(unittest.TestCase):
 
 
 class Slow:
-    """A reader that gives what it is told to, piece by piece."""
+    """A reader that gives these pieces, one after another."""
 
     def __init__(self, pieces):
         self.pieces = list(pieces)
@@ -572,7 +572,7 @@ class Interrupted(unittest.TestCase):
             self.assertEqual(at_each_step(call, others(searcher, redactor)), call())
 
     def looked_at_first(self, others):
-        """So does the first call of all, with another one before one of its steps, whichever that is."""
+        """The very first call gives the same result if another call comes before any of its steps."""
         for call in (lambda searcher, _: searcher.find("\xe9 samwise"), lambda searcher, _: [*searcher.find_iter(self.long)], lambda _, redactor: redactor.text("frodo")):
             wanted, number, steps = call(*self.made()), 0, [1]
             while number < len(steps):
@@ -628,7 +628,7 @@ class Interrupted(unittest.TestCase):
 
 
 class Odd(unittest.TestCase):
-    """Texts and bytes of classes of their own, which tell otherwise of themselves than they are."""
+    """Instances of str and bytes subclasses whose own methods report something else than their content."""
 
     def test_bytes(self):
         class Longer(bytes):
@@ -1369,7 +1369,7 @@ logging.StreamHandler().addFilter(LogFilter(Redactor([text, data])))
 
 
 class Types(unittest.TestCase):
-    @unittest.skipUnless(hasattr(typing, "get_overloads"), "Python below 3.11 does not tell them")
+    @unittest.skipUnless(hasattr(typing, "get_overloads"), "Python below 3.11 does not list overloads")
     def test_answers_are_of_the_type_of_what_is_given(self):
         for function, two in ((AhoCorasick.replace_all, ["str", "bytes"]), (AhoCorasick.cover_all, ["str", "bytes"]), (Replacer.push, ["str", "bytes"]), (Coverer.push, ["str", "bytes"]),
                               (forms, ["List[str]", "List[bytes]"])):
