@@ -86,7 +86,7 @@ fn url_of_a_password_and_a_segment(rt: HostRuntime) {
 fn url_of_bytes_that_are_kept(rt: HostRuntime) {
     let text = shown(rt.alloc(), url_forms(rt.alloc(), b"key-1.2")).expect(&rt, "memory");
     let row: &[u8] = b"\
-        key-1.2 %6B%65%79%2D%31%2E%32 %6b%65%79%2d%31%2e%32 ";
+        key-1.2 key%2D1%2E2 key%2d1%2e2 %6B%65%79%2D%31%2E%32 %6b%65%79%2d%31%2e%32 ";
     assert_eq!(rt; text.as_slice(), row);
 }
 
@@ -114,7 +114,8 @@ fn json_by_each_encoder(rt: HostRuntime) {
         \\u00E9/\\\"\\\\<\\u0001 \\u00e9\\/\\\"\\\\<\\u0001 \\u00E9\\/\\\"\\\\<\\u0001 \
         \\u00e9/\\\"\\\\\\u003c\\u0001 \\u00E9/\\\"\\\\\\u003C\\u0001 \\u00e9\\/\\\"\\\\\\u003c\\u0001 \
         \\u00E9\\/\\\"\\\\\\u003C\\u0001 \\u00e9/\\u0022\\\\\\u003c\\u0001 \\u00E9/\\u0022\\\\\\u003C\\u0001 \
-        \\u00e9\\/\\u0022\\\\\\u003c\\u0001 \\u00E9\\/\\u0022\\\\\\u003C\\u0001 ";
+        \\u00e9\\/\\u0022\\\\\\u003c\\u0001 \\u00E9\\/\\u0022\\\\\\u003C\\u0001 \\u00e9/\\\"\\\\\\u003C\\u0001 \
+        \\u00e9\\/\\\"\\\\\\u003C\\u0001 \\u00e9/\\u0022\\\\\\u003C\\u0001 \\u00e9\\/\\u0022\\\\\\u003C\\u0001 ";
     assert_eq!(rt; text.as_slice(), row);
 }
 
@@ -135,7 +136,7 @@ fn json_of_a_surrogate_pair(rt: HostRuntime) {
     .expect(&rt, "memory");
     let row: &[u8] = b"\
         key\xf0\x9f\x98\x80\x7f key\xf0\x9f\x98\x80\\u007f key\xf0\x9f\x98\x80\\u007F key\\ud83d\\ude00\\u007f \
-        key\\uD83D\\uDE00\\u007F ";
+        key\\uD83D\\uDE00\\u007F key\\ud83d\\ude00\x7f ";
     assert_eq!(rt; text.as_slice(), row);
 }
 
@@ -144,7 +145,8 @@ fn json_with_letters(rt: HostRuntime) {
     let text = shown(rt.alloc(), json_forms(rt.alloc(), b"k\x08\x09\n\x0c\r")).expect(
         &rt, "memory",
     );
-    let row: &[u8] = b"k\\b\\t\\n\\f\\r ";
+    let row: &[u8] = b"\
+        k\\b\\t\\n\\f\\r k\\u0008\\t\\n\\u000c\\r ";
     assert_eq!(rt; text.as_slice(), row);
 }
 
@@ -162,7 +164,9 @@ fn shell_by_each_way(rt: HostRuntime) {
     let text = shown(rt.alloc(), shell_forms(rt.alloc(), b"a'b\"$ \\")).expect(&rt, "memory");
     let row: &[u8] = b"\
         a'\\''b\"$ \\ a'\"'\"'b\"$ \\ a'b\\\"\\$ \\\\ a\\'b\\\"\\$\\ \\\\ \\a\\'\\b\\\"\\$\\ \\\\ a'b\"\\$ \\\\ \
-        a\\'b\"$ \\\\ ";
+        a\\'b\"$ \\\\ a''b\"$ \\ a'b\"\"$ \\ a'b\"$ \\\\ a'b\\\"$ \\\\ a'b\"$\\ \\\\ a'b\\x22$ \\x5C \
+        61 27 62 22 24 20 5c 61:27:62:22:24:20:5c 61-27-62-22-24-20-5c 61 27 62 22 24 20 5C 61:27:62:22:24:20:5C \
+        61-27-62-22-24-20-5C 97 39 98 34 36 32 92 97,39,98,34,36,32,92 97, 39, 98, 34, 36, 32, 92 ";
     assert_eq!(rt; text.as_slice(), row);
 }
 
@@ -176,7 +180,15 @@ fn shell_as_bash_writes(rt: HostRuntime) {
     let row: &[u8] = b"\
         a,~\x01\x07\n\x1b\x7f\xff a,\\~\\\x01\\\x07\\\n\\\x1b\\\x7f\xff a\\,~\x01\x07\n\x1b\x7f\xff \
         a\\,\\~\x01\x07\n\x1b\x7f\xff \\a\\,\\~\x01\\\x07\\\n\\\x1b\x7f\\\xff a,~\\001\\a\\n\\E\\177\xff \
-        a,~\\001\\a\\n\\E\\177\\377 a,~'$'\\001\\a\\n\\033\\177''\xff a,~'$'\\001\\a\\n\\033\\177\\377 ";
+        a,~\\001\\a\\n\\E\\177\\377 a,\\~\\\x01\\\x07'\n'\\\x1b\\\x7f\\\xff \
+        a,~$'\\001'$'\\a'$'\\n'$'\\033'$'\\177'\xff a,~$'\\001'$'\\a'$'\\n'$'\\033'$'\\177'$'\\377' \
+        a,\\~\\ca\\cg\\n\\e\\x7f\xff a,~\\x01\\x07\\n\\x1b\\x7f\xff a,~\\x01\\x07\\n\\x1b\\x7f\\xff \
+        a,~\\x01\\a\\n\\x1b\\x7f\xff a,~\\x01\\a\\n\\x1b\\x7f\\xff a,~\\001\\a\\n\\033\\177\xff \
+        a,~\\001\\a\\n\\033\\177\\377 a,~\\x01\\x07\\x0A\\x1B\\x7F\xff a,~\\x01\\x07\\x0A\\x1B\\x7F\\xFF \
+        a,~'$'\\001\\a\\n\\033\\177''\xff a,~'$'\\001\\a\\n\\033\\177\\377 61 2c 7e 01 07 0a 1b 7f ff \
+        61:2c:7e:01:07:0a:1b:7f:ff 61-2c-7e-01-07-0a-1b-7f-ff 61 2C 7E 01 07 0A 1B 7F FF \
+        61:2C:7E:01:07:0A:1B:7F:FF 61-2C-7E-01-07-0A-1B-7F-FF 97 44 126 1 7 10 27 127 255 \
+        97,44,126,1,7,10,27,127,255 97, 44, 126, 1, 7, 10, 27, 127, 255 ";
     assert_eq!(rt; text.as_slice(), row);
 }
 
@@ -184,7 +196,8 @@ fn shell_as_bash_writes(rt: HostRuntime) {
 fn shell_as_git_writes(rt: HostRuntime) {
     let text = shown(rt.alloc(), shell_forms(rt.alloc(), b"it's!")).expect(&rt, "memory");
     let row: &[u8] = b"\
-        it'\\''s! it'\"'\"'s! it's! it\\'s\\! \\i\\t\\'\\s\\! it\\'s! it'\\''s'\\!' ";
+        it'\\''s! it'\"'\"'s! it's! it\\'s\\! \\i\\t\\'\\s\\! it\\'s! it'\\''s'\\!' it''s! 69 74 27 73 21 \
+        69:74:27:73:21 69-74-27-73-21 105 116 39 115 33 105,116,39,115,33 105, 116, 39, 115, 33 ";
     assert_eq!(rt; text.as_slice(), row);
 }
 
@@ -193,7 +206,9 @@ fn shell_as_bash_traces(rt: HostRuntime) {
     let text = shown(rt.alloc(), shell_forms(rt.alloc(), b"p\xc3\xa4.[]")).expect(&rt, "memory");
     let row: &[u8] = b"\
         p\xc3\xa4.[] p\xc3\xa4.\\[\\] \\p\\\xc3\\\xa4\\.\\[\\] \\p\\\xc3\xa4\\.\\[\\] p\xc3\xa4\\.\\[] \
-        p\\303\\244.[] p'$'\\303\\244''.[] ";
+        p\\303\\244.[] p\\\xc3\xa4.\\[\\] p$'\\303'$'\\244'.\\[\\] p\\xc3\\xa4.[] p\\xC3\\xA4.[] \
+        p'$'\\303\\244''.[] 70 c3 a4 2e 5b 5d 70:c3:a4:2e:5b:5d 70-c3-a4-2e-5b-5d 70 C3 A4 2E 5B 5D \
+        70:C3:A4:2E:5B:5D 70-C3-A4-2E-5B-5D 112 195 164 46 91 93 112,195,164,46,91,93 112, 195, 164, 46, 91, 93 ";
     assert_eq!(rt; text.as_slice(), row);
 }
 
@@ -202,8 +217,132 @@ fn shell_by_the_byte_before(rt: HostRuntime) {
     let text = shown(rt.alloc(), shell_forms(rt.alloc(), b"~a~=~\t'\xffb")).expect(&rt, "memory");
     let row: &[u8] = b"\
         ~a~=~\t'\\''\xffb ~a~=~\t'\"'\"'\xffb ~a~=~\t'\xffb \\~a\\~=\\~\\\t\\'\xffb ~a~=~\t\\'\xffb \
-        \\~a\\~=\\~\t\\'\xffb \\~\\a\\~\\=\\~\\\t\\'\\\xff\\b ~a~=~\\t\\'\xffb ~a~=~\\t\\'\\377b \
-        ~a~=\\~\t\\'\xffb ~a~=~'$'\\t'\\''\xffb ~a~=~'$'\\t'\\'''$'\\377''b ";
+        \\~a\\~=\\~\t\\'\xffb \\~\\a\\~\\=\\~\\\t\\'\\\xff\\b ~a~=~\\t\\'\xffb ~a~=~\\t\\'\\377b ~a~=~\t''\xffb \
+        \\~a\\~\\=\\~\\\t\\'\\\xffb ~a~=~$'\\t'\\'\xffb ~a~=~$'\\t'\\'$'\\377'b \\~a\\~\\=\\~\\t\\'\xffb \
+        ~a~=~\\t'\xffb ~a~=~\\t'\\xffb ~a~=~\\t\\'\\xffb ~a~=~\\t'\\377b ~a~=~\\x09'\xffb ~a~=~\\x09'\\xFFb \
+        ~a~=\\~\t\\'\xffb ~a~=~'$'\\t'\\''\xffb ~a~=~'$'\\t'\\'''$'\\377''b 7e 61 7e 3d 7e 09 27 ff 62 \
+        7e:61:7e:3d:7e:09:27:ff:62 7e-61-7e-3d-7e-09-27-ff-62 7E 61 7E 3D 7E 09 27 FF 62 \
+        7E:61:7E:3D:7E:09:27:FF:62 7E-61-7E-3D-7E-09-27-FF-62 126 97 126 61 126 9 39 255 98 \
+        126,97,126,61,126,9,39,255,98 126, 97, 126, 61, 126, 9, 39, 255, 98 ";
+    assert_eq!(rt; text.as_slice(), row);
+}
+
+#[test]
+fn json_as_php_go_and_ruby_write(rt: HostRuntime) {
+    let text = shown(
+        rt.alloc(),
+        json_forms(rt.alloc(), b"\xc3\xa9<>\x1f\x7f\x08\x0c\xe2\x80\xa8/'\""),
+    )
+    .expect(&rt, "memory");
+    let row: &[u8] = b"\
+        \xc3\xa9<>\\u001f\x7f\\b\\f\xe2\x80\xa8/'\\\" \xc3\xa9<>\\u001F\x7f\\b\\f\xe2\x80\xa8/'\\\" \
+        \xc3\xa9<>\\u001f\x7f\\b\\f\xe2\x80\xa8\\/'\\\" \xc3\xa9<>\\u001F\x7f\\b\\f\xe2\x80\xa8\\/'\\\" \
+        \xc3\xa9\\u003c\\u003e\\u001f\x7f\\b\\f\xe2\x80\xa8/'\\\" \
+        \xc3\xa9\\u003C\\u003E\\u001F\x7f\\b\\f\xe2\x80\xa8/'\\\" \
+        \xc3\xa9\\u003c\\u003e\\u001f\x7f\\b\\f\xe2\x80\xa8\\/'\\\" \
+        \xc3\xa9\\u003C\\u003E\\u001F\x7f\\b\\f\xe2\x80\xa8\\/'\\\" \
+        \xc3\xa9\\u003c\\u003e\\u001f\x7f\\b\\f\xe2\x80\xa8/\\u0027\\\" \
+        \xc3\xa9\\u003C\\u003E\\u001F\x7f\\b\\f\xe2\x80\xa8/\\u0027\\\" \
+        \xc3\xa9\\u003c\\u003e\\u001f\\u007f\\b\\f\xe2\x80\xa8/\\u0027\\u0022 \
+        \xc3\xa9\\u003C\\u003E\\u001F\\u007F\\b\\f\xe2\x80\xa8/\\u0027\\u0022 \
+        \xc3\xa9\\u003c\\u003e\\u001f\x7f\\b\\f\xe2\x80\xa8/\\u0027\\u0022 \
+        \xc3\xa9\\u003C\\u003E\\u001F\x7f\\b\\f\xe2\x80\xa8/\\u0027\\u0022 \
+        \xc3\xa9\\u003c\\u003e\\u001f\x7f\\b\\f\xe2\x80\xa8\\/\\u0027\\u0022 \
+        \xc3\xa9\\u003C\\u003E\\u001F\x7f\\b\\f\xe2\x80\xa8\\/\\u0027\\u0022 \
+        \xc3\xa9\\u003C\\u003E\\u001f\x7f\\b\\f\xe2\x80\xa8/'\\\" \
+        \xc3\xa9\\u003C\\u003E\\u001f\x7f\\b\\f\xe2\x80\xa8\\/'\\\" \
+        \xc3\xa9\\u003C\\u003E\\u001f\x7f\\b\\f\xe2\x80\xa8/\\u0027\\u0022 \
+        \xc3\xa9\\u003C\\u003E\\u001f\x7f\\b\\f\xe2\x80\xa8\\/\\u0027\\u0022 \
+        \xc3\xa9\\u003c\\u003e\\u001f\x7f\\u0008\\u000c\xe2\x80\xa8/'\\\" \
+        \xc3\xa9<>\\u001f\x7f\\u0008\\u000c\xe2\x80\xa8/'\\\" \\u00e9<>\\u001f\\u007f\\b\\f\\u2028/'\\\" \
+        \\u00E9<>\\u001F\\u007F\\b\\f\\u2028/'\\\" \\u00e9<>\\u001f\\u007f\\b\\f\\u2028\\/'\\\" \
+        \\u00E9<>\\u001F\\u007F\\b\\f\\u2028\\/'\\\" \\u00e9\\u003c\\u003e\\u001f\\u007f\\b\\f\\u2028/'\\\" \
+        \\u00E9\\u003C\\u003E\\u001F\\u007F\\b\\f\\u2028/'\\\" \
+        \\u00e9\\u003c\\u003e\\u001f\\u007f\\b\\f\\u2028\\/'\\\" \
+        \\u00E9\\u003C\\u003E\\u001F\\u007F\\b\\f\\u2028\\/'\\\" \
+        \\u00e9\\u003c\\u003e\\u001f\\u007f\\b\\f\\u2028/\\u0027\\\" \
+        \\u00E9\\u003C\\u003E\\u001F\\u007F\\b\\f\\u2028/\\u0027\\\" \
+        \\u00e9\\u003c\\u003e\\u001f\\u007f\\b\\f\\u2028/\\u0027\\u0022 \
+        \\u00E9\\u003C\\u003E\\u001F\\u007F\\b\\f\\u2028/\\u0027\\u0022 \
+        \\u00e9\\u003c\\u003e\\u001f\\u007f\\b\\f\\u2028\\/\\u0027\\u0022 \
+        \\u00E9\\u003C\\u003E\\u001F\\u007F\\b\\f\\u2028\\/\\u0027\\u0022 \
+        \\u00e9<>\\u001f\x7f\\b\\f\\u2028/'\\\" \\u00e9<>\\u001f\x7f\\b\\f\\u2028\\/'\\\" \
+        \\u00e9\\u003C\\u003E\\u001f\x7f\\b\\f\\u2028/'\\\" \
+        \\u00e9\\u003C\\u003E\\u001f\x7f\\b\\f\\u2028\\/'\\\" \
+        \\u00e9\\u003C\\u003E\\u001f\x7f\\b\\f\\u2028/\\u0027\\u0022 \
+        \\u00e9\\u003C\\u003E\\u001f\x7f\\b\\f\\u2028\\/\\u0027\\u0022 \xc3\xa9<>\\u001f\x7f\\b\\f\\u2028/'\\\" \
+        \xc3\xa9<>\\u001f\x7f\\b\\f\\u2028\\/'\\\" \xc3\xa9\\u003C\\u003E\\u001f\x7f\\b\\f\\u2028/'\\\" \
+        \xc3\xa9\\u003C\\u003E\\u001f\x7f\\b\\f\\u2028\\/'\\\" \
+        \xc3\xa9\\u003C\\u003E\\u001f\x7f\\b\\f\\u2028/\\u0027\\u0022 \
+        \xc3\xa9\\u003C\\u003E\\u001f\x7f\\b\\f\\u2028\\/\\u0027\\u0022 \
+        \xc3\xa9\\u003c\\u003e\\u001f\x7f\\b\\f\\u2028/'\\\" \
+        \xc3\xa9\\u003c\\u003e\\u001f\x7f\\u0008\\u000c\\u2028/'\\\" \
+        \xc3\xa9<>\\u001f\x7f\\u0008\\u000c\\u2028/'\\\" ";
+    assert_eq!(rt; text.as_slice(), row);
+}
+
+#[test]
+fn url_of_a_fragment_and_a_turned_path(rt: HostRuntime) {
+    let text = shown(rt.alloc(), url_forms(rt.alloc(), b"it's(a)|b;c\\d")).expect(&rt, "memory");
+    let row: &[u8] = b"\
+        it%27s%28a%29%7Cb%3Bc%5Cd it%27s%28a%29%7cb%3bc%5cd it's(a)%7Cb%3Bc%5Cd it's(a)%7cb%3bc%5cd \
+        it's(a)%7Cb;c%5Cd it's(a)%7cb;c%5cd it%27s(a)%7Cb%3Bc%5Cd it%27s(a)%7cb%3bc%5cd it%27s(a)|b;c\\d \
+        it's(a)|b;c\\d it%27s%28a%29%7Cb;c%5Cd it%27s%28a%29%7cb;c%5cd it%27s(a)%7Cb;c%5Cd it%27s(a)%7cb;c%5cd \
+        it's(a)|b;c/d %69%74%27%73%28%61%29%7C%62%3B%63%5C%64 %69%74%27%73%28%61%29%7c%62%3b%63%5c%64 ";
+    assert_eq!(rt; text.as_slice(), row);
+}
+
+#[test]
+fn shell_as_programs_write_strings(rt: HostRuntime) {
+    let text = shown(
+        rt.alloc(),
+        shell_forms(rt.alloc(), b"a b\"'\\\n\x01\x1b\xff"),
+    )
+    .expect(&rt, "memory");
+    let row: &[u8] = b"\
+        a b\"'\\''\\\n\x01\x1b\xff a b\"'\"'\"'\\\n\x01\x1b\xff a b\\\"'\\\\\n\x01\x1b\xff \
+        a\\ b\\\"\\'\\\\\\\n\\\x01\\\x1b\xff a\\ b\\\"\\'\\\\\n\x01\x1b\xff \
+        \\a\\ \\b\\\"\\'\\\\\\\n\x01\\\x1b\\\xff a b\"'\\\\\n\x01\x1b\xff a b\"\\'\\\\\\n\\001\\E\xff \
+        a b\"\\'\\\\\\n\\001\\E\\377 a b\"''\\\n\x01\x1b\xff a b\"\"'\\\n\x01\x1b\xff \
+        a\\ b\\\"\\'\\\\'\n'\\\x01\\\x1b\\\xff a\\ b\\\"\\'\\\\$'\\n'$'\\001'$'\\033'\xff \
+        a\\ b\\\"\\'\\\\$'\\n'$'\\001'$'\\033'$'\\377' a\\ b\\\"\\'\\\\\\n\\ca\\e\xff \
+        a b\"'\\\\\\n\\x01\\x1b\xff a b\"'\\\\\\n\\x01\\x1b\\xff a b\"\\'\\\\\\n\\x01\\x1b\xff \
+        a b\"\\'\\\\\\n\\x01\\x1b\\xff a b\\\"'\\\\\\n\\x01\\x1b\xff a b\\\"'\\\\\\n\\x01\\x1b\\xff \
+        a b\\\"'\\\\\\n\\001\\033\xff a b\\\"'\\\\\\n\\001\\033\\377 a\\ b\"'\\\\\\n\\001\\033\xff \
+        a\\ b\"'\\\\\\n\\001\\033\\377 a b\\x22'\\x5C\\x0A\\x01\\x1B\xff a b\\x22'\\x5C\\x0A\\x01\\x1B\\xFF \
+        a b\"\\'\\\\\n\x01\x1b\xff a b\"'\\''\\'$'\\n\\001\\033''\xff a b\"'\\''\\'$'\\n\\001\\033\\377 \
+        61 20 62 22 27 5c 0a 01 1b ff 61:20:62:22:27:5c:0a:01:1b:ff 61-20-62-22-27-5c-0a-01-1b-ff \
+        61 20 62 22 27 5C 0A 01 1B FF 61:20:62:22:27:5C:0A:01:1B:FF 61-20-62-22-27-5C-0A-01-1B-FF \
+        97 32 98 34 39 92 10 1 27 255 97,32,98,34,39,92,10,1,27,255 97, 32, 98, 34, 39, 92, 10, 1, 27, 255 ";
+    assert_eq!(rt; text.as_slice(), row);
+}
+
+#[test]
+fn shell_as_fish_ruby_and_go_write(rt: HostRuntime) {
+    let text = shown(
+        rt.alloc(),
+        shell_forms(rt.alloc(), b"it's \xc3\xa9\x01\x1a\x1b\x1c?"),
+    )
+    .expect(&rt, "memory");
+    let row: &[u8] = b"\
+        it'\\''s \xc3\xa9\x01\x1a\x1b\x1c? it'\"'\"'s \xc3\xa9\x01\x1a\x1b\x1c? it's \xc3\xa9\x01\x1a\x1b\x1c? \
+        it\\'s\\ \xc3\xa9\\\x01\\\x1a\\\x1b\\\x1c\\? it\\'s\\ \xc3\xa9\x01\x1a\x1b\x1c\\? \
+        \\i\\t\\'\\s\\ \\\xc3\\\xa9\x01\\\x1a\\\x1b\\\x1c\\? \\i\\t\\'\\s\\ \\\xc3\xa9\x01\\\x1a\\\x1b\\\x1c\\? \
+        it's \xc3\xa9\x01\x1a\x1b\x1c\\? it\\'s \xc3\xa9\\001\\032\\E\\034? it\\'s \\303\\251\\001\\032\\E\\034? \
+        it''s \xc3\xa9\x01\x1a\x1b\x1c? it\\'s\\ \\\xc3\xa9\\\x01\\\x1a\\\x1b\\\x1c\\? \
+        it\\'s\\ \xc3\xa9$'\\001'$'\\032'$'\\033'$'\\034'\\? \
+        it\\'s\\ $'\\303'$'\\251'$'\\001'$'\\032'$'\\033'$'\\034'\\? it\\'s\\ \xc3\xa9\\ca\\cz\\e\\x1c\\? \
+        it's \xc3\xa9\\x01\\x1a\\x1b\\x1c? it's \\xc3\\xa9\\x01\\x1a\\x1b\\x1c? \
+        it\\'s \xc3\xa9\\x01\\x1a\\x1b\\x1c? it\\'s \\xc3\\xa9\\x01\\x1a\\x1b\\x1c? \
+        it's \xc3\xa9\\001\\032\\033\\034? it's \\303\\251\\001\\032\\033\\034? \
+        it's\\ \xc3\xa9\\001\\032\\033\\034? it's\\ \\303\\251\\001\\032\\033\\034? \
+        it's \xc3\xa9\\x01\\x1A\\x1B\\x1C? it's \\xC3\\xA9\\x01\\x1A\\x1B\\x1C? it\\'s \xc3\xa9\x01\x1a\x1b\x1c? \
+        it'\\''s \xc3\xa9'$'\\001\\032\\033\\034''? it'\\''s '$'\\303\\251\\001\\032\\033\\034''? \
+        69 74 27 73 20 c3 a9 01 1a 1b 1c 3f 69:74:27:73:20:c3:a9:01:1a:1b:1c:3f \
+        69-74-27-73-20-c3-a9-01-1a-1b-1c-3f 69 74 27 73 20 C3 A9 01 1A 1B 1C 3F \
+        69:74:27:73:20:C3:A9:01:1A:1B:1C:3F 69-74-27-73-20-C3-A9-01-1A-1B-1C-3F \
+        105 116 39 115 32 195 169 1 26 27 28 63 105,116,39,115,32,195,169,1,26,27,28,63 \
+        105, 116, 39, 115, 32, 195, 169, 1, 26, 27, 28, 63 ";
     assert_eq!(rt; text.as_slice(), row);
 }
 
@@ -235,7 +374,10 @@ fn json_of_no_text(rt: HostRuntime) {
 fn forms_in_their_order(rt: HostRuntime) {
     let chosen = [Form::Hex, Form::Url, Form::Hex, Form::Shell];
     let text = shown(rt.alloc(), forms(rt.alloc(), b"key.", &chosen)).expect(&rt, "memory");
-    let row: &[u8] = b"6b65792e 6B65792E key. %6B%65%79%2E %6b%65%79%2e \\k\\e\\y\\. key\\. ";
+    let row: &[u8] = b"\
+        6b65792e 6B65792E key. key%2E key%2e %6B%65%79%2E %6b%65%79%2e \\k\\e\\y\\. key\\. 6b 65 79 2e \
+        6b:65:79:2e 6b-65-79-2e 6B 65 79 2E 6B:65:79:2E 6B-65-79-2E 107 101 121 46 107,101,121,46 \
+        107, 101, 121, 46 ";
     assert_eq!(rt; text.as_slice(), row);
 }
 

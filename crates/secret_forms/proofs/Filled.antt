@@ -1,6 +1,7 @@
 -- No pattern of a form is empty.
 use Rattle.std.proofs.Common.{◌≡◌, ℕ, zero, suc, ◌-◌, ◌≤◌, Bool, true, false, cond, List, [], ◌∷◌, ◌++◌, length, nat_lt, drop, refl, ap, ◌∙◌, arith}
-use Rattle.std.specs.Prelude.{◌==◌, All, IsUtf8, Some, chars, encode_utf8_all, flat_map}
+use Rattle.std.specs.Prelude.{◌==◌, All, IsUtf8, Some, chars, encode_utf8, encode_utf8_all, flat_map}
+use Rattle.std.proofs.Math.Utf8.{encode}
 use Rattle.std.specs.List.{list_any, range_with_len, slice_split}
 use Rattle.std.specs.Str.{is_utf8}
 use Rattle.std.specs.Str.Lines.{strip_carriage_return}
@@ -18,25 +19,33 @@ use Rattle.hex.proofs.HexLemmas.{length-encode_with}
 use Rattle.secret_forms.specs.Base64.{secret_within, trimmed, front_of, rest_of, back_of, byte_behind, values_ahead, values_behind, core_of, with_ahead, with_behind, all_ahead, all_behind, shift_patterns, alphabet_patterns, base64_patterns}
 use Rattle.secret_forms.specs.Escape.{escape_char, escaped, url_patterns}
 use Rattle.secret_forms.specs.Forms.{form_patterns}
-use Rattle.secret_forms.specs.Joined.{alone_byte, joined_word, joined_words, joined_from, joinings, named_byte}
-use Rattle.secret_forms.specs.Json.{json_char, json_patterns, json_spellings, json_ways, numbered, numbered_by}
+use Rattle.secret_forms.specs.Joined.{alone_byte, decimal_byte, joined_word, joined_words, joined_from, joinings, named_byte, radix_byte}
+use Rattle.secret_forms.specs.Json.{json_char, json_number, json_patterns, json_spellings, json_ways, numbered, numbered_by}
 use Rattle.secret_forms.specs.Lines.{ends_line, long_line}
-use Rattle.secret_forms.specs.Spelling.{ampersand, dollar_byte, double_quote, greater_than, json_byte, json_no_letter, less_than, octal_unless, shell_byte, shell_spellings, single_quote, spelled, spelled_by, spelled_byte, url_byte, url_spellings, xml_byte, xml_spellings}
+use Rattle.secret_forms.specs.Spelling.{ampersand, dollar_byte, double_quote, feed_by, fish_control, greater_than, json_byte, json_no_letter, less_than, lettered_byte, literal_byte, numbered_byte, octal_unless, shell_byte, shell_spellings, single_quote, spelled, spelled_by, spelled_byte, url_byte, url_spellings, xml_byte, xml_spellings, zsh_byte}
+use Rattle.secret_forms.specs.declared.bytewise.Feeds.{Feeds}
+use Rattle.secret_forms.specs.declared.bytewise.Feeds.TheVariants.{Letters as LetterFeeds, Numbers as NumberFeeds}
+use Rattle.secret_forms.specs.declared.bytewise.Literal.{Literal}
+use Rattle.secret_forms.specs.declared.bytewise.Numbers.{Numbers as StringNumbers}
+use Rattle.secret_forms.specs.declared.bytewise.Numbers.TheVariants.{Hexadecimal as HexadecimalNumbers, Octal, Kept as KeptNumbers}
 use Rattle.secret_forms.specs.declared.bytewise.Json.{Json}
 use Rattle.secret_forms.specs.declared.bytewise.Kept.{Kept}
+use Rattle.secret_forms.specs.declared.bytewise.Beyond.{Beyond}
 use Rattle.secret_forms.specs.declared.bytewise.Space.{Space}
 use Rattle.secret_forms.specs.declared.bytewise.Digits.{Digits}
 use Rattle.secret_forms.specs.declared.bytewise.Digits.TheVariants.{Upper, Lower}
 use Rattle.secret_forms.specs.declared.bytewise.Quotes.{Quotes}
 use Rattle.secret_forms.specs.declared.bytewise.Quotes.TheVariants.{Kept as KeptQuotes, Mixed, Named, DoubleAlone, Canonical, Padded, Decimal, Hexadecimal, DecimalMarks, HexadecimalMarks}
 use Rattle.secret_forms.specs.declared.bytewise.Quoting.{Quoting}
-use Rattle.secret_forms.specs.declared.bytewise.Quoting.TheVariants.{Single, SingleByDouble, Double, Backslashes, BashBackslashes, BashTildes, Every, EveryCharacter, RegexMarks, Dollar, DollarAscii, Git}
+use Rattle.secret_forms.specs.declared.bytewise.Quoting.TheVariants.{Single, SingleByDouble, Double, Backslashes, BashBackslashes, BashTildes, Every, EveryCharacter, RegexMarks, Dollar, DollarAscii, Git, DoubledSingle, DoubledDouble, Ruby, Zsh, Fish}
 use Rattle.secret_forms.specs.declared.bytewise.Spelling.{Spelling}
-use Rattle.secret_forms.specs.declared.bytewise.Spelling.TheVariants.{Url, Json as JsonString, Xml, Shell}
+use Rattle.secret_forms.specs.declared.bytewise.Spelling.TheVariants.{Url, Json as JsonString, Xml, Shell, Literal as LiteralString}
 use Rattle.secret_forms.specs.declared.form.Form.{Form}
 use Rattle.secret_forms.specs.declared.form.Form.TheVariants.{Base64, Hex, Url as UrlForm, Json as JsonForm, Xml as XmlForm, Shell as ShellForm, Lines}
 use Rattle.secret_forms.specs.declared.joined_form.Joining.{Joining}
-use Rattle.secret_forms.specs.declared.joined_form.Joining.TheVariants.{Bash, Coreutils, CoreutilsAscii}
+use Rattle.secret_forms.specs.declared.joined_form.Joining.TheVariants.{Bash, Coreutils, CoreutilsAscii, Numbers}
+use Rattle.secret_forms.specs.declared.joined_form.Radix.{Radix}
+use Rattle.secret_forms.specs.declared.joined_form.Radix.TheVariants.{Hexadecimal as HexadecimalRadix, Decimal as DecimalRadix}
 use Rattle.secret_forms.proofs.Base64Law.{length_within}
 
 -- there is a byte
@@ -149,6 +158,24 @@ dollar_filled : (is_kept : Bool) (b : ℕ) → IsFilled (dollar_byte is_kept b)
 unfolding dollar_byte
 dollar_filled is_kept b = search (either, octal_filled, filled) depth 12
 
+number_filled : (numbers : StringNumbers) (b : ℕ) → IsFilled (numbered_byte numbers b)
+unfolding numbered_byte
+number_filled (HexadecimalNumbers digits) b = filled _ _
+number_filled Octal b = octal_filled false b
+number_filled KeptNumbers b = filled _ _
+
+literal_filled : (literal : Literal) (b : ℕ) → IsFilled (literal_byte literal b)
+unfolding literal_byte
+literal_filled literal b = search (either, number_filled, filled) depth 12
+
+zsh_filled : (beyond : Beyond) (b : ℕ) → IsFilled (zsh_byte beyond b)
+unfolding zsh_byte
+zsh_filled beyond b = search (either, filled)
+
+fish_filled : (b : ℕ) → IsFilled (fish_control b)
+unfolding fish_control
+fish_filled b = search (either, number_filled, filled) depth 12
+
 shell_filled : (quoting : Quoting) (b : ℕ) → IsFilled (shell_byte quoting b)
 unfolding shell_byte
 shell_filled Single b = search (either, filled)
@@ -163,24 +190,42 @@ shell_filled RegexMarks b = search (either, filled)
 shell_filled Dollar b = dollar_filled _ b
 shell_filled DollarAscii b = dollar_filled _ b
 shell_filled Git b = search (either, filled)
+shell_filled DoubledSingle b = search (either, filled)
+shell_filled DoubledDouble b = search (either, filled)
+shell_filled Ruby b = search (either, filled)
+shell_filled (Zsh beyond) b = zsh_filled beyond b
+shell_filled Fish b = search (either, fish_filled, filled)
 
 no_letter_filled : (json : Json) (b : ℕ) → IsFilled (json_no_letter json b)
 unfolding json_no_letter
 no_letter_filled json b = search (either, filled)
 
+feed_filled : (feeds : Feeds) (digits : Digits) (b letter : ℕ) → IsFilled (feed_by feeds digits b letter)
+feed_filled LetterFeeds digits b letter = filled _ _
+feed_filled NumberFeeds digits b letter = filled _ _
+
 json_filled : (json : Json) (b : ℕ) → IsFilled (json_byte json b)
 unfolding json_byte
-json_filled json b = search (either, filled, no_letter_filled) depth 16
+json_filled json b = search (either, filled, feed_filled, no_letter_filled) depth 16
+
+utf8_filled : (c : ℕ) → IsFilled (encode_utf8 c)
+unfolding encode
+utf8_filled c = search (either, filled)
+
+wide_filled : (digits : Digits) (c : ℕ) → IsFilled (json_number digits c)
+unfolding json_number
+wide_filled digits c = search (either, filled)
 
 char_filled : (json : Json) (c : ℕ) → IsFilled (json_char json c)
 unfolding json_char
-char_filled json c = search (either, filled, json_filled)
+char_filled json c = search (either, json_filled, wide_filled, utf8_filled) depth 12
 
 byte_filled : (spelling : Spelling) (b : ℕ) → IsFilled (spelled_byte spelling b)
 byte_filled (Url kept space digits) b = url_filled kept space digits b
 byte_filled (JsonString json) b = json_filled json b
 byte_filled (Xml quotes) b = xml_filled quotes b
 byte_filled (Shell quoting) b = shell_filled quoting b
+byte_filled (LiteralString literal) b = literal_filled literal b
 
 spelled_filled : (spellings : List Spelling) (s : List ℕ) → IsFilled s → All IsFilled (spelled_by spellings s)
 spelled_filled spellings s some = All-map IsFilled (λ (u : Spelling). spelled u s) spellings (λ k d below. each (spelled_byte _) s (byte_filled _) some)
@@ -218,11 +263,20 @@ named_filled : (is_kept : Bool) (b : ℕ) → IsFilled (named_byte is_kept b)
 unfolding named_byte
 named_filled is_kept b = search (either, octal_filled, filled) depth 12
 
+decimal_filled : (b : ℕ) → IsFilled (decimal_byte b)
+unfolding decimal_byte
+decimal_filled b = search (either, filled)
+
+radix_filled : (radix : Radix) (b : ℕ) → IsFilled (radix_byte radix b)
+radix_filled (HexadecimalRadix digits) b = filled _ _
+radix_filled DecimalRadix b = decimal_filled b
+
 alone_filled : (joining : Joining) (b : ℕ) → IsFilled (alone_byte joining b)
 unfolding alone_byte
 alone_filled Bash b = search (either, filled)
 alone_filled Coreutils b = named_filled _ b
 alone_filled CoreutilsAscii b = named_filled _ b
+alone_filled (Numbers radix separator) b = radix_filled radix b
 
 joined_filled : (joining : Joining) (s : List ℕ) → IsFilled s → IsFilled (joined_word joining s)
 joined_filled joining [] has = absurd (omega (arith, has.some))

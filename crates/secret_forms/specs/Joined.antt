@@ -1,15 +1,21 @@
 -- A secret as encoders of a shell's words write it that look at the byte before each.
-use Rattle.std.specs.Prelude.{ℕ, ◌+◌, ◌<◌, ◌≤◌, ◌==◌, ◌&&◌, ◌||◌, not, All, Bool, false, List, [], ◌∷◌, ◌++◌, None, Option, Some, length, map, if◌then◌else◌}
+use Rattle.std.specs.Prelude.{ℕ, ◌+◌, ◌/◌, ◌%◌, ◌<◌, ◌≤◌, ◌==◌, ◌&&◌, ◌||◌, nat_lt, not, All, Bool, false, List, [], ◌∷◌, ◌++◌, None, Option, Some, length, map, if◌then◌else◌}
 use Rattle.secret_forms.specs.Law.{IsHidden}
-use Rattle.secret_forms.specs.Spelling.{HidesSpelled, escaped_unless, is_bash_mark, is_control, is_printable, octal_unless, shell_spellings, spelled_by}
+use Rattle.secret_forms.specs.Spelling.{HidesSpelled, digit, escaped_unless, is_bash_mark, is_control, is_printable, octal_unless, shell_spellings, spelled_by}
+use Rattle.secret_forms.specs.declared.bytewise.Digits.TheVariants.{Lower, Upper}
 use Rattle.secret_forms.specs.declared.joined_form.Joining.{Joining}
-use Rattle.secret_forms.specs.declared.joined_form.Joining.TheVariants.{Bash, Coreutils, CoreutilsAscii}
+use Rattle.secret_forms.specs.declared.joined_form.Joining.TheVariants.{Bash, Coreutils, CoreutilsAscii, Numbers}
+use Rattle.secret_forms.specs.declared.joined_form.Radix.{Radix}
+use Rattle.secret_forms.specs.declared.joined_form.Radix.TheVariants.{Hexadecimal, Decimal}
+use Rattle.secret_forms.specs.declared.joined_form.Separator.{Separator}
+use Rattle.secret_forms.specs.declared.joined_form.Separator.TheVariants.{Space, Colon, Dash, Comma, CommaSpace}
 
 -- whether a byte is written by a letter or its number
 abbrev pub is_dollar_byte : Joining → ℕ → Bool
 is_dollar_byte Bash byte = false
 is_dollar_byte Coreutils byte = is_control byte
 is_dollar_byte CoreutilsAscii byte = not (is_printable byte)
+is_dollar_byte (Numbers radix separator) byte = false
 
 -- a byte within single quotes, or within `$'` and `'`
 unfoldable pub named_byte : Bool → ℕ → List ℕ
@@ -18,11 +24,23 @@ named_byte is_kept byte =
     else if byte == 9 then 92 ∷ 116 ∷ [] else if byte == 10 then 92 ∷ 110 ∷ [] else if byte == 11 then 92 ∷ 118 ∷ []
     else if byte == 12 then 92 ∷ 102 ∷ [] else if byte == 13 then 92 ∷ 114 ∷ [] else octal_unless is_kept byte
 
+-- a byte by its decimal digits
+unfoldable pub decimal_byte : ℕ → List ℕ
+decimal_byte byte =
+    if nat_lt byte 10 then (48 + byte) ∷ [] else if nat_lt byte 100 then (48 + byte / 10) ∷ (48 + byte % 10) ∷ []
+    else (48 + byte / 100) ∷ (48 + byte / 10 % 10) ∷ (48 + byte % 10) ∷ []
+
+-- the number of a byte
+abbrev pub radix_byte : Radix → ℕ → List ℕ
+radix_byte (Hexadecimal digits) byte = digit digits (byte / 16) ∷ digit digits (byte % 16) ∷ []
+radix_byte Decimal byte = decimal_byte byte
+
 -- a byte by itself
 unfoldable pub alone_byte : Joining → ℕ → List ℕ
 alone_byte Bash byte = escaped_unless (not (is_bash_mark byte)) byte
 alone_byte Coreutils byte = named_byte (not (is_dollar_byte Coreutils byte)) byte
 alone_byte CoreutilsAscii byte = named_byte (not (is_dollar_byte CoreutilsAscii byte)) byte
+alone_byte (Numbers radix separator) byte = radix_byte radix byte
 
 -- whether a backslash stands before a byte behind another: before `~` behind `=` and `:`
 abbrev pub escapes_tilde : Joining → (before byte : ℕ) → Bool
@@ -37,12 +55,25 @@ opening_marks is_open = if is_open then [] else 39 ∷ 36 ∷ 39 ∷ []
 abbrev pub closing_marks : ℕ → List ℕ
 closing_marks byte = if byte == 39 then [] else 39 ∷ 39 ∷ []
 
+-- what separates two numbers
+abbrev pub separator_marks : Separator → List ℕ
+separator_marks Space = 32 ∷ []
+separator_marks Colon = 58 ∷ []
+separator_marks Dash = 45 ∷ []
+separator_marks Comma = 44 ∷ []
+separator_marks CommaSpace = 44 ∷ 32 ∷ []
+
+-- what separates two bytes that are neither within `$'` and `'`
+abbrev pub separating_marks : Joining → List ℕ
+separating_marks (Numbers radix separator) = separator_marks separator
+separating_marks _ = []
+
 -- what stands between two bytes
 abbrev pub marks_between : Joining → (before byte : ℕ) → List ℕ
 marks_between joining before byte =
     if is_dollar_byte joining byte then opening_marks (is_dollar_byte joining before)
     else if is_dollar_byte joining before then closing_marks byte
-    else if escapes_tilde joining before byte then 92 ∷ [] else []
+    else if escapes_tilde joining before byte then 92 ∷ [] else separating_marks joining
 
 -- what stands before a byte, be it the first or not
 abbrev pub marks_before : Joining → Option ℕ → ℕ → List ℕ
@@ -63,7 +94,9 @@ joined_words joinings secret = map (λ joining. joined_word joining secret) join
 
 -- these encoders
 abbrev pub joinings : List Joining
-joinings = Bash ∷ Coreutils ∷ CoreutilsAscii ∷ []
+joinings =
+    Bash ∷ Coreutils ∷ CoreutilsAscii ∷ (map (Numbers (Hexadecimal Lower)) (Space ∷ Colon ∷ Dash ∷ [])
+    ++ (map (Numbers (Hexadecimal Upper)) (Space ∷ Colon ∷ Dash ∷ []) ++ map (Numbers Decimal) (Space ∷ Comma ∷ CommaSpace ∷ [])))
 
 -- the patterns of a secret in a shell's words
 abbrev pub shell_patterns : List ℕ → List (List ℕ)

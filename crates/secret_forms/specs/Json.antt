@@ -1,5 +1,5 @@
 -- A secret within a JSON string, of the text's own encoding or of ASCII alone.
-use Rattle.std.specs.Prelude.{ℕ, ◌+◌, ◌-◌, ◌/◌, ◌%◌, List, [], ◌∷◌, ◌++◌, chars, flat_map, map, nat_lt, if◌then◌else◌}
+use Rattle.std.specs.Prelude.{ℕ, ◌+◌, ◌-◌, ◌/◌, ◌%◌, ◌==◌, ◌||◌, Bool, true, List, [], ◌∷◌, ◌++◌, chars, encode_utf8, flat_map, map, nat_lt, if◌then◌else◌}
 use Rattle.std.specs.Str.{is_utf8}
 use Rattle.secret_forms.specs.Law.{HidesEach}
 use Rattle.secret_forms.specs.Spelling.{json_byte, json_unit, spelled_by}
@@ -7,6 +7,10 @@ use Rattle.secret_forms.specs.declared.bytewise.Digits.{Digits}
 use Rattle.secret_forms.specs.declared.bytewise.Digits.TheVariants.{Upper, Lower}
 use Rattle.secret_forms.specs.declared.bytewise.Marks.{Marks}
 use Rattle.secret_forms.specs.declared.bytewise.Marks.TheVariants.{Kept, Slash, Markup, SlashAndMarkup, Gson, Dotnet, Html, SlashAndHtml}
+use Rattle.secret_forms.specs.declared.bytewise.Feeds.{Feeds}
+use Rattle.secret_forms.specs.declared.bytewise.Feeds.TheVariants.{Letters, Numbers}
+use Rattle.secret_forms.specs.declared.bytewise.Numbered.{Numbered}
+use Rattle.secret_forms.specs.declared.bytewise.Numbered.TheVariants.{Delete, Beyond, Separators}
 use Rattle.secret_forms.specs.declared.bytewise.Json.{Json}
 use Rattle.secret_forms.specs.declared.bytewise.Spelling.{Spelling}
 use Rattle.secret_forms.specs.declared.bytewise.Spelling.TheVariants.{Json as JsonString}
@@ -22,12 +26,23 @@ low_half above = 56320 + above % 1024
 abbrev pub json_pair : Digits → ℕ → List ℕ
 json_pair digits above = json_unit digits (high_half above) ++ json_unit digits (low_half above)
 
--- a character of a JSON string of ASCII alone
+-- whether a character beyond the first 127 is written by its number
+abbrev pub is_numbered : Numbered → ℕ → Bool
+is_numbered Delete character = true
+is_numbered Beyond character = nat_lt 127 character
+is_numbered Separators character = (character == 8232) || (character == 8233)
+
+-- such a character by its number
+unfoldable pub json_number : Digits → ℕ → List ℕ
+json_number digits character = if nat_lt character 65536 then json_unit digits character else json_pair digits (character - 65536)
+
+-- a character of a JSON string
 unfoldable pub json_char : Json → ℕ → List ℕ
 json_char json character =
     if nat_lt character 127 then json_byte json character
-    else if nat_lt character 65536 then json_unit json.digits character
-    else json_pair json.digits (character - 65536)
+    else if is_numbered json.numbered character then json_number json.digits character
+    else if nat_lt character 128 then json_byte json character
+    else encode_utf8 character
 
 -- characters within a JSON string of ASCII alone
 abbrev pub numbered : Json → List ℕ → List ℕ
@@ -37,13 +52,29 @@ numbered json characters = flat_map (json_char json) characters
 abbrev pub numbered_by : List Json → List ℕ → List (List ℕ)
 numbered_by ways characters = map (λ json. numbered json characters) ways
 
+-- a way to write all characters beyond ASCII by their numbers
+abbrev pub way_of : Digits → Marks → Json
+way_of digits marks = record { marks = marks; mark_digits = digits; digits = digits; feeds = Letters; numbered = Delete }
+
 -- with digits in both cases
 abbrev pub ways_of : Marks → List Json
-ways_of marks = record { marks = marks; digits = Lower } ∷ record { marks = marks; digits = Upper } ∷ []
+ways_of marks = way_of Lower marks ∷ way_of Upper marks ∷ []
+
+-- a way of PHP, which Perl and Ruby have with some marks
+abbrev pub php_way : Numbered → Marks → Json
+php_way numbered marks = record { marks = marks; mark_digits = Upper; digits = Lower; feeds = Letters; numbered = numbered }
+
+-- a way of Go
+abbrev pub go_way : Feeds → Marks → Json
+go_way feeds marks = record { marks = marks; mark_digits = Lower; digits = Lower; feeds = feeds; numbered = Separators }
 
 -- the encoders of JSON
 abbrev pub json_ways : List Json
-json_ways = flat_map ways_of (Kept ∷ Slash ∷ Markup ∷ SlashAndMarkup ∷ Gson ∷ Dotnet ∷ Html ∷ SlashAndHtml ∷ [])
+json_ways =
+    flat_map ways_of (Kept ∷ Slash ∷ Markup ∷ SlashAndMarkup ∷ Gson ∷ Dotnet ∷ Html ∷ SlashAndHtml ∷ [])
+    ++ (map (php_way Beyond) (Kept ∷ Slash ∷ Markup ∷ SlashAndMarkup ∷ Html ∷ SlashAndHtml ∷ [])
+    ++ (map (php_way Separators) (Kept ∷ Slash ∷ Markup ∷ SlashAndMarkup ∷ Html ∷ SlashAndHtml ∷ [])
+    ++ (go_way Letters Markup ∷ go_way Numbers Markup ∷ go_way Numbers Kept ∷ [])))
 
 -- the same encoders, where characters beyond ASCII stand as they are
 abbrev pub json_spellings : List Spelling

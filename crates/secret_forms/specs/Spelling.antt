@@ -4,7 +4,7 @@ use Rattle.std.specs.Char.{is_ascii_alphanumeric}
 use Rattle.std.specs.List.{flat_map, list_any}
 use Rattle.secret_forms.specs.Law.{HidesEach}
 use Rattle.secret_forms.specs.declared.bytewise.Kept.{Kept}
-use Rattle.secret_forms.specs.declared.bytewise.Kept.TheVariants.{Nothing, Unreserved, Slash, Component, Uri, Form, Fewest, Dotnet, Query, Path, User, GoUser, GoSegment, GoPath, Escape, PlainPath, PlainQuery, JavaQuery, JavaUser, Fragment}
+use Rattle.secret_forms.specs.declared.bytewise.Kept.TheVariants.{Nothing, Unreserved, Slash, Component, Uri, Form, Fewest, Dotnet, Query, Path, User, GoUser, GoSegment, GoPath, GoFragment, Alphanumeric, Turned, Escape, PlainPath, PlainQuery, JavaQuery, JavaUser, Fragment}
 use Rattle.secret_forms.specs.declared.bytewise.Beyond.{Beyond}
 use Rattle.secret_forms.specs.declared.bytewise.Beyond.TheVariants.{Encoded as EncodedBeyond, Kept as KeptBeyond}
 use Rattle.secret_forms.specs.declared.bytewise.Space.{Space}
@@ -14,12 +14,21 @@ use Rattle.secret_forms.specs.declared.bytewise.Digits.TheVariants.{Upper, Lower
 use Rattle.secret_forms.specs.declared.bytewise.Marks.{Marks}
 use Rattle.secret_forms.specs.declared.bytewise.Marks.TheVariants.{Kept as KeptMarks, Slash as SlashMark, Markup, SlashAndMarkup, Gson, Dotnet as DotnetMarks, Html, SlashAndHtml}
 use Rattle.secret_forms.specs.declared.bytewise.Json.{Json}
+use Rattle.secret_forms.specs.declared.bytewise.Feeds.{Feeds}
+use Rattle.secret_forms.specs.declared.bytewise.Feeds.TheVariants.{Letters as LetterFeeds, Numbers as NumberFeeds}
+use Rattle.secret_forms.specs.declared.bytewise.Backslashed.{Backslashed}
+use Rattle.secret_forms.specs.declared.bytewise.Backslashed.TheVariants.{Nothing as NoBackslash, Alone, Single as SingleMark, Double as DoubleMark, Space as SpaceMark}
+use Rattle.secret_forms.specs.declared.bytewise.Letters.{Letters}
+use Rattle.secret_forms.specs.declared.bytewise.Letters.TheVariants.{Nothing as NoLetters, Three, Five, Seven}
+use Rattle.secret_forms.specs.declared.bytewise.Numbers.{Numbers}
+use Rattle.secret_forms.specs.declared.bytewise.Numbers.TheVariants.{Hexadecimal as HexadecimalNumbers, Octal, Kept as KeptNumbers}
+use Rattle.secret_forms.specs.declared.bytewise.Literal.{Literal}
 use Rattle.secret_forms.specs.declared.bytewise.Quotes.{Quotes}
 use Rattle.secret_forms.specs.declared.bytewise.Quotes.TheVariants.{Kept as KeptQuotes, Mixed, Named, DoubleAlone, Canonical, Padded, Decimal, Hexadecimal, DecimalMarks, HexadecimalMarks}
 use Rattle.secret_forms.specs.declared.bytewise.Quoting.{Quoting}
-use Rattle.secret_forms.specs.declared.bytewise.Quoting.TheVariants.{Single, SingleByDouble, Double, Backslashes, BashBackslashes, BashTildes, Every, EveryCharacter, RegexMarks, Dollar, DollarAscii, Git}
+use Rattle.secret_forms.specs.declared.bytewise.Quoting.TheVariants.{Single, SingleByDouble, Double, Backslashes, BashBackslashes, BashTildes, Every, EveryCharacter, RegexMarks, Dollar, DollarAscii, Git, DoubledSingle, DoubledDouble, Ruby, Zsh, Fish}
 use Rattle.secret_forms.specs.declared.bytewise.Spelling.{Spelling}
-use Rattle.secret_forms.specs.declared.bytewise.Spelling.TheVariants.{Url, Json as JsonString, Xml, Shell}
+use Rattle.secret_forms.specs.declared.bytewise.Spelling.TheVariants.{Url, Json as JsonString, Xml, Shell, Literal as LiteralString}
 
 -- the marks that stand in a URL as they are
 abbrev pub kept_marks : Kept → List ℕ
@@ -37,6 +46,9 @@ kept_marks User = codes "-._~!'()*,&+$%"
 kept_marks GoUser = codes "-._~$&+,;="
 kept_marks GoSegment = codes "-._~$&+:=@"
 kept_marks GoPath = codes "-._~$&+,/:;=@"
+kept_marks GoFragment = codes "-._~$&+,/:;=?@!()*"
+kept_marks Alphanumeric = []
+kept_marks Turned = codes "-._~!'()*;,/:@&=+$%[\\]^|"
 kept_marks Escape = codes "-._*@+/"
 kept_marks (PlainPath beyond) = codes "-._~!'()*;,/:@&=+$"
 kept_marks (PlainQuery beyond) = codes "-._~!'()*;,/?:@&=+$"
@@ -81,10 +93,16 @@ abbrev pub is_plus : Space → ℕ → Bool
 is_plus Encoded byte = false
 is_plus Plus byte = byte == 32
 
+-- whether a URL has `/` in place of a byte
+abbrev pub is_turned : Kept → ℕ → Bool
+is_turned Turned byte = byte == 92
+is_turned _ byte = false
+
 -- a byte of a URL
 unfoldable pub url_byte : Kept → Space → Digits → ℕ → List ℕ
 url_byte kept space digits byte =
-    if is_unencoded kept byte then byte ∷ []
+    if is_turned kept byte then 47 ∷ []
+    else if is_unencoded kept byte then byte ∷ []
     else if is_plus space byte then 43 ∷ []
     else 37 ∷ digit digits (byte / 16) ∷ digit digits (byte % 16) ∷ []
 
@@ -111,9 +129,9 @@ numbered_marks DotnetMarks = codes "<>&+'\"`" ++ (127 ∷ [])
 numbered_marks Html = codes "<>&'\""
 numbered_marks SlashAndHtml = codes "<>&'\""
 
--- whether JSON writes a byte by its number
-abbrev pub is_by_number : Marks → ℕ → Bool
-is_by_number marks byte = nat_lt byte 32 || list_any (λ one. one == byte) (numbered_marks marks)
+-- whether JSON writes a mark by its number
+abbrev pub is_numbered_mark : Marks → ℕ → Bool
+is_numbered_mark marks byte = list_any (λ one. one == byte) (numbered_marks marks)
 
 -- whether a backslash stands before a byte of a JSON string that is not written by its number
 abbrev pub has_backslash : Marks → ℕ → Bool
@@ -126,14 +144,23 @@ escaped_unless is_kept byte = if is_kept then byte ∷ [] else 92 ∷ byte ∷ [
 -- a byte of a JSON string for which there is no letter
 unfoldable pub json_no_letter : Json → ℕ → List ℕ
 json_no_letter json byte =
-    if is_by_number json.marks byte then json_unit json.digits byte
+    if nat_lt byte 32 then json_unit json.digits byte
+    else if is_numbered_mark json.marks byte then json_unit json.mark_digits byte
     else escaped_unless (not (has_backslash json.marks byte)) byte
+
+-- a backspace or a form feed: by a letter or its number
+abbrev pub feed_by : Feeds → Digits → (byte letter : ℕ) → List ℕ
+feed_by LetterFeeds digits byte letter = 92 ∷ letter ∷ []
+feed_by NumberFeeds digits byte letter = json_unit digits byte
+
+abbrev pub json_feed : Json → (byte letter : ℕ) → List ℕ
+json_feed json byte letter = feed_by json.feeds json.digits byte letter
 
 -- a byte of a JSON string: `\\`, `\b`, `\t`, `\n`, `\f` and `\r`, or by its number, or with a backslash, or as it is
 unfoldable pub json_byte : Json → ℕ → List ℕ
 json_byte json byte =
-    if byte == 92 then 92 ∷ 92 ∷ [] else if byte == 8 then 92 ∷ 98 ∷ []
-    else if byte == 9 then 92 ∷ 116 ∷ [] else if byte == 10 then 92 ∷ 110 ∷ [] else if byte == 12 then 92 ∷ 102 ∷ []
+    if byte == 92 then 92 ∷ 92 ∷ [] else if byte == 8 then json_feed json byte 98
+    else if byte == 9 then 92 ∷ 116 ∷ [] else if byte == 10 then 92 ∷ 110 ∷ [] else if byte == 12 then json_feed json byte 102
     else if byte == 13 then 92 ∷ 114 ∷ [] else json_no_letter json byte
 
 -- a double quote as XML and HTML write it
@@ -266,6 +293,103 @@ single_byte quote byte = if byte == 39 then quote else byte ∷ []
 abbrev pub git_byte : ℕ → List ℕ
 git_byte byte = if list_any (λ one. one == byte) (39 ∷ 33 ∷ []) then 39 ∷ 92 ∷ byte ∷ 39 ∷ [] else byte ∷ []
 
+-- a byte, or a mark twice
+abbrev pub doubled_byte : (mark byte : ℕ) → List ℕ
+doubled_byte mark byte = if byte == mark then mark ∷ mark ∷ [] else byte ∷ []
+
+-- whether Ruby writes a byte with no backslash before it: one that stands as it is, or one within a character
+abbrev pub is_ruby_plain : ℕ → Bool
+is_ruby_plain byte = is_ascii_alphanumeric byte || list_any (λ one. one == byte) (codes "_-.,:+/@") || is_continuation byte
+
+-- a byte of a word as Ruby's `Shellwords` writes it
+abbrev pub ruby_byte : ℕ → List ℕ
+ruby_byte byte = if byte == 10 then 39 ∷ 10 ∷ 39 ∷ [] else escaped_unless (is_ruby_plain byte) byte
+
+-- whether a byte is printed: one of ASCII that is no control character, or one above 127 that is kept
+abbrev pub is_printed : Beyond → ℕ → Bool
+is_printed EncodedBeyond byte = is_printable byte
+is_printed KeptBeyond byte = not (is_control byte)
+
+-- whether a string of a program has a control character by a letter
+abbrev pub has_letter : Letters → ℕ → Bool
+has_letter NoLetters byte = false
+has_letter Three byte = (byte == 9) || (byte == 10) || (byte == 13)
+has_letter Five byte = (nat_lt 7 byte && nat_lt byte 14) && not (byte == 12)
+has_letter Seven byte = nat_lt 6 byte && nat_lt byte 14
+
+-- the letter of a control character
+abbrev pub letter : ℕ → ℕ
+letter byte =
+    if byte == 7 then 97 else if byte == 8 then 98 else if byte == 9 then 116 else if byte == 10 then 110
+    else if byte == 11 then 118 else if byte == 12 then 102 else 114
+
+-- a byte by its number, or as it is
+unfoldable pub numbered_byte : Numbers → ℕ → List ℕ
+numbered_byte (HexadecimalNumbers digits) byte = 92 ∷ 120 ∷ digit digits (byte / 16) ∷ digit digits (byte % 16) ∷ []
+numbered_byte Octal byte = octal_unless false byte
+numbered_byte KeptNumbers byte = byte ∷ []
+
+-- whether a backslash stands before a byte in a string of a program
+abbrev pub is_backslashed : Backslashed → ℕ → Bool
+is_backslashed NoBackslash byte = false
+is_backslashed Alone byte = byte == 92
+is_backslashed SingleMark byte = (byte == 92) || (byte == 39)
+is_backslashed DoubleMark byte = (byte == 92) || (byte == 34)
+is_backslashed SpaceMark byte = (byte == 92) || (byte == 32)
+
+-- whether a byte that could be printed is written by its number
+abbrev pub is_numbered_quote : Backslashed → ℕ → Bool
+is_numbered_quote NoBackslash byte = (byte == 92) || (byte == 34)
+is_numbered_quote _ byte = false
+
+-- whether a byte stands as it is in a string of a program
+abbrev pub is_literal : Literal → ℕ → Bool
+is_literal literal byte = is_printed literal.beyond byte && not (is_numbered_quote literal.backslashed byte)
+
+-- a byte of a string of a program
+unfoldable pub literal_byte : Literal → ℕ → List ℕ
+literal_byte literal byte =
+    if is_backslashed literal.backslashed byte then 92 ∷ byte ∷ []
+    else if has_letter literal.letters byte then 92 ∷ letter byte ∷ []
+    else if is_literal literal byte then byte ∷ []
+    else numbered_byte literal.numbers byte
+
+-- a byte by its letter, or its number in octal digits
+unfoldable pub lettered_byte : ℕ → List ℕ
+lettered_byte byte = if has_letter Seven byte then 92 ∷ letter byte ∷ [] else octal_unless false byte
+
+-- such a byte within `$'` and `'`
+abbrev pub zsh_number : ℕ → List ℕ
+zsh_number byte = (36 ∷ 39 ∷ []) ++ (lettered_byte byte ++ (39 ∷ []))
+
+-- whether zsh puts a backslash before a byte
+abbrev pub is_zsh_mark : ℕ → Bool
+is_zsh_mark byte = list_any (λ one. one == byte) (codes " '\"$\\#[]{}()<>|&;`*?^")
+
+-- a byte of a word as zsh writes it
+unfoldable pub zsh_byte : Beyond → ℕ → List ℕ
+zsh_byte beyond byte =
+    if is_printed beyond byte then escaped_unless (not (is_zsh_mark byte)) byte
+    else zsh_number byte
+
+-- whether fish puts a backslash before a byte
+abbrev pub is_fish_mark : ℕ → Bool
+is_fish_mark byte = list_any (λ one. one == byte) (codes " \"#$%&'()*;<=>?[\\]{|}~")
+
+-- whether fish has a control character by the letter that C has for it
+abbrev pub is_fish_letter : ℕ → Bool
+is_fish_letter byte = (byte == 8) || (byte == 9) || (byte == 10) || (byte == 13)
+
+-- a control character of a word as fish writes it: by a letter, by `\c` and a letter, as `\e`, or by its number
+unfoldable pub fish_control : ℕ → List ℕ
+fish_control byte =
+    if is_fish_letter byte then 92 ∷ letter byte ∷ [] else if nat_lt byte 27 then 92 ∷ 99 ∷ (96 + byte) ∷ []
+    else if byte == 27 then 92 ∷ 101 ∷ [] else numbered_byte (HexadecimalNumbers Lower) byte
+
+-- a byte of a word as fish writes it
+abbrev pub fish_byte : ℕ → List ℕ
+fish_byte byte = if is_control byte then fish_control byte else escaped_unless (not (is_fish_mark byte)) byte
+
 -- a byte of a shell's word
 unfoldable pub shell_byte : Quoting → ℕ → List ℕ
 shell_byte Single byte = single_byte (39 ∷ 92 ∷ 39 ∷ 39 ∷ []) byte
@@ -280,6 +404,11 @@ shell_byte RegexMarks byte = escaped_unless (not (is_regex_mark byte)) byte
 shell_byte Dollar byte = dollar_byte (not (is_control byte)) byte
 shell_byte DollarAscii byte = dollar_byte (is_printable byte) byte
 shell_byte Git byte = git_byte byte
+shell_byte DoubledSingle byte = doubled_byte 39 byte
+shell_byte DoubledDouble byte = doubled_byte 34 byte
+shell_byte Ruby byte = ruby_byte byte
+shell_byte (Zsh beyond) byte = zsh_byte beyond byte
+shell_byte Fish byte = fish_byte byte
 
 -- a byte as an encoder writes it
 abbrev pub spelled_byte : Spelling → ℕ → List ℕ
@@ -287,6 +416,7 @@ spelled_byte (Url kept space digits) byte = url_byte kept space digits byte
 spelled_byte (JsonString json) byte = json_byte json byte
 spelled_byte (Xml quotes) byte = xml_byte quotes byte
 spelled_byte (Shell quoting) byte = shell_byte quoting byte
+spelled_byte (LiteralString literal) byte = literal_byte literal byte
 
 -- bytes as an encoder writes them
 abbrev pub spelled : Spelling → List ℕ → List ℕ
@@ -311,8 +441,8 @@ url_beyond kept = url_without_plus (kept EncodedBeyond) ++ url_without_plus (kep
 -- the encoders of URLs
 abbrev pub url_spellings : List Spelling
 url_spellings =
-    flat_map url_of (Unreserved ∷ Slash ∷ Component ∷ Uri ∷ Form ∷ Fewest ∷ Dotnet ∷ Query ∷ Path ∷ [])
-    ++ (flat_map url_without_plus (User ∷ GoUser ∷ GoSegment ∷ GoPath ∷ Escape ∷ Nothing ∷ [])
+    flat_map url_of (Unreserved ∷ Slash ∷ Component ∷ Uri ∷ Form ∷ Fewest ∷ Dotnet ∷ Query ∷ Path ∷ Alphanumeric ∷ [])
+    ++ (flat_map url_without_plus (User ∷ GoUser ∷ GoSegment ∷ GoPath ∷ GoFragment ∷ Turned ∷ Escape ∷ Nothing ∷ [])
     ++ (url_beyond PlainPath ++ (url_beyond PlainQuery ++ (url_beyond JavaQuery ++ (url_beyond JavaUser ++ url_beyond Fragment)))))
 
 -- the encoders of XML and HTML
@@ -321,11 +451,27 @@ xml_spellings =
     Xml KeptQuotes ∷ Xml Mixed ∷ Xml Named ∷ Xml DoubleAlone ∷ Xml Canonical ∷ Xml Padded ∷ Xml Decimal
     ∷ Xml Hexadecimal ∷ Xml DecimalMarks ∷ Xml (HexadecimalMarks Upper) ∷ Xml (HexadecimalMarks Lower) ∷ []
 
--- the ways to quote a shell's word
+-- with bytes above 127 as they are, and by their numbers
+abbrev pub literals_of : Backslashed → Letters → Numbers → List Literal
+literals_of backslashed letters numbers =
+    record { backslashed = backslashed; letters = letters; numbers = numbers; beyond = KeptBeyond }
+    ∷ record { backslashed = backslashed; letters = letters; numbers = numbers; beyond = EncodedBeyond } ∷ []
+
+-- strings as Python, Go, coreutils in two ways, Apache, nginx and PHP write them
+abbrev pub literals : List Literal
+literals =
+    literals_of Alone Three (HexadecimalNumbers Lower) ++ (literals_of SingleMark Three (HexadecimalNumbers Lower)
+    ++ (literals_of DoubleMark Seven (HexadecimalNumbers Lower) ++ (literals_of DoubleMark Seven Octal ++ (literals_of SpaceMark Seven Octal
+    ++ (literals_of DoubleMark Five (HexadecimalNumbers Lower) ++ (literals_of NoBackslash NoLetters (HexadecimalNumbers Upper)
+    ++ (record { backslashed = SingleMark; letters = NoLetters; numbers = KeptNumbers; beyond = KeptBeyond } ∷ [])))))))
+
+-- the ways to quote a shell's word, and a string of a program
 abbrev pub shell_spellings : List Spelling
 shell_spellings =
     Shell Single ∷ Shell SingleByDouble ∷ Shell Double ∷ Shell Backslashes ∷ Shell BashBackslashes
-    ∷ Shell BashTildes ∷ Shell Every ∷ Shell EveryCharacter ∷ Shell RegexMarks ∷ Shell Dollar ∷ Shell DollarAscii ∷ Shell Git ∷ []
+    ∷ Shell BashTildes ∷ Shell Every ∷ Shell EveryCharacter ∷ Shell RegexMarks ∷ Shell Dollar ∷ Shell DollarAscii ∷ Shell Git
+    ∷ Shell DoubledSingle ∷ Shell DoubledDouble ∷ Shell Ruby ∷ Shell (Zsh KeptBeyond) ∷ Shell (Zsh EncodedBeyond) ∷ Shell Fish
+    ∷ (map (λ literal. LiteralString literal) literals)
 
 -- no character that belongs to the secret is outside the patterns
 abbrev pub HidesSpelled : List (List ℕ) → List ℕ → Spelling → Type 0

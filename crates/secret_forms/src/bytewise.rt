@@ -38,6 +38,12 @@ pub enum Kept {
     GoSegment,
     /// What Go leaves in a path: the unreserved ones and `$&+,/:;=@`.
     GoPath,
+    /// What Go leaves in a fragment: these and `?!()*`.
+    GoFragment,
+    /// Letters and digits alone.
+    Alphanumeric,
+    /// What a browser leaves in the path of a URL, in which it turns each backslash into `/`.
+    Turned,
     /// What `escape` of JavaScript leaves: letters, digits and `@*_+-./`.
     Escape,
     /// What RFC 3986 leaves in a path, as Java does: the unreserved ones and `!'()*;,/:@&=+$`.
@@ -131,6 +137,68 @@ pub enum Quoting {
     DollarAscii,
     /// As git does: within single quotes, with `'\''` for one and `'\!'` for `!`.
     Git,
+    /// As SQL, YAML and PowerShell do: within single quotes, with `''` for one.
+    DoubledSingle,
+    /// As CSV, SQL and PowerShell do: within double quotes, with `""` for one.
+    DoubledDouble,
+    /// As Ruby's `Shellwords` does: by a backslash before each character but some, and a line feed within single quotes.
+    Ruby,
+    /// As zsh does: by backslashes, and each control character within `$'` and `'`.
+    Zsh(Beyond),
+    /// As fish does where a quote or a control character is in the word: by backslashes, with letters and numbers.
+    Fish,
+}
+
+/// The bytes before which a backslash stands in a string of a program.
+#[derive(Clone, Copy, Debug, PartialEq, Eq)]
+pub enum Backslashed {
+    /// None: the backslash and `"` are written by their numbers.
+    Nothing,
+    /// The backslash alone.
+    Alone,
+    /// The backslash and `'`.
+    Single,
+    /// The backslash and `"`.
+    Double,
+    /// The backslash and the space.
+    Space,
+}
+
+/// The control characters that a string of a program has by a letter.
+#[derive(Clone, Copy, Debug, PartialEq, Eq)]
+pub enum Letters {
+    /// None.
+    Nothing,
+    /// `\t`, `\n` and `\r`.
+    Three,
+    /// These, `\b` and `\v`.
+    Five,
+    /// These, `\a` and `\f`.
+    Seven,
+}
+
+/// How a string of a program has the control characters that have no letter.
+#[derive(Clone, Copy, Debug, PartialEq, Eq)]
+pub enum Numbers {
+    /// By `\x` and two hexadecimal digits.
+    Hexadecimal(Digits),
+    /// By a backslash and three octal digits.
+    Octal,
+    /// As they are.
+    Kept,
+}
+
+/// How a program writes a string.
+#[derive(Clone, Copy, Debug, PartialEq, Eq)]
+pub struct Literal {
+    /// The bytes before which a backslash stands.
+    pub backslashed: Backslashed,
+    /// The control characters that it has by a letter.
+    pub letters: Letters,
+    /// How it has the others.
+    pub numbers: Numbers,
+    /// Whether it has the bytes above 127 so too.
+    pub beyond: Beyond,
 }
 
 /// What JSON escapes beside quotes, backslashes and control characters.
@@ -154,13 +222,39 @@ pub enum Marks {
     SlashAndHtml,
 }
 
+/// How JSON has a backspace and a form feed.
+#[derive(Clone, Copy, Debug, PartialEq, Eq)]
+pub enum Feeds {
+    /// As `\b` and `\f`.
+    Letters,
+    /// By their numbers, as Go has them up to version 1.21.
+    Numbers,
+}
+
+/// Which characters beyond ASCII an encoder of JSON writes by their numbers where it works character by character.
+#[derive(Clone, Copy, Debug, PartialEq, Eq)]
+pub enum Numbered {
+    /// All of them, and the character 127.
+    Delete,
+    /// All of them.
+    Beyond,
+    /// The separators of lines and paragraphs, U+2028 and U+2029.
+    Separators,
+}
+
 /// How an encoder of JSON writes what it escapes.
 #[derive(Clone, Copy, Debug, PartialEq, Eq)]
 pub struct Json {
     /// What it escapes beside what it has to.
     pub marks: Marks,
-    /// The digits of a number.
+    /// The digits of such a mark's number.
+    pub mark_digits: Digits,
+    /// The digits of another character's number.
     pub digits: Digits,
+    /// How it has a backspace and a form feed.
+    pub feeds: Feeds,
+    /// Which characters beyond ASCII it writes by their numbers.
+    pub numbered: Numbered,
 }
 
 /// How an encoder writes each byte.
@@ -174,6 +268,8 @@ pub enum Spelling {
     Xml(Quotes),
     /// Quoted for a shell.
     Shell(Quoting),
+    /// As a string of a program.
+    Literal(Literal),
 }
 
 /// The marks that stand in a URL as they are.
@@ -195,6 +291,9 @@ fn kept_marks(kept: Kept) -> &'static [u8]
         Kept::GoUser => b"-._~$&+,;=",
         Kept::GoSegment => b"-._~$&+:=@",
         Kept::GoPath => b"-._~$&+,/:;=@",
+        Kept::GoFragment => b"-._~$&+,/:;=?@!()*",
+        Kept::Alphanumeric => b"",
+        Kept::Turned => b"-._~!'()*;,/:@&=+$%[\\]^|",
         Kept::Escape => b"-._*@+/",
         Kept::PlainPath(_) => b"-._~!'()*;,/:@&=+$",
         Kept::PlainQuery(_) => b"-._~!'()*;,/?:@&=+$",
@@ -237,6 +336,16 @@ fn is_unencoded(kept: Kept, byte: u8) -> bool
         || keeps_beyond(kept) && byte > 127
 }
 
+/// Whether a URL has `/` in place of a byte.
+fn is_turned(kept: Kept, byte: u8) -> bool
+    ensures { result ≡ spec.is_turned kept byte }
+{
+    match kept {
+        Kept::Turned => byte == b'\\',
+        _ => false,
+    }
+}
+
 /// A hexadecimal digit.
 pub(crate) fn digit(digits: Digits, value: u8) -> u8
     requires { value < 16 }
@@ -271,6 +380,9 @@ pub(crate) fn push_url(
 ) -> Result<(), AllocError>
     ensures url { Writes result out.old out.new (spec.url_byte kept space digits byte) }
 {
+    if is_turned(kept, byte) {
+        return out.extend_from_slice(b"/");
+    }
     if is_unencoded(kept, byte) {
         return out.extend_from_slice(&[byte]);
     }
@@ -314,11 +426,11 @@ fn numbered_marks(marks: Marks) -> &'static [u8]
     }
 }
 
-/// Whether JSON writes a byte by its number.
-fn is_by_number(marks: Marks, byte: u8) -> bool
-    ensures { result ≡ spec.is_by_number marks byte }
+/// Whether JSON writes a mark by its number.
+fn is_numbered_mark(marks: Marks, byte: u8) -> bool
+    ensures { result ≡ spec.is_numbered_mark marks byte }
 {
-    byte < 32 || numbered_marks(marks).contains(&byte)
+    numbered_marks(marks).contains(&byte)
 }
 
 /// Whether a backslash stands before a byte of a JSON string that is not written by its number.
@@ -332,10 +444,23 @@ fn has_backslash(marks: Marks, byte: u8) -> bool
 fn push_no_letter(out: &mut Vec<u8>, json: Json, byte: u8) -> Result<(), AllocError>
     ensures json { Writes result out.old out.new (spec.json_no_letter json byte) }
 {
-    if is_by_number(json.marks, byte) {
+    if byte < 32 {
         return push_unit(out, json.digits, u16::from(byte));
     }
+    if is_numbered_mark(json.marks, byte) {
+        return push_unit(out, json.mark_digits, u16::from(byte));
+    }
     push_escaped(out, !has_backslash(json.marks, byte), byte)
+}
+
+/// Writes a backspace or a form feed.
+fn push_feed(out: &mut Vec<u8>, json: Json, byte: u8, letter: u8) -> Result<(), AllocError>
+    ensures feed { Writes result out.old out.new (spec.json_feed json byte letter) }
+{
+    match json.feeds {
+        Feeds::Letters => out.extend_from_slice(&[b'\\', letter]),
+        Feeds::Numbers => push_unit(out, json.digits, u16::from(byte)),
+    }
 }
 
 /// Writes a byte of a JSON string.
@@ -344,10 +469,10 @@ pub(crate) fn push_json(out: &mut Vec<u8>, json: Json, byte: u8) -> Result<(), A
 {
     match byte {
         b'\\' => out.extend_from_slice(b"\\\\"),
-        8 => out.extend_from_slice(b"\\b"),
+        8 => push_feed(out, json, byte, b'b'),
         9 => out.extend_from_slice(b"\\t"),
         10 => out.extend_from_slice(b"\\n"),
-        12 => out.extend_from_slice(b"\\f"),
+        12 => push_feed(out, json, byte, b'f'),
         13 => out.extend_from_slice(b"\\r"),
         _ => push_no_letter(out, json, byte),
     }
@@ -560,6 +685,209 @@ fn push_git(out: &mut Vec<u8>, byte: u8) -> Result<(), AllocError>
     out.extend_from_slice(&[byte])
 }
 
+/// Writes a byte, or a mark twice.
+fn push_doubled(out: &mut Vec<u8>, mark: u8, byte: u8) -> Result<(), AllocError>
+    ensures doubled { Writes result out.old out.new (spec.doubled_byte mark byte) }
+{
+    if byte == mark {
+        return out.extend_from_slice(&[mark, mark]);
+    }
+    out.extend_from_slice(&[byte])
+}
+
+/// Whether Ruby writes a byte with no backslash before it: one that stands as it is, or one within a character.
+fn is_ruby_plain(byte: u8) -> bool
+    ensures { result ≡ spec.is_ruby_plain byte }
+{
+    byte.is_ascii_alphanumeric() || b"_-.,:+/@".contains(&byte) || is_continuation(byte)
+}
+
+/// Writes a byte of a word as Ruby's `Shellwords` does.
+fn push_ruby(out: &mut Vec<u8>, byte: u8) -> Result<(), AllocError>
+    ensures ruby { Writes result out.old out.new (spec.ruby_byte byte) }
+{
+    if byte == b'\n' {
+        return out.extend_from_slice(b"'\n'");
+    }
+    push_escaped(out, is_ruby_plain(byte), byte)
+}
+
+/// Whether zsh puts a backslash before a byte.
+fn is_zsh_mark(byte: u8) -> bool
+    ensures { result ≡ spec.is_zsh_mark byte }
+{
+    b" '\"$\\#[]{}()<>|&;`*?^".contains(&byte)
+}
+
+/// Whether a byte is printed: one of ASCII that is no control character, or one above 127 that is kept.
+fn is_printed(beyond: Beyond, byte: u8) -> bool
+    ensures { result ≡ spec.is_printed beyond byte }
+{
+    match beyond {
+        Beyond::Encoded => is_printable(byte),
+        Beyond::Kept => !is_control(byte),
+    }
+}
+
+/// Whether a backslash stands before a byte in a string of a program.
+fn is_backslashed(backslashed: Backslashed, byte: u8) -> bool
+    ensures { result ≡ spec.is_backslashed backslashed byte }
+{
+    match backslashed {
+        Backslashed::Nothing => false,
+        Backslashed::Alone => byte == b'\\',
+        Backslashed::Single => byte == b'\\' || byte == b'\'',
+        Backslashed::Double => byte == b'\\' || byte == b'"',
+        Backslashed::Space => byte == b'\\' || byte == b' ',
+    }
+}
+
+/// Whether a byte that could be printed is written by its number.
+fn is_numbered_quote(backslashed: Backslashed, byte: u8) -> bool
+    ensures { result ≡ spec.is_numbered_quote backslashed byte }
+{
+    match backslashed {
+        Backslashed::Nothing => byte == b'\\' || byte == b'"',
+        _ => false,
+    }
+}
+
+/// Whether a byte stands as it is in a string of a program.
+fn is_literal(literal: Literal, byte: u8) -> bool
+    ensures { result ≡ spec.is_literal literal byte }
+{
+    is_printed(literal.beyond, byte) && !is_numbered_quote(literal.backslashed, byte)
+}
+
+/// Whether a string of a program has a control character by a letter.
+fn has_letter(letters: Letters, byte: u8) -> bool
+    ensures { result ≡ spec.has_letter letters byte }
+{
+    match letters {
+        Letters::Nothing => false,
+        Letters::Three => byte == 9 || byte == 10 || byte == 13,
+        Letters::Five => byte > 7 && byte < 14 && byte != 12,
+        Letters::Seven => byte > 6 && byte < 14,
+    }
+}
+
+/// The letter of a control character.
+fn letter(byte: u8) -> u8
+    ensures { result ≡ spec.letter byte }
+{
+    match byte {
+        7 => b'a',
+        8 => b'b',
+        9 => b't',
+        10 => b'n',
+        11 => b'v',
+        12 => b'f',
+        _ => b'r',
+    }
+}
+
+/// Writes a byte by its number, or as it is.
+fn push_numbered(out: &mut Vec<u8>, numbers: Numbers, byte: u8) -> Result<(), AllocError>
+    ensures numbered { Writes result out.old out.new (spec.numbered_byte numbers byte) }
+{
+    match numbers {
+        Numbers::Hexadecimal(digits) => out.extend_from_slice(&[
+            b'\\',
+            b'x',
+            digit(digits, byte / 16),
+            digit(digits, byte % 16),
+        ]),
+        Numbers::Octal => push_octal(out, false, byte),
+        Numbers::Kept => out.extend_from_slice(&[byte]),
+    }
+}
+
+/// Writes a byte by its letter, or its number in octal digits.
+fn push_letter(out: &mut Vec<u8>, byte: u8) -> Result<(), AllocError>
+    ensures letter { Writes result out.old out.new (spec.lettered_byte byte) }
+{
+    if has_letter(Letters::Seven, byte) {
+        return out.extend_from_slice(&[b'\\', letter(byte)]);
+    }
+    push_octal(out, false, byte)
+}
+
+/// Writes a byte of a word within `$'` and `'`.
+#[tactic(auto, using(std::proofs::Common::append_assoc))]
+fn push_zsh_number(out: &mut Vec<u8>, byte: u8) -> Result<(), AllocError>
+    ensures number { Writes result out.old out.new (spec.zsh_number byte) }
+{
+    out.extend_from_slice(b"$'")?;
+    push_letter(out, byte)?;
+    out.extend_from_slice(b"'")
+}
+
+/// Writes a byte of a word as zsh does.
+fn push_zsh(out: &mut Vec<u8>, beyond: Beyond, byte: u8) -> Result<(), AllocError>
+    ensures zsh { Writes result out.old out.new (spec.zsh_byte beyond byte) }
+{
+    if is_printed(beyond, byte) {
+        return push_escaped(out, !is_zsh_mark(byte), byte);
+    }
+    push_zsh_number(out, byte)
+}
+
+/// Whether fish puts a backslash before a byte.
+fn is_fish_mark(byte: u8) -> bool
+    ensures { result ≡ spec.is_fish_mark byte }
+{
+    b" \"#$%&'()*;<=>?[\\]{|}~".contains(&byte)
+}
+
+/// Whether fish has a control character by the letter that C has for it.
+fn is_fish_letter(byte: u8) -> bool
+    ensures { result ≡ spec.is_fish_letter byte }
+{
+    byte == 8 || byte == 9 || byte == 10 || byte == 13
+}
+
+/// Writes a control character of a word as fish does.
+fn push_fish_control(out: &mut Vec<u8>, byte: u8) -> Result<(), AllocError>
+    ensures control { Writes result out.old out.new (spec.fish_control byte) }
+{
+    if is_fish_letter(byte) {
+        return out.extend_from_slice(&[b'\\', letter(byte)]);
+    }
+    if byte < 27 {
+        return out.extend_from_slice(&[b'\\', b'c', 96 + byte]);
+    }
+    if byte == 27 {
+        return out.extend_from_slice(b"\\e");
+    }
+    push_numbered(out, Numbers::Hexadecimal(Digits::Lower), byte)
+}
+
+/// Writes a byte of a word as fish does.
+fn push_fish(out: &mut Vec<u8>, byte: u8) -> Result<(), AllocError>
+    ensures fish { Writes result out.old out.new (spec.fish_byte byte) }
+{
+    if is_control(byte) {
+        return push_fish_control(out, byte);
+    }
+    push_escaped(out, !is_fish_mark(byte), byte)
+}
+
+/// Writes a byte of a string of a program.
+fn push_literal(out: &mut Vec<u8>, literal: Literal, byte: u8) -> Result<(), AllocError>
+    ensures literal { Writes result out.old out.new (spec.literal_byte literal byte) }
+{
+    if is_backslashed(literal.backslashed, byte) {
+        return out.extend_from_slice(&[b'\\', byte]);
+    }
+    if has_letter(literal.letters, byte) {
+        return out.extend_from_slice(&[b'\\', letter(byte)]);
+    }
+    if is_literal(literal, byte) {
+        return out.extend_from_slice(&[byte]);
+    }
+    push_numbered(out, literal.numbers, byte)
+}
+
 /// Writes a byte of a shell's word.
 fn push_shell(out: &mut Vec<u8>, quoting: Quoting, byte: u8) -> Result<(), AllocError>
     ensures shell { Writes result out.old out.new (spec.shell_byte quoting byte) }
@@ -577,6 +905,11 @@ fn push_shell(out: &mut Vec<u8>, quoting: Quoting, byte: u8) -> Result<(), Alloc
         Quoting::Dollar => push_dollar(out, !is_control(byte), byte),
         Quoting::DollarAscii => push_dollar(out, is_printable(byte), byte),
         Quoting::Git => push_git(out, byte),
+        Quoting::DoubledSingle => push_doubled(out, b'\'', byte),
+        Quoting::DoubledDouble => push_doubled(out, b'"', byte),
+        Quoting::Ruby => push_ruby(out, byte),
+        Quoting::Zsh(beyond) => push_zsh(out, beyond, byte),
+        Quoting::Fish => push_fish(out, byte),
     }
 }
 
@@ -589,6 +922,7 @@ fn push_spelled(out: &mut Vec<u8>, spelling: Spelling, byte: u8) -> Result<(), A
         Spelling::Json(json) => push_json(out, json, byte),
         Spelling::Xml(quotes) => push_xml(out, quotes, byte),
         Spelling::Shell(quoting) => push_shell(out, quoting, byte),
+        Spelling::Literal(literal) => push_literal(out, literal, byte),
     }
 }
 

@@ -1,4 +1,4 @@
-//! A secret as it is quoted for a shell, also by encoders that look at the byte before each.
+//! A secret as it is quoted for a shell, also by encoders that look at the byte before each, and as the numbers of its bytes.
 //!
 //! What such an encoder puts between two bytes stands before a secret, and is no part of its pattern.
 
@@ -10,14 +10,38 @@ ghost use Rattle.secret_forms.specs.Spelling.{HidesSpelled, shell_spellings};
 ghost use Rattle.secret_forms.specs.declared.error.FormError.TheVariants.{TooShort};
 
 use crate::bytewise::{
-    add_spelled, is_bash_mark, is_control, is_printable, push_escaped, push_octal,
+    Digits, add_spelled, digit, is_bash_mark, is_control, is_printable, push_escaped, push_octal,
 };
 use crate::error::{FormError, SHORTEST};
 use crate::listed::push_new;
 use crate::spelled_form::shell_encoders;
 use std::alloc::{AllocError, Global};
 
-/// How a shell's word is quoted by what looks at the byte before each.
+/// How a program writes the number of a byte.
+#[derive(Clone, Copy, Debug, PartialEq, Eq)]
+pub enum Radix {
+    /// By two hexadecimal digits.
+    Hexadecimal(Digits),
+    /// By its decimal digits.
+    Decimal,
+}
+
+/// What stands between two numbers.
+#[derive(Clone, Copy, Debug, PartialEq, Eq)]
+pub enum Separator {
+    /// A space.
+    Space,
+    /// A colon.
+    Colon,
+    /// `-`.
+    Dash,
+    /// A comma.
+    Comma,
+    /// A comma and a space.
+    CommaSpace,
+}
+
+/// How a shell's word is quoted by what looks at the byte before each, and how a program prints the numbers of bytes.
 #[derive(Clone, Copy, Debug, PartialEq, Eq)]
 pub enum Joining {
     /// By the backslashes that bash writes, also before `~` behind `=` or `:`.
@@ -26,6 +50,8 @@ pub enum Joining {
     Coreutils,
     /// So in ASCII alone.
     CoreutilsAscii,
+    /// By the number of each byte, with a separator between two.
+    Numbers(Radix, Separator),
 }
 
 /// Whether a byte is written by a letter or its number.
@@ -33,7 +59,7 @@ fn is_numbered(joining: Joining, byte: u8) -> bool
     ensures { result ≡ spec.is_dollar_byte joining byte }
 {
     match joining {
-        Joining::Bash => false,
+        Joining::Bash | Joining::Numbers(_, _) => false,
         Joining::Coreutils => is_control(byte),
         Joining::CoreutilsAscii => !is_printable(byte),
     }
@@ -56,6 +82,31 @@ fn push_named(out: &mut Vec<u8>, is_kept: bool, byte: u8) -> Result<(), AllocErr
     }
 }
 
+/// Writes a byte by its decimal digits.
+fn push_decimal(out: &mut Vec<u8>, byte: u8) -> Result<(), AllocError>
+    ensures decimal { Writes result out.old out.new (spec.decimal_byte byte) }
+{
+    if byte < 10 {
+        return out.extend_from_slice(&[b'0' + byte]);
+    }
+    if byte < 100 {
+        return out.extend_from_slice(&[b'0' + byte / 10, b'0' + byte % 10]);
+    }
+    out.extend_from_slice(&[b'0' + byte / 100, b'0' + byte / 10 % 10, b'0' + byte % 10])
+}
+
+/// Writes the number of a byte.
+fn push_radix(out: &mut Vec<u8>, radix: Radix, byte: u8) -> Result<(), AllocError>
+    ensures radix { Writes result out.old out.new (spec.radix_byte radix byte) }
+{
+    match radix {
+        Radix::Hexadecimal(digits) => {
+            out.extend_from_slice(&[digit(digits, byte / 16), digit(digits, byte % 16)])
+        }
+        Radix::Decimal => push_decimal(out, byte),
+    }
+}
+
 /// Writes a byte by itself.
 fn push_alone(out: &mut Vec<u8>, joining: Joining, byte: u8) -> Result<(), AllocError>
     ensures alone { Writes result out.old out.new (spec.alone_byte joining byte) }
@@ -64,6 +115,7 @@ fn push_alone(out: &mut Vec<u8>, joining: Joining, byte: u8) -> Result<(), Alloc
         Joining::Bash => push_escaped(out, !is_bash_mark(byte), byte),
         Joining::Coreutils => push_named(out, !is_numbered(joining, byte), byte),
         Joining::CoreutilsAscii => push_named(out, !is_numbered(joining, byte), byte),
+        Joining::Numbers(radix, _) => push_radix(out, radix, byte),
     }
 }
 
@@ -97,6 +149,29 @@ fn closing(byte: u8) -> &'static [u8]
     b"''"
 }
 
+/// What separates two numbers.
+fn marks_of(separator: Separator) -> &'static [u8]
+    ensures { result.now ≡ spec.separator_marks separator }
+{
+    match separator {
+        Separator::Space => b" ",
+        Separator::Colon => b":",
+        Separator::Dash => b"-",
+        Separator::Comma => b",",
+        Separator::CommaSpace => b", ",
+    }
+}
+
+/// What separates two bytes that are neither within `$'` and `'`.
+fn separating(joining: Joining) -> &'static [u8]
+    ensures { result.now ≡ spec.separating_marks joining }
+{
+    match joining {
+        Joining::Numbers(_, separator) => marks_of(separator),
+        _ => b"",
+    }
+}
+
 /// What stands between two bytes.
 fn between(joining: Joining, before: u8, byte: u8) -> &'static [u8]
     ensures { result.now ≡ spec.marks_between joining before byte }
@@ -110,7 +185,7 @@ fn between(joining: Joining, before: u8, byte: u8) -> &'static [u8]
     if escapes_tilde(joining, before, byte) {
         return b"\\";
     }
-    b""
+    separating(joining)
 }
 
 /// What stands before a byte, be it the first or not.
@@ -149,13 +224,36 @@ fn add_one(
     push_new(patterns, joined(alloc, secret, joining)?)
 }
 
+/// These encoders: of words, and of the numbers of bytes as a dump, Go and Python have them.
+fn encoders() -> [Joining; 12]
+    ensures { result ≡ joinings }
+{
+    let lower = Radix::Hexadecimal(Digits::Lower);
+    let upper = Radix::Hexadecimal(Digits::Upper);
+    [
+        Joining::Bash,
+        Joining::Coreutils,
+        Joining::CoreutilsAscii,
+        Joining::Numbers(lower, Separator::Space),
+        Joining::Numbers(lower, Separator::Colon),
+        Joining::Numbers(lower, Separator::Dash),
+        Joining::Numbers(upper, Separator::Space),
+        Joining::Numbers(upper, Separator::Colon),
+        Joining::Numbers(upper, Separator::Dash),
+        Joining::Numbers(Radix::Decimal, Separator::Space),
+        Joining::Numbers(Radix::Decimal, Separator::Comma),
+        Joining::Numbers(Radix::Decimal, Separator::CommaSpace),
+    ]
+}
+
 /// Adds a secret as each of these encoders writes it.
 fn add_joined(alloc: Global, secret: &[u8], patterns: &mut Vec<Vec<u8>>) -> Result<(), AllocError>
     ensures all { OnOk result (AddsPatterns patterns.old patterns.new (spec.joined_words joinings secret.now)) }
 {
-    add_one(alloc, secret, Joining::Bash, patterns)?;
-    add_one(alloc, secret, Joining::Coreutils, patterns)?;
-    add_one(alloc, secret, Joining::CoreutilsAscii, patterns)
+    for joining in &encoders() {
+        add_one(alloc, secret, *joining, patterns)?;
+    }
+    Ok(())
 }
 
 /// Adds the patterns of a secret in a shell's words.

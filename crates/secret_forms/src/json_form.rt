@@ -3,14 +3,16 @@
 //! An encoder that leaves characters beyond ASCII as they are works byte by byte. One that writes these by their numbers works
 //! character by character: a secret that is no UTF-8, as one that begins or ends within a character, has no form of this kind.
 
-ghost use Rattle.std.specs.Prelude.{◌≡◌, ◌<◌, All, Err, IfErr, IfOk, IsUtf8, OnOk, [], ◌∷◌, chars, length};
+ghost use Rattle.std.specs.Prelude.{◌≡◌, ◌<◌, All, Err, IfErr, IfOk, IsUtf8, OnOk, [], ◌∷◌, chars, encode_utf8, length};
 ghost use Rattle.secret_forms.specs.Json as spec;
 ghost use Rattle.secret_forms.specs.Json.{HidesCharacters, json_patterns, json_spellings, json_ways};
 ghost use Rattle.secret_forms.specs.Patterns.{AddsPatterns, ListsPatterns, Writes, pattern_bytes};
 ghost use Rattle.secret_forms.specs.Spelling.{HidesSpelled};
 ghost use Rattle.secret_forms.specs.declared.error.FormError.TheVariants.{TooShort};
 
-use crate::bytewise::{Digits, Json, Marks, Spelling, add_spelled, push_json, push_unit};
+use crate::bytewise::{
+    Digits, Feeds, Json, Marks, Numbered, Spelling, add_spelled, push_json, push_unit,
+};
 use crate::error::{FormError, SHORTEST};
 use crate::listed::push_new;
 use std::alloc::{AllocError, Global};
@@ -24,7 +26,38 @@ fn push_pair(out: &mut Vec<u8>, digits: Digits, above: u32) -> Result<(), AllocE
     push_unit(out, digits, (0xDC00 + above % 1024) as u16)
 }
 
-/// Writes a character of a JSON string that is of ASCII alone.
+/// Whether a character beyond the first 127 is written by its number.
+fn is_numbered(numbered: Numbered, code: u32) -> bool
+    ensures { result ≡ spec.is_numbered numbered code }
+{
+    match numbered {
+        Numbered::Delete => true,
+        Numbered::Beyond => code > 127,
+        Numbered::Separators => code == 0x2028 || code == 0x2029,
+    }
+}
+
+/// Writes a character by its number, or by two.
+fn push_number(out: &mut Vec<u8>, digits: Digits, code: u32) -> Result<(), AllocError>
+    requires { code < 1114112 }
+    ensures number { Writes result out.old out.new (spec.json_number digits code) }
+{
+    if code < 65536 {
+        return push_unit(out, digits, code as u16);
+    }
+    push_pair(out, digits, code - 65536)
+}
+
+/// Writes a character in UTF-8.
+fn push_utf8(out: &mut Vec<u8>, character: char) -> Result<(), AllocError>
+    ensures utf8 { Writes result out.old out.new (encode_utf8 character) }
+{
+    let mut buffer = [0; 4];
+    let encoded = character.encode_utf8(&mut buffer);
+    out.extend_from_slice(encoded.as_bytes())
+}
+
+/// Writes a character of a JSON string.
 fn push_char(out: &mut Vec<u8>, json: Json, character: char) -> Result<(), AllocError>
     ensures character { Writes result out.old out.new (spec.json_char json character) }
 {
@@ -32,13 +65,16 @@ fn push_char(out: &mut Vec<u8>, json: Json, character: char) -> Result<(), Alloc
     if code < 127 {
         return push_json(out, json, code as u8);
     }
-    if code < 65536 {
-        return push_unit(out, json.digits, code as u16);
+    if is_numbered(json.numbered, code) {
+        return push_number(out, json.digits, code);
     }
-    push_pair(out, json.digits, code - 65536)
+    if code < 128 {
+        return push_json(out, json, code as u8);
+    }
+    push_utf8(out, character)
 }
 
-/// A text within a JSON string that is of ASCII alone.
+/// A text within a JSON string, character by character.
 fn numbered(alloc: Global, text: &str, json: Json) -> Result<Vec<u8>, AllocError>
     ensures whole { IfOk result (λ v. v.items ≡ spec.numbered json (chars text.now)) }
 {
@@ -49,7 +85,7 @@ fn numbered(alloc: Global, text: &str, json: Json) -> Result<Vec<u8>, AllocError
     Ok(out)
 }
 
-/// Adds a text within a JSON string that is of ASCII alone.
+/// Adds a text within a JSON string, character by character.
 fn add_one(
     alloc: Global,
     text: &str,
@@ -61,7 +97,7 @@ fn add_one(
     push_new(patterns, numbered(alloc, text, json)?)
 }
 
-/// Adds a text as each encoder of JSON strings that are of ASCII alone writes it.
+/// Adds a text as each encoder of JSON strings writes it, character by character.
 fn add_numbered(alloc: Global, text: &str, patterns: &mut Vec<Vec<u8>>) -> Result<(), AllocError>
     ensures all { OnOk result (AddsPatterns patterns.old patterns.new (spec.numbered_by json_ways (chars text.now))) }
 {
@@ -71,84 +107,272 @@ fn add_numbered(alloc: Global, text: &str, patterns: &mut Vec<Vec<u8>>) -> Resul
     Ok(())
 }
 
-/// The encoders of JSON: with each choice of what is escaped beside what has to be, and with digits in both cases.
-fn encoders() -> [Json; 16]
+/// The encoders of JSON: with each choice of what is escaped beside what has to be, and with digits in both cases; then those of PHP,
+/// which has the digits of marks alone in upper case, with characters beyond ASCII by their numbers or not, and those of Go.
+fn encoders() -> [Json; 31]
     ensures { result ≡ json_ways }
 {
     let (upper, lower) = (Digits::Upper, Digits::Lower);
+    let (letters, numbers) = (Feeds::Letters, Feeds::Numbers);
+    let (delete, beyond, separators) = (Numbered::Delete, Numbered::Beyond, Numbered::Separators);
     [
         Json {
             marks: Marks::Kept,
+            mark_digits: lower,
             digits: lower,
+            feeds: letters,
+            numbered: delete,
         },
         Json {
             marks: Marks::Kept,
+            mark_digits: upper,
             digits: upper,
+            feeds: letters,
+            numbered: delete,
         },
         Json {
             marks: Marks::Slash,
+            mark_digits: lower,
             digits: lower,
+            feeds: letters,
+            numbered: delete,
         },
         Json {
             marks: Marks::Slash,
+            mark_digits: upper,
             digits: upper,
+            feeds: letters,
+            numbered: delete,
         },
         Json {
             marks: Marks::Markup,
+            mark_digits: lower,
             digits: lower,
+            feeds: letters,
+            numbered: delete,
         },
         Json {
             marks: Marks::Markup,
+            mark_digits: upper,
             digits: upper,
+            feeds: letters,
+            numbered: delete,
         },
         Json {
             marks: Marks::SlashAndMarkup,
+            mark_digits: lower,
             digits: lower,
+            feeds: letters,
+            numbered: delete,
         },
         Json {
             marks: Marks::SlashAndMarkup,
+            mark_digits: upper,
             digits: upper,
+            feeds: letters,
+            numbered: delete,
         },
         Json {
             marks: Marks::Gson,
+            mark_digits: lower,
             digits: lower,
+            feeds: letters,
+            numbered: delete,
         },
         Json {
             marks: Marks::Gson,
+            mark_digits: upper,
             digits: upper,
+            feeds: letters,
+            numbered: delete,
         },
         Json {
             marks: Marks::Dotnet,
+            mark_digits: lower,
             digits: lower,
+            feeds: letters,
+            numbered: delete,
         },
         Json {
             marks: Marks::Dotnet,
+            mark_digits: upper,
             digits: upper,
+            feeds: letters,
+            numbered: delete,
         },
         Json {
             marks: Marks::Html,
+            mark_digits: lower,
             digits: lower,
+            feeds: letters,
+            numbered: delete,
         },
         Json {
             marks: Marks::Html,
+            mark_digits: upper,
             digits: upper,
+            feeds: letters,
+            numbered: delete,
         },
         Json {
             marks: Marks::SlashAndHtml,
+            mark_digits: lower,
             digits: lower,
+            feeds: letters,
+            numbered: delete,
         },
         Json {
             marks: Marks::SlashAndHtml,
+            mark_digits: upper,
             digits: upper,
+            feeds: letters,
+            numbered: delete,
+        },
+        Json {
+            marks: Marks::Kept,
+            mark_digits: upper,
+            digits: lower,
+            feeds: letters,
+            numbered: beyond,
+        },
+        Json {
+            marks: Marks::Slash,
+            mark_digits: upper,
+            digits: lower,
+            feeds: letters,
+            numbered: beyond,
+        },
+        Json {
+            marks: Marks::Markup,
+            mark_digits: upper,
+            digits: lower,
+            feeds: letters,
+            numbered: beyond,
+        },
+        Json {
+            marks: Marks::SlashAndMarkup,
+            mark_digits: upper,
+            digits: lower,
+            feeds: letters,
+            numbered: beyond,
+        },
+        Json {
+            marks: Marks::Html,
+            mark_digits: upper,
+            digits: lower,
+            feeds: letters,
+            numbered: beyond,
+        },
+        Json {
+            marks: Marks::SlashAndHtml,
+            mark_digits: upper,
+            digits: lower,
+            feeds: letters,
+            numbered: beyond,
+        },
+        Json {
+            marks: Marks::Kept,
+            mark_digits: upper,
+            digits: lower,
+            feeds: letters,
+            numbered: separators,
+        },
+        Json {
+            marks: Marks::Slash,
+            mark_digits: upper,
+            digits: lower,
+            feeds: letters,
+            numbered: separators,
+        },
+        Json {
+            marks: Marks::Markup,
+            mark_digits: upper,
+            digits: lower,
+            feeds: letters,
+            numbered: separators,
+        },
+        Json {
+            marks: Marks::SlashAndMarkup,
+            mark_digits: upper,
+            digits: lower,
+            feeds: letters,
+            numbered: separators,
+        },
+        Json {
+            marks: Marks::Html,
+            mark_digits: upper,
+            digits: lower,
+            feeds: letters,
+            numbered: separators,
+        },
+        Json {
+            marks: Marks::SlashAndHtml,
+            mark_digits: upper,
+            digits: lower,
+            feeds: letters,
+            numbered: separators,
+        },
+        Json {
+            marks: Marks::Markup,
+            mark_digits: lower,
+            digits: lower,
+            feeds: letters,
+            numbered: separators,
+        },
+        Json {
+            marks: Marks::Markup,
+            mark_digits: lower,
+            digits: lower,
+            feeds: numbers,
+            numbered: separators,
+        },
+        Json {
+            marks: Marks::Kept,
+            mark_digits: lower,
+            digits: lower,
+            feeds: numbers,
+            numbered: separators,
         },
     ]
 }
 
 /// The same encoders, where characters beyond ASCII stand as they are.
-fn spellings() -> [Spelling; 16]
+fn spellings() -> [Spelling; 31]
     ensures { result ≡ json_spellings }
 {
-    let [a, b, c, d, e, f, g, h, i, j, k, l, m, n, o, p] = encoders();
+    let [
+        a,
+        b,
+        c,
+        d,
+        e,
+        f,
+        g,
+        h,
+        i,
+        j,
+        k,
+        l,
+        m,
+        n,
+        o,
+        p,
+        q,
+        r,
+        s,
+        t,
+        u,
+        v,
+        w,
+        x,
+        y,
+        z,
+        aa,
+        bb,
+        cc,
+        dd,
+        ee,
+    ] = encoders();
     [
         Spelling::Json(a),
         Spelling::Json(b),
@@ -166,6 +390,21 @@ fn spellings() -> [Spelling; 16]
         Spelling::Json(n),
         Spelling::Json(o),
         Spelling::Json(p),
+        Spelling::Json(q),
+        Spelling::Json(r),
+        Spelling::Json(s),
+        Spelling::Json(t),
+        Spelling::Json(u),
+        Spelling::Json(v),
+        Spelling::Json(w),
+        Spelling::Json(x),
+        Spelling::Json(y),
+        Spelling::Json(z),
+        Spelling::Json(aa),
+        Spelling::Json(bb),
+        Spelling::Json(cc),
+        Spelling::Json(dd),
+        Spelling::Json(ee),
     ]
 }
 

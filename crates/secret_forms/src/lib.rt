@@ -17,12 +17,15 @@ mod listed;
 mod spelled_form;
 
 pub use base64_form::base64_forms;
-pub use bytewise::{Beyond, Digits, Json, Kept, Marks, Quotes, Quoting, Space, Spelling};
+pub use bytewise::{
+    Backslashed, Beyond, Digits, Feeds, Json, Kept, Letters, Literal, Marks, Numbered, Numbers,
+    Quotes, Quoting, Space, Spelling,
+};
 pub use error::FormError;
 pub use escape_form::url_forms;
 pub use form::{Form, forms, nested_forms};
 pub use hex_form::hex_forms;
-pub use joined_form::{Joining, shell_forms};
+pub use joined_form::{Joining, Radix, Separator, shell_forms};
 pub use json_form::json_forms;
 pub use lines_form::lines_forms;
 pub use spelled_form::{spelled_forms, xml_forms};

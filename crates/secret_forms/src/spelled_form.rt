@@ -5,10 +5,14 @@
 
 ghost use Rattle.std.specs.Prelude.{◌≡◌, ◌<◌, All, Err, IfErr, IfOk, length};
 ghost use Rattle.secret_forms.specs.Patterns.{ListsPatterns, pattern_bytes};
+ghost use Rattle.secret_forms.specs.Spelling as spec;
 ghost use Rattle.secret_forms.specs.Spelling.{HidesSpelled, shell_spellings, spelled_by, url_spellings, xml_spellings};
 ghost use Rattle.secret_forms.specs.declared.error.FormError.TheVariants.{TooShort};
 
-use crate::bytewise::{Beyond, Digits, Kept, Quotes, Quoting, Space, Spelling, add_spelled};
+use crate::bytewise::{
+    Backslashed, Beyond, Digits, Kept, Letters, Literal, Numbers, Quotes, Quoting, Space, Spelling,
+    add_spelled,
+};
 use crate::error::{FormError, SHORTEST};
 use std::alloc::Global;
 
@@ -33,9 +37,9 @@ pub fn spelled_forms(
     Ok(patterns)
 }
 
-/// The encoders of URLs: nine that leave some bytes, each with a space as any other byte and as `+`, five that write no `+` for a space,
+/// The encoders of URLs: ten that leave some bytes, each with a space as any other byte and as `+`, seven that write no `+` for a space,
 /// one that encodes each byte, and five more without `+`, with bytes above 127 encoded and as they are; with digits in both cases.
-pub(crate) fn url_encoders() -> [Spelling; 68]
+pub(crate) fn url_encoders() -> [Spelling; 76]
     ensures { result ≡ url_spellings }
 {
     let (encoded, plus) = (Space::Encoded, Space::Plus);
@@ -77,6 +81,10 @@ pub(crate) fn url_encoders() -> [Spelling; 68]
         Spelling::Url(Kept::Path, encoded, lower),
         Spelling::Url(Kept::Path, plus, upper),
         Spelling::Url(Kept::Path, plus, lower),
+        Spelling::Url(Kept::Alphanumeric, encoded, upper),
+        Spelling::Url(Kept::Alphanumeric, encoded, lower),
+        Spelling::Url(Kept::Alphanumeric, plus, upper),
+        Spelling::Url(Kept::Alphanumeric, plus, lower),
         Spelling::Url(Kept::User, encoded, upper),
         Spelling::Url(Kept::User, encoded, lower),
         Spelling::Url(Kept::GoUser, encoded, upper),
@@ -85,6 +93,10 @@ pub(crate) fn url_encoders() -> [Spelling; 68]
         Spelling::Url(Kept::GoSegment, encoded, lower),
         Spelling::Url(Kept::GoPath, encoded, upper),
         Spelling::Url(Kept::GoPath, encoded, lower),
+        Spelling::Url(Kept::GoFragment, encoded, upper),
+        Spelling::Url(Kept::GoFragment, encoded, lower),
+        Spelling::Url(Kept::Turned, encoded, upper),
+        Spelling::Url(Kept::Turned, encoded, lower),
         Spelling::Url(Kept::Escape, encoded, upper),
         Spelling::Url(Kept::Escape, encoded, lower),
         Spelling::Url(Kept::Nothing, encoded, upper),
@@ -142,10 +154,111 @@ pub fn xml_forms(alloc: Global, secret: &[u8]) -> Result<Vec<Vec<u8>>, FormError
     spelled_forms(alloc, secret, &xml_encoders())
 }
 
-/// The ways to quote a shell's word.
-pub(crate) fn shell_encoders() -> [Spelling; 12]
+/// The ways to write a string of a program: as Python, Go, coreutils in two ways, Apache, nginx and PHP do.
+fn literals() -> [Literal; 15]
+    ensures { result ≡ spec.literals }
+{
+    let lower = Numbers::Hexadecimal(Digits::Lower);
+    let upper = Numbers::Hexadecimal(Digits::Upper);
+    [
+        Literal {
+            backslashed: Backslashed::Alone,
+            letters: Letters::Three,
+            numbers: lower,
+            beyond: Beyond::Kept,
+        },
+        Literal {
+            backslashed: Backslashed::Alone,
+            letters: Letters::Three,
+            numbers: lower,
+            beyond: Beyond::Encoded,
+        },
+        Literal {
+            backslashed: Backslashed::Single,
+            letters: Letters::Three,
+            numbers: lower,
+            beyond: Beyond::Kept,
+        },
+        Literal {
+            backslashed: Backslashed::Single,
+            letters: Letters::Three,
+            numbers: lower,
+            beyond: Beyond::Encoded,
+        },
+        Literal {
+            backslashed: Backslashed::Double,
+            letters: Letters::Seven,
+            numbers: lower,
+            beyond: Beyond::Kept,
+        },
+        Literal {
+            backslashed: Backslashed::Double,
+            letters: Letters::Seven,
+            numbers: lower,
+            beyond: Beyond::Encoded,
+        },
+        Literal {
+            backslashed: Backslashed::Double,
+            letters: Letters::Seven,
+            numbers: Numbers::Octal,
+            beyond: Beyond::Kept,
+        },
+        Literal {
+            backslashed: Backslashed::Double,
+            letters: Letters::Seven,
+            numbers: Numbers::Octal,
+            beyond: Beyond::Encoded,
+        },
+        Literal {
+            backslashed: Backslashed::Space,
+            letters: Letters::Seven,
+            numbers: Numbers::Octal,
+            beyond: Beyond::Kept,
+        },
+        Literal {
+            backslashed: Backslashed::Space,
+            letters: Letters::Seven,
+            numbers: Numbers::Octal,
+            beyond: Beyond::Encoded,
+        },
+        Literal {
+            backslashed: Backslashed::Double,
+            letters: Letters::Five,
+            numbers: lower,
+            beyond: Beyond::Kept,
+        },
+        Literal {
+            backslashed: Backslashed::Double,
+            letters: Letters::Five,
+            numbers: lower,
+            beyond: Beyond::Encoded,
+        },
+        Literal {
+            backslashed: Backslashed::Nothing,
+            letters: Letters::Nothing,
+            numbers: upper,
+            beyond: Beyond::Kept,
+        },
+        Literal {
+            backslashed: Backslashed::Nothing,
+            letters: Letters::Nothing,
+            numbers: upper,
+            beyond: Beyond::Encoded,
+        },
+        Literal {
+            backslashed: Backslashed::Single,
+            letters: Letters::Nothing,
+            numbers: Numbers::Kept,
+            beyond: Beyond::Kept,
+        },
+    ]
+}
+
+/// The ways to quote a shell's word, and a string of a program.
+pub(crate) fn shell_encoders() -> [Spelling; 33]
     ensures { result ≡ shell_spellings }
 {
+    let [a, b, c, d, e, f, g, h, i, j, k, l, m, n, o] = literals();
     [
         Spelling::Shell(Quoting::Single),
         Spelling::Shell(Quoting::SingleByDouble),
@@ -159,5 +272,26 @@ pub(crate) fn shell_encoders() -> [Spelling; 12]
         Spelling::Shell(Quoting::Dollar),
         Spelling::Shell(Quoting::DollarAscii),
         Spelling::Shell(Quoting::Git),
+        Spelling::Shell(Quoting::DoubledSingle),
+        Spelling::Shell(Quoting::DoubledDouble),
+        Spelling::Shell(Quoting::Ruby),
+        Spelling::Shell(Quoting::Zsh(Beyond::Kept)),
+        Spelling::Shell(Quoting::Zsh(Beyond::Encoded)),
+        Spelling::Shell(Quoting::Fish),
+        Spelling::Literal(a),
+        Spelling::Literal(b),
+        Spelling::Literal(c),
+        Spelling::Literal(d),
+        Spelling::Literal(e),
+        Spelling::Literal(f),
+        Spelling::Literal(g),
+        Spelling::Literal(h),
+        Spelling::Literal(i),
+        Spelling::Literal(j),
+        Spelling::Literal(k),
+        Spelling::Literal(l),
+        Spelling::Literal(m),
+        Spelling::Literal(n),
+        Spelling::Literal(o),
     ]
 }

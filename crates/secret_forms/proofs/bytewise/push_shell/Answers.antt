@@ -50,3 +50,23 @@ returns-in-EveryCharacter c = search rules
 pub returns-in-RegexMarks : goal.returns-in-RegexMarks
 unfolding shell_byte
 returns-in-RegexMarks c = search rules
+
+pub returns-in-DoubledSingle : goal.returns-in-DoubledSingle
+unfolding shell_byte
+returns-in-DoubledSingle c = search rules
+
+pub returns-in-DoubledDouble : goal.returns-in-DoubledDouble
+unfolding shell_byte
+returns-in-DoubledDouble c = search rules
+
+pub returns-in-Ruby : goal.returns-in-Ruby
+unfolding shell_byte
+returns-in-Ruby c = search rules
+
+pub returns-in-Zsh : goal.returns-in-Zsh
+unfolding shell_byte
+returns-in-Zsh c = search rules
+
+pub returns-in-Fish : goal.returns-in-Fish
+unfolding shell_byte
+returns-in-Fish c = search rules

@@ -3,6 +3,10 @@ use Rattle.std.proofs.Common.{rules}
 use Rattle.secret_forms.specs.Spelling.{url_byte}
 use Rattle.secret_forms.proofs.bytewise.push_url.Goals as goal
 
+pub returns-then-is_turned : goal.returns-then-is_turned
+unfolding url_byte
+returns-then-is_turned c = search rules
+
 pub returns-then-is_unencoded : goal.returns-then-is_unencoded
 unfolding url_byte
 returns-then-is_unencoded c = search rules

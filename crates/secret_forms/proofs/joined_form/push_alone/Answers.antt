@@ -14,3 +14,7 @@ returns-in-Coreutils c = search rules
 pub returns-in-CoreutilsAscii : goal.returns-in-CoreutilsAscii
 unfolding alone_byte
 returns-in-CoreutilsAscii c = search rules
+
+pub returns-in-Numbers : goal.returns-in-Numbers
+unfolding alone_byte
+returns-in-Numbers c = search rules

@@ -7,9 +7,13 @@ pub returns-then-code-lt127 : goal.returns-then-code-lt127
 unfolding json_char
 returns-then-code-lt127 c = search rules
 
-pub returns-then-code-lt65536 : goal.returns-then-code-lt65536
+pub returns-then-is_numbered : goal.returns-then-is_numbered
 unfolding json_char
-returns-then-code-lt65536 c = search rules
+returns-then-is_numbered c = search rules
+
+pub returns-then-code-lt128 : goal.returns-then-code-lt128
+unfolding json_char
+returns-then-code-lt128 c = search rules
 
 pub returns : goal.returns
 unfolding json_char
