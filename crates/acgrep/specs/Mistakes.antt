@@ -141,13 +141,13 @@ IsFirstMistake arguments (Wrong wrong) = mistake_by arguments ≡ Some (wrong_pa
 IsFirstMistake arguments OutOfMemory = Unit {0}
 
 -- a line tells the first mistake of these arguments
-abbrev pub IsMistake : List (List ℕ) → List ℕ → Type 0
-IsMistake arguments line = (parts : List (List ℕ)) × (mistake_by arguments ≡ Some parts) × (line ≡ concat parts)
+abbrev pub IsMistakeLine : List (List ℕ) → List ℕ → Type 0
+IsMistakeLine arguments line = (parts : List (List ℕ)) × (mistake_by arguments ≡ Some parts) × (line ≡ concat parts)
 
 -- a line that a call with these arguments may write to standard error, by what they say: where they are wrong, their first mistake, or a
 -- message that names no file
 abbrev pub MayTellOf : Known → (left : Option (List ℕ)) → (arguments : List (List ℕ)) → Option Said → List ℕ → Type 0
-MayTellOf known left arguments None = λ line. IsMessage [] line ⊎ IsMistake arguments line
+MayTellOf known left arguments None = λ line. IsMessage [] line ⊎ IsMistakeLine arguments line
 MayTellOf known left arguments (Some given) = MaySaid known left (Some given)
 
 -- the line that memory ran out

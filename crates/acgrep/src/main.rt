@@ -82,7 +82,10 @@ const UNREAD: u8 = 141;
 fn main(rt: HostRuntime) -> ExitCode {
     let filled = fill_closed(&rt, &rt.stdin(), &rt.stdout(), &rt.stderr());
     let reason = Cell::new(None);
-    let mut errors = Errors::new(FromWrite::new(Quiet::new(Patient::new(rt.stderr(), &rt), &reason)), &reason);
+    let mut errors = Errors::new(
+        FromWrite::new(Quiet::new(Patient::new(rt.stderr(), &rt), &reason)),
+        &reason,
+    );
     if let Err(reason) = filled {
         tell_file(DEVICE.as_bytes(), Obstacle::Fault(reason), &mut errors);
         return ExitCode::from(2);

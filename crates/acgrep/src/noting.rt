@@ -20,11 +20,7 @@ pub struct Noting<'c, R> {
 
 impl<'c, R> Noting<'c, R> {
     /// Returns the reader over this one, which makes its notes in these two cells.
-    pub fn new(
-        reader: R,
-        reason: &'c Cell<Option<Reason>>,
-        ends: &'c Cell<usize>,
-    ) -> Noting<'c, R>
+    pub fn new(reader: R, reason: &'c Cell<Option<Reason>>, ends: &'c Cell<usize>) -> Noting<'c, R>
         ensures reader { result.reader ≡ reader }
     {
         Noting {

@@ -27,10 +27,10 @@ abbrev pub json_pair : Digits → ℕ → List ℕ
 json_pair digits above = json_unit digits (high_half above) ++ json_unit digits (low_half above)
 
 -- whether a character beyond the first 127 is written by its number
-abbrev pub is_numbered : Numbered → ℕ → Bool
-is_numbered Delete character = true
-is_numbered Beyond character = nat_lt 127 character
-is_numbered Separators character = (character == 8232) || (character == 8233)
+abbrev pub has_number : Numbered → ℕ → Bool
+has_number Delete character = true
+has_number Beyond character = nat_lt 127 character
+has_number Separators character = (character == 8232) || (character == 8233)
 
 -- such a character by its number
 unfoldable pub json_number : Digits → ℕ → List ℕ
@@ -40,7 +40,7 @@ json_number digits character = if nat_lt character 65536 then json_unit digits c
 unfoldable pub json_char : Json → ℕ → List ℕ
 json_char json character =
     if nat_lt character 127 then json_byte json character
-    else if is_numbered json.numbered character then json_number json.digits character
+    else if has_number json.numbered character then json_number json.digits character
     else if nat_lt character 128 then json_byte json character
     else encode_utf8 character
 

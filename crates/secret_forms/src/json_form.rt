@@ -27,8 +27,8 @@ fn push_pair(out: &mut Vec<u8>, digits: Digits, above: u32) -> Result<(), AllocE
 }
 
 /// Whether a character beyond the first 127 is written by its number.
-fn is_numbered(numbered: Numbered, code: u32) -> bool
-    ensures { result ≡ spec.is_numbered numbered code }
+fn has_number(numbered: Numbered, code: u32) -> bool
+    ensures { result ≡ spec.has_number numbered code }
 {
     match numbered {
         Numbered::Delete => true,
@@ -65,7 +65,7 @@ fn push_char(out: &mut Vec<u8>, json: Json, character: char) -> Result<(), Alloc
     if code < 127 {
         return push_json(out, json, code as u8);
     }
-    if is_numbered(json.numbered, code) {
+    if has_number(json.numbered, code) {
         return push_number(out, json.digits, code);
     }
     if code < 128 {

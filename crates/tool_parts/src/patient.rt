@@ -2,10 +2,9 @@
 
 ghost use Rattle.std.specs.Prelude.{None};
 
-use std::io;
 use std::io::{ErrorKind, Read, Write};
-use std::thread;
 use std::time::{Clock, Duration};
+use std::{io, thread};
 
 /// The longest wait between two attempts, in milliseconds.
 const LONGEST_WAIT: u64 = 50;

@@ -7,9 +7,9 @@ pub returns-then-code-lt127 : goal.returns-then-code-lt127
 unfolding json_char
 returns-then-code-lt127 c = search rules
 
-pub returns-then-is_numbered : goal.returns-then-is_numbered
+pub returns-then-has_number : goal.returns-then-has_number
 unfolding json_char
-returns-then-is_numbered c = search rules
+returns-then-has_number c = search rules
 
 pub returns-then-code-lt128 : goal.returns-then-code-lt128
 unfolding json_char
