@@ -39,6 +39,7 @@ UNPRINTABLE = "which characters beyond ASCII are printable depends on the system
 KNOWN = [
     ("bash (%q|@Q)|bash set -x|ls .* in C.UTF-8|zsh .*|go %q|python3 repr", "characters bytes", UNPRINTABLE),
     (r"zsh \(qqqq\)", "marks controls", "a backslash before `!` within `$'` and `'` is not listed"),
+    ("fish .*", "marks controls characters", "fish leaves `=` as it is, and the list does not"),
     ("ksh %q", "marks controls characters", "ksh begins its quotes within a word, and has brackets round a number before a hexadecimal digit"),
     ("python3 json in json", "marks controls characters", "a form of a form is found by its own name: json+json"),
 ]
