@@ -34,24 +34,21 @@ impl<'c, S, C: Clock> Patient<'c, S, C> {
     }
 }
 
-/// Whether a call failed only because the stream gives or takes nothing now.
-fn has_to_wait<T>(answer: &io::Result<T>) -> bool {
-    match answer {
-        Ok(_) => false,
-        Err(error) => error.kind() == ErrorKind::WouldBlock,
-    }
+/// Whether a call fails only because the stream gives or takes nothing now.
+fn has_to_wait(error: &io::Error) -> bool {
+    error.kind() == ErrorKind::WouldBlock
 }
 
 impl<R: Read, C: Clock> Read for Patient<'_, R, C> {
     ghost remaining = { λ patient. R.remaining patient.stream };
 
+    #[tactic(auto, using(crate::proofs::Waiting::keeps_on))]
     fn read(&mut self, buf: &mut [u8]) -> io::Result<usize> {
         for turn in 0..u64::MAX {
-            let answer = self.stream.read(buf);
-            if !has_to_wait(&answer) {
-                return answer;
+            match self.stream.read(buf) {
+                Err(error) if has_to_wait(&error) => self.wait(turn),
+                answer => return answer,
             }
-            self.wait(turn);
         }
         Err(io::Error::from(ErrorKind::WouldBlock))
     }
@@ -60,13 +57,13 @@ impl<R: Read, C: Clock> Read for Patient<'_, R, C> {
 impl<W: Write, C: Clock> Write for Patient<'_, W, C> {
     ghost contents = { λ patient. W.contents patient.stream };
 
+    #[tactic(auto, using(crate::proofs::Waiting::keeps_on))]
     fn write(&mut self, buf: &[u8]) -> io::Result<usize> {
         for turn in 0..u64::MAX {
-            let answer = self.stream.write(buf);
-            if !has_to_wait(&answer) {
-                return answer;
+            match self.stream.write(buf) {
+                Err(error) if has_to_wait(&error) => self.wait(turn),
+                answer => return answer,
             }
-            self.wait(turn);
         }
         Err(io::Error::from(ErrorKind::WouldBlock))
     }
