@@ -9,3 +9,4 @@ pub mod Tellings
 pub mod Lines
 pub mod Searched
 pub mod OptionNames
+pub mod Waiting

@@ -1,36 +1,52 @@
-//! Standard streams that another program has made non-blocking: a read or write that is not possible yet is tried again.
+//! A stream that waits where it gives or takes nothing now. Another program may have set it so for all that share it.
 
-ghost use Rattle.std.specs.Prelude.{None};
+ghost use Rattle.std.specs.Prelude.{◌≡◌};
 
 use std::io::{ErrorKind, Read, Write};
 use std::time::{Clock, Duration};
 use std::{io, thread};
 
-/// The longest wait between two attempts, in milliseconds.
-const LONGEST_WAIT: u64 = 50;
+/// How long is waited at first, in milliseconds, and how much longer each time after.
+const STEP: u64 = 1;
 
-/// A device that waits, in growing steps, while its stream is not ready.
+/// How long is waited at most, in milliseconds.
+const LONGEST: u64 = 50;
+
+/// A stream that waits where it gives or takes nothing now.
 #[derive(Drop)]
-pub struct Patient<'c, D, C> {
-    device: D,
+pub struct Patient<'c, S, C> {
+    stream: S,
     clock: &'c C,
 }
 
-impl<'c, D, C> Patient<'c, D, C> {
-    /// Returns the device over this one, which waits by this clock.
-    pub fn new(device: D, clock: &'c C) -> Patient<'c, D, C> {
-        Patient { device, clock }
+impl<'c, S, C: Clock> Patient<'c, S, C> {
+    /// The stream over this one, which waits by this clock.
+    pub fn new(stream: S, clock: &'c C) -> Patient<'c, S, C>
+        ensures stream { result.stream ≡ stream }
+    {
+        Patient { stream, clock }
+    }
+
+    /// Waits, the longer the more often that was done.
+    fn wait(&self, turn: u64) {
+        let wait = turn.saturating_add(STEP).min(LONGEST);
+        thread::sleep(self.clock, Duration::from_millis(wait));
     }
 }
 
-impl<R: Read, C: Clock> Read for Patient<'_, R, C> {
-    // No contract says what a stream of the process gives.
-    ghost remaining = { λ patient. None };
+/// Whether a call fails only because the stream gives or takes nothing now.
+fn has_to_wait(error: &io::Error) -> bool {
+    error.kind() == ErrorKind::WouldBlock
+}
 
+impl<R: Read, C: Clock> Read for Patient<'_, R, C> {
+    ghost remaining = { λ patient. R.remaining patient.stream };
+
+    #[tactic(auto, using(crate::proofs::Waiting::keeps_on))]
     fn read(&mut self, buf: &mut [u8]) -> io::Result<usize> {
         for turn in 0..u64::MAX {
-            match self.device.read(buf) {
-                Err(error) if is_unready(&error) => wait(self.clock, turn),
+            match self.stream.read(buf) {
+                Err(error) if has_to_wait(&error) => self.wait(turn),
                 answer => return answer,
             }
         }
@@ -39,13 +55,13 @@ impl<R: Read, C: Clock> Read for Patient<'_, R, C> {
 }
 
 impl<W: Write, C: Clock> Write for Patient<'_, W, C> {
-    // No contract says what the process did to a stream.
-    ghost contents = { λ patient. None };
+    ghost contents = { λ patient. W.contents patient.stream };
 
+    #[tactic(auto, using(crate::proofs::Waiting::keeps_on))]
     fn write(&mut self, buf: &[u8]) -> io::Result<usize> {
         for turn in 0..u64::MAX {
-            match self.device.write(buf) {
-                Err(error) if is_unready(&error) => wait(self.clock, turn),
+            match self.stream.write(buf) {
+                Err(error) if has_to_wait(&error) => self.wait(turn),
                 answer => return answer,
             }
         }
@@ -53,23 +69,6 @@ impl<W: Write, C: Clock> Write for Patient<'_, W, C> {
     }
 
     fn flush(&mut self) -> io::Result<()> {
-        for turn in 0..u64::MAX {
-            match self.device.flush() {
-                Err(error) if is_unready(&error) => wait(self.clock, turn),
-                answer => return answer,
-            }
-        }
-        Err(io::Error::from(ErrorKind::WouldBlock))
+        self.stream.flush()
     }
-}
-
-/// Returns whether a call failed only because its stream was not ready.
-fn is_unready(error: &io::Error) -> bool {
-    error.kind() == ErrorKind::WouldBlock
-}
-
-/// Waits before the next attempt: a millisecond more after each one, and at most `LONGEST_WAIT`.
-fn wait<C: Clock>(clock: &C, turn: u64) {
-    let milliseconds = turn.saturating_add(1).min(LONGEST_WAIT);
-    thread::sleep(clock, Duration::from_millis(milliseconds));
 }
