@@ -351,8 +351,8 @@ static void covers(void) {
 /* The patterns of a secret: each in its place, where there is no room, and each refusal. */
 static void forms(void) {
     const char *hex = "6b65792f2b6B65792F2B";
-    uint8_t room[2000];
-    size_t ends[100], len = 0, count = 0;
+    uint8_t room[8000];
+    size_t ends[400], len = 0, count = 0;
     memset(room, '-', sizeof room);
     memset(ends, 0, sizeof ends);
     HAS(cs_forms(BYTES("key/+"), CS_FORM_HEX, room, 19, ends, 2, &len, &count) == CS_NO_ROOM && len == 20 && count == 2);
@@ -366,13 +366,13 @@ static void forms(void) {
     HAS(!memcmp(room, "first linesecond line", 21) && ends[0] == 10 && ends[1] == 21);
     for (uint32_t bits = 1; bits < CS_FORMS_ALL; bits *= 2) {
         size_t one = 0, one_count = 0;
-        HAS(cs_forms(BYTES("a \"key\"/+<&>\n"), bits, room, sizeof room, ends, 100, &one, &one_count) == CS_DONE);
+        HAS(cs_forms(BYTES("a \"key\"/+<&>\n"), bits, room, sizeof room, ends, 400, &one, &one_count) == CS_DONE);
         HAS(one_count > 0 && ends[one_count - 1] == one);
     }
     /* The four characters that hold a bit of "key+" behind one byte, and the cover of that. */
     cs_searcher it = CS_SEARCHER_INIT;
-    cs_slice words[100], marks[100];
-    HAS(cs_forms(BYTES("key+"), CS_FORMS_ALL, room, sizeof room, ends, 100, &len, &count) == CS_DONE && len == ends[count - 1]);
+    cs_slice words[400], marks[400];
+    HAS(cs_forms(BYTES("key+"), CS_FORMS_ALL, room, sizeof room, ends, 400, &len, &count) == CS_DONE && len == ends[count - 1]);
     for (size_t at = 0, from = 0; at < count; from = ends[at++]) {
         words[at] = (cs_slice){ room + from, ends[at] - from };
         marks[at] = (cs_slice)SLICE("*");
@@ -381,10 +381,10 @@ static void forms(void) {
     HAS(cs_cover_all(&it, BYTES("YTprZXkr, key%2b"), marks, count, room, sizeof room, &len) == CS_DONE && len == 6 && !memcmp(room, "YT*, *", 6));
     cs_free(&it);
     len = 5, count = 6, ends[0] = 7, room[0] = '-';
-    HAS(cs_forms(BYTES("key"), CS_FORMS_ALL, room, sizeof room, ends, 100, &len, &count) == CS_TOO_SHORT);
-    HAS(cs_forms(NULL, 0, CS_FORMS_ALL, room, sizeof room, ends, 100, &len, &count) == CS_TOO_SHORT);
-    HAS(cs_forms(BYTES("key"), CS_FORMS_ALL + 1, room, sizeof room, ends, 100, &len, &count) == CS_NO_OPTION);
-    HAS(cs_forms(BYTES("key+"), UINT32_MAX, room, sizeof room, ends, 100, &len, &count) == CS_NO_OPTION);
+    HAS(cs_forms(BYTES("key"), CS_FORMS_ALL, room, sizeof room, ends, 400, &len, &count) == CS_TOO_SHORT);
+    HAS(cs_forms(NULL, 0, CS_FORMS_ALL, room, sizeof room, ends, 400, &len, &count) == CS_TOO_SHORT);
+    HAS(cs_forms(BYTES("key"), CS_FORMS_ALL + 1, room, sizeof room, ends, 400, &len, &count) == CS_NO_OPTION);
+    HAS(cs_forms(BYTES("key+"), UINT32_MAX, room, sizeof room, ends, 400, &len, &count) == CS_NO_OPTION);
     HAS(len == 5 && count == 6 && ends[0] == 7 && room[0] == '-');
 }
 
