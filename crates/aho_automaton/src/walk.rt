@@ -101,6 +101,11 @@ pub trait Walk {
         ensures prefilter { option_map (λ held. held.now) result
             ≡ if Self.Of.skips_streams (of self.now) then Self.Of.prefilter (of self.now) else None };
 
+    /// The number of patterns that the state lists.
+    fn match_len(&self, sid: StateID) -> usize
+        requires valid { Self.Of.valid (of self.now) sid }
+        ensures len { result ≡ length (Self.Of.list (of self.now) sid) };
+
     /// A pattern that the state lists, by its place in the list.
     fn match_pattern(&self, sid: StateID, index: usize) -> PatternID
         requires valid { Self.Of.valid (of self.now) sid }
@@ -193,6 +198,10 @@ impl<'a, A: Automaton> Walk for Counted<'a, A> {
 
     fn stream_prefilter(&self) -> Option<&Prefilter> {
         self.automaton.stream_prefilter()
+    }
+
+    fn match_len(&self, sid: StateID) -> usize {
+        self.automaton.match_len(sid)
     }
 
     fn match_pattern(&self, sid: StateID, index: usize) -> PatternID {

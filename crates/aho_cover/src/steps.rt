@@ -24,7 +24,6 @@ use aho_devices::device::Sink;
 #[inline(always)]
 fn walk_once<A: Automaton, W: Sink, P: Pieces>(
     walk: &mut Counted<'_, A>,
-    automaton: &A,
     progress: &mut CoverProgress,
     sink: &mut W,
     pieces: &mut P,
@@ -34,7 +33,6 @@ fn walk_once<A: Automaton, W: Sink, P: Pieces>(
 ) -> Result<usize, StreamError>
     requires sound { IsSoundCover progress.old at }
     requires further { at < walk_end progress.old }
-    requires own { walk.old.automaton.now ≡ automaton.now }
     requires can { CanWalk A.Automaton walk.old (P.rule pieces.old) (P.holds pieces.old) progress.old at }
     ensures sound { IfOk result (IsSoundCover progress.new) }
     ensures can { IfOk result (CanWalk A.Automaton walk.new (P.rule pieces.new) (P.holds pieces.new) progress.new) }
@@ -56,7 +54,7 @@ fn walk_once<A: Automaton, W: Sink, P: Pieces>(
     let reached = walk_to_match(walk, bytes, at, progress.sid, may_wait);
     progress.sid = reached.sid;
     let next = at + reached.count;
-    let Some(m) = longest_counted(automaton, progress, reached, next) else {
+    let Some(m) = longest_counted(walk, progress, reached, next) else {
         return Ok(next);
     };
     progress.join(sink, pieces, counts, m)?;
@@ -68,7 +66,6 @@ fn walk_once<A: Automaton, W: Sink, P: Pieces>(
 #[inline(always)]
 fn walk_further<A: Automaton, W: Sink, P: Pieces>(
     walk: &mut Counted<'_, A>,
-    automaton: &A,
     progress: &mut CoverProgress,
     sink: &mut W,
     pieces: &mut P,
@@ -78,7 +75,6 @@ fn walk_further<A: Automaton, W: Sink, P: Pieces>(
 ) -> Result<usize, StreamError>
     requires sound { IsSoundCover progress.old at }
     requires further { at < walk_end progress.old }
-    requires own { walk.old.automaton.now ≡ automaton.now }
     requires can { CanWalk A.Automaton walk.old (P.rule pieces.old) (P.holds pieces.old) progress.old at }
     ensures sound { IfOk result (IsSoundCover progress.new) }
     ensures can { IfOk result (CanWalk A.Automaton walk.new (P.rule pieces.new) (P.holds pieces.new) progress.new) }
@@ -98,7 +94,7 @@ fn walk_further<A: Automaton, W: Sink, P: Pieces>(
 {
     let next = skip(walk, progress, patience, at);
     let waits = may_wait(walk, progress, *patience, next);
-    walk_once(walk, automaton, progress, sink, pieces, counts, next, waits)
+    walk_once(walk, progress, sink, pieces, counts, next, waits)
 }
 
 /// What ends behind the bytes that were walked begins among the last of them, as far as the state reaches back.
@@ -151,7 +147,6 @@ fn write_walked<A: Automaton, W: Sink, P: Pieces>(
 /// Walks over all that may be walked and was not, and writes all that is settled then.
 pub(crate) fn walk_read<A: Automaton, W: Sink, P: Pieces>(
     walk: &mut Counted<'_, A>,
-    automaton: &A,
     progress: &mut CoverProgress,
     sink: &mut W,
     pieces: &mut P,
@@ -160,7 +155,6 @@ pub(crate) fn walk_read<A: Automaton, W: Sink, P: Pieces>(
 ) -> Result<(), StreamError>
     requires sound { IsSoundCover progress.old from }
     requires within { from ≤ walk_end progress.old }
-    requires own { walk.old.automaton.now ≡ automaton.now }
     requires can { CanWalk A.Automaton walk.old (P.rule pieces.old) (P.holds pieces.old) progress.old from }
     ensures sound { OnOk result (IsSoundCover progress.new (walk_end progress.new)) }
     ensures near { OnOk result (MayRoll progress.new) }
@@ -185,7 +179,6 @@ pub(crate) fn walk_read<A: Automaton, W: Sink, P: Pieces>(
     while at < end {
         at = walk_further(
             walk,
-            automaton,
             progress,
             sink,
             pieces,
@@ -201,7 +194,6 @@ pub(crate) fn walk_read<A: Automaton, W: Sink, P: Pieces>(
 /// it writes all that is left.
 pub(crate) fn walk_last<A: Automaton, W: Sink, P: Pieces>(
     walk: &mut Counted<'_, A>,
-    automaton: &A,
     progress: &mut CoverProgress,
     sink: &mut W,
     pieces: &mut P,
@@ -209,7 +201,6 @@ pub(crate) fn walk_last<A: Automaton, W: Sink, P: Pieces>(
     at: usize,
 ) -> Result<(), StreamError>
     requires sound { IsSoundCover progress.old at }
-    requires own { walk.old.automaton.now ≡ automaton.now }
     requires can { CanWalk A.Automaton walk.old (P.rule pieces.old) (P.holds pieces.old) progress.old at }
     requires some { CoversSomeToEnd A.Automaton walk.old.automaton.now
         (P.rule pieces.old) (P.holds pieces.old) progress.old at }
@@ -225,6 +216,6 @@ pub(crate) fn walk_last<A: Automaton, W: Sink, P: Pieces>(
     ensures tells { TellsWrites W.Sink sink.old sink.new result }
 {
     progress.see_end();
-    walk_read(walk, automaton, progress, sink, pieces, counts, at)?;
+    walk_read(walk, progress, sink, pieces, counts, at)?;
     progress.finish(sink, pieces, counts)
 }

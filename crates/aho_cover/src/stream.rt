@@ -43,7 +43,6 @@ use std::alloc::Global;
 /// they are at most two for each byte that the source gave.
 fn cover_from<A: Automaton, R: Source, W: Sink, P: Pieces>(
     walk: &mut Counted<'_, A>,
-    automaton: &A,
     progress: &mut CoverProgress,
     source: &mut R,
     sink: &mut W,
@@ -51,7 +50,6 @@ fn cover_from<A: Automaton, R: Source, W: Sink, P: Pieces>(
     counts: &mut [u64],
 ) -> Result<(), StreamError>
     requires some { (p : Patterns) × A.is_of walk.old.automaton.now p }
-    requires own { walk.old.automaton.now ≡ automaton.now }
     requires unbegun { IsUnbegunWith progress.old.words A.Automaton walk.old.automaton.now progress.old }
     requires unwalked { walk.old.work ≡ 0 }
     requires unfed { P.holds pieces.old [] }
@@ -73,9 +71,9 @@ fn cover_from<A: Automaton, R: Source, W: Sink, P: Pieces>(
         progress.feed_first(pieces);
         let from = progress.walk_end();
         if refill(progress, source, &*sink)? {
-            return walk_last(walk, automaton, progress, sink, pieces, counts, from);
+            return walk_last(walk, progress, sink, pieces, counts, from);
         }
-        walk_read(walk, automaton, progress, sink, pieces, counts, from)?;
+        walk_read(walk, progress, sink, pieces, counts, from)?;
     }
 }
 
@@ -217,10 +215,9 @@ pub fn cover_with<A: Automaton, R: Source, W: Sink, P: Pieces>(
 {
     pieces.begin();
     let (begin, words) = (start.progress.sid, start.progress.words);
-    let automaton = start.automaton;
-    let mut walk = Counted::new(automaton);
+    let mut walk = Counted::new(start.automaton);
     let progress = &mut start.progress;
-    let covered = cover_from(&mut walk, automaton, progress, source, sink, pieces, counts);
+    let covered = cover_from(&mut walk, progress, source, sink, pieces, counts);
     start.progress.begin_anew(begin, words);
     covered
 }

@@ -10,6 +10,7 @@ ghost use Rattle.aho_cover.specs.Words.{counted_of, first_listed, is_word_part, 
 use crate::progress::CoverProgress;
 use crate::walk::Reached;
 use aho_automaton::automaton::Automaton;
+use aho_automaton::walk::{Counted, Walk};
 use aho_core::search::{Match, Span, StateID};
 
 /// Whether a byte is a letter of ASCII, a digit or `_`.
@@ -51,24 +52,24 @@ fn none_behind(progress: &CoverProgress, end: usize) -> bool
 /// The longest word that ends at a place behind which no such byte stands, of the patterns that a state lists there; of equally long
 /// ones the first by number.
 fn longest_word<A: Automaton>(
-    automaton: &A,
+    walk: &Counted<'_, A>,
     progress: &CoverProgress,
     sid: StateID,
     end: usize,
 ) -> Option<Match>
-    requires valid { A.valid automaton.now sid }
-    requires fits { Fits (A.lengths automaton.now) end (A.list automaton.now sid) }
+    requires valid { A.valid walk.now.automaton.now sid }
+    requires fits { Fits (A.lengths walk.now.automaton.now) end (A.list walk.now.automaton.now sid) }
     requires read { end ≤ progress.now.read }
     requires held { progress.now.read
-        ≤ (end - (longest (A.lengths automaton.now) + 1)) + length progress.now.buffer.bytes }
+        ≤ (end - (longest (A.lengths walk.now.automaton.now) + 1)) + length progress.now.buffer.bytes }
     requires whole { length progress.now.buffer.bytes ≤ progress.now.read }
     ensures first { (text : List ℕ) → IsGiven progress.now text → none_behind text end ≡ true
         → result ≡ first_listed (counted_of true text
-        (map (ended (A.lengths automaton.now) end) (A.list automaton.now sid))) }
+        (map (ended (A.lengths walk.now.automaton.now) end) (A.list walk.now.automaton.now sid))) }
 {
-    for index in 0..automaton.match_len(sid) {
-        let pattern = automaton.match_pattern(sid, index);
-        let start = end - automaton.pattern_len(pattern);
+    for index in 0..walk.match_len(sid) {
+        let pattern = walk.match_pattern(sid, index);
+        let start = end - walk.pattern_len(pattern);
         if none_before(progress, start) {
             return Some(Match::new(pattern, Span { start, end }));
         }
@@ -79,23 +80,23 @@ fn longest_word<A: Automaton>(
 /// Of the matches that end where a walk came to, the longest that counts, and of equally long ones the first by number.
 #[inline(always)]
 pub(crate) fn longest_counted<A: Automaton>(
-    automaton: &A,
+    walk: &Counted<'_, A>,
     progress: &CoverProgress,
     reached: Reached,
     end: usize,
 ) -> Option<Match>
-    requires valid { A.valid automaton.now reached.sid }
-    requires fits { Fits (A.lengths automaton.now) end (A.list automaton.now reached.sid) }
+    requires valid { A.valid walk.now.automaton.now reached.sid }
+    requires fits { Fits (A.lengths walk.now.automaton.now) end (A.list walk.now.automaton.now reached.sid) }
     requires told { reached.found
-        ≡ told (A.lengths automaton.now) No 0 end (A.list automaton.now reached.sid) }
+        ≡ told (A.lengths walk.now.automaton.now) No 0 end (A.list walk.now.automaton.now reached.sid) }
     requires some { 0 < end }
     requires known { end ≤ walk_end progress.now }
     requires held { progress.now.words ≡ true → progress.now.read
-        ≤ (end - (longest (A.lengths automaton.now) + 1)) + length progress.now.buffer.bytes }
+        ≤ (end - (longest (A.lengths walk.now.automaton.now) + 1)) + length progress.now.buffer.bytes }
     requires whole { length progress.now.buffer.bytes ≤ progress.now.read }
     ensures first { (text : List ℕ) → IsGiven progress.now text
         → result ≡ first_listed (counted_of progress.now.words text
-        (map (ended (A.lengths automaton.now) end) (A.list automaton.now reached.sid))) }
+        (map (ended (A.lengths walk.now.automaton.now) end) (A.list walk.now.automaton.now reached.sid))) }
 {
     if !progress.words {
         return reached.found;
@@ -106,5 +107,5 @@ pub(crate) fn longest_counted<A: Automaton>(
     if !none_behind(progress, end) {
         return None;
     }
-    longest_word(automaton, progress, reached.sid, end)
+    longest_word(walk, progress, reached.sid, end)
 }

@@ -8,10 +8,10 @@ use Rattle.aho_cover.proofs.words.longest_word.Goals as goal
 
 -- the pattern is there, and no longer than what was read
 fits : (g : Over) (c : After-match_pattern-pattern g)
-    → (c.match_pattern-pattern.result < length (g.A.Automaton.lengths c.args.automaton.now)) × (slice_index (g.A.Automaton.lengths c.args.automaton.now) c.match_pattern-pattern.result ≤ c.args.end)
+    → (c.match_pattern-pattern.result < length (g.A.Automaton.lengths c.args.walk.now.automaton.now)) × (slice_index (g.A.Automaton.lengths c.args.walk.now.automaton.now) c.match_pattern-pattern.result ≤ c.args.end)
 fits g c =
     let a = g.A.Automaton in
-    let automaton = c.args.automaton.now in
+    let automaton = c.args.walk.now.automaton.now in
     all-at (λ (k : ℕ). (k < length (a.lengths automaton)) × (slice_index (a.lengths automaton) k ≤ c.args.end)) (a.list automaton c.args.sid) c.loop-index.index c.match_pattern-pattern.result c.requires.fits c.match_pattern-pattern.ensures.pattern
 
 pub loop-index-init : goal.loop-index-init
@@ -26,13 +26,13 @@ overflow_sub-start g c = omega (arith, c.pattern_len.ensures.len, (fits g (goal.
 pub none_before-requires-clause-held : goal.none_before-requires-clause-held
 none_before-requires-clause-held g c some =
     let d = (goal.at.none_before-requires-clause-held g c).After-match_pattern-pattern in
-    omega (arith, some, c.requires.held, c.pattern_len.ensures.len, longest-most (g.A.Automaton.lengths c.args.automaton.now) c.match_pattern-pattern.result (fits g d).0)
+    omega (arith, some, c.requires.held, c.pattern_len.ensures.len, longest-most (g.A.Automaton.lengths c.args.walk.now.automaton.now) c.match_pattern-pattern.result (fits g d).0)
 
 pub returns-then-none_before : goal.returns-then-none_before
 returns-then-none_before g c = record {
   first = λ text given behind.
       let a = g.A.Automaton in
-      let automaton = c.args.automaton.now in
+      let automaton = c.args.walk.now.automaton.now in
       let list = a.list automaton c.args.sid in
       let start : c.args.end - c.pattern_len.result ≡ c.args.end - slice_index (a.lengths automaton) c.match_pattern-pattern.result = ap (λ (n : ℕ). c.args.end - n) c.pattern_len.ensures.len in
       let before = rw start at (sym (c.none_before.ensures.none text given) ∙ c.if-none_before.true) in
@@ -43,7 +43,7 @@ returns-then-none_before g c = record {
 pub loop-index-preserved : goal.loop-index-preserved
 loop-index-preserved g c text given behind =
     let a = g.A.Automaton in
-    let automaton = c.args.automaton.now in
+    let automaton = c.args.walk.now.automaton.now in
     let list = a.list automaton c.args.sid in
     let start : c.args.end - c.pattern_len.result ≡ c.args.end - slice_index (a.lengths automaton) c.match_pattern-pattern.result = ap (λ (n : ℕ). c.args.end - n) c.pattern_len.ensures.len in
     let before = rw start at (sym (c.none_before.ensures.none text given) ∙ c.if-none_before.false) in
@@ -53,7 +53,7 @@ pub returns : goal.returns
 returns g c = record {
   first = λ text given behind.
       let a = g.A.Automaton in
-      let automaton = c.args.automaton.now in
+      let automaton = c.args.walk.now.automaton.now in
       let list = a.list automaton c.args.sid in
       sym (no-word text (a.lengths automaton) c.args.end list c.loop-index.index (omega (arith, c.match_len-index-end.ensures.len, c.loop-index-test.false))) ∙ c.loop-index.invariant text given behind;
 }

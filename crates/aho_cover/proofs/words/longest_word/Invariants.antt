@@ -7,6 +7,6 @@ use Rattle.aho_cover.proofs.words.longest_word.Given as goal
 
 abbrev pub invariant-loop-index : goal.invariant-loop-index
 invariant-loop-index g l =
-    let lengths = g.A.Automaton.lengths l.automaton in
-    let list = g.A.Automaton.list l.automaton l.sid in
+    let lengths = g.A.Automaton.lengths l.walk.automaton.now in
+    let list = g.A.Automaton.list l.walk.automaton.now l.sid in
     (text : List ℕ) → IsGiven l.progress text → none_behind text l.end ≡ true → first_word text lengths l.end (drop l.index list) ≡ first_word text lengths l.end list
